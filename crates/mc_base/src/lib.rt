@@ -1,0 +1,17 @@
+//! What every crate of mcol speaks of: lengths, lists and texts, refusals, and the traits of the outside.
+//!
+//! It stands on no other crate of the repository. It promises that contracts see a `List` as its items and a `Text` as
+//! its bytes, and that reading and writing answer a fault only where a count of faults rose.
+#![tactic(auto)]
+
+mod level;
+mod list;
+mod refusal;
+mod text;
+mod units;
+
+pub use level::Level;
+pub use list::List;
+pub use refusal::{ConstructName, Found, Input, LimitName, NoMemory, Refusal, Rule};
+pub use text::Text;
+pub use units::{Rect, Units};
