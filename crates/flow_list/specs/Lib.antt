@@ -1,3 +1,5 @@
 pub mod Counts
 pub mod Flows
+pub mod Plain
+pub mod Reading
 pub mod Soundness

@@ -6,6 +6,7 @@
 
 mod data;
 mod flows;
+mod plain;
 mod tally;
 
 pub use data::{
