@@ -7,7 +7,7 @@ use Rattle.std.proofs.lemmas.List.Sums.{prefix_len_passes, prefix_len-le-length}
 use Rattle.std.proofs.lemmas.Bool.Decides.{nat_tests}
 use Rattle.std.proofs.lemmas.Str.{digit_value_digit}
 
-in_range : (c : ℕ) → is_ascii_digit c ≡ true → (48 ≤ c) × (c ≤ 57)
+pub in_range : (c : ℕ) → is_ascii_digit c ≡ true → (48 ≤ c) × (c ≤ 57)
 in_range c e = grind (arith, nat_tests)
 
 pub digit_of : (ds : List ℕ) (i : ℕ) → AllPass is_ascii_digit ds → i < length ds → digit_value (get_or ds i 0) + 48 ≡ get_or ds i 0
