@@ -2,3 +2,4 @@ pub mod Digits
 pub mod Fields
 pub mod PiecesLoop
 pub mod PlainLaws
+pub mod PlainSound

@@ -1,6 +1,6 @@
 -- Reading pieces one after the other, as a loop does.
-use Rattle.std.proofs.Common.{◌≡◌, ℕ, zero, suc, ◌-◌, ◌+◌, ◌≤◌, ◌<◌, List, [], ◌∷◌, ◌++◌, Option, Some, None, refl, sym, ap, ◌∙◌, append_assoc, arith}
-use Rattle.flow_list.specs.Reading.{◌>>=◌, piece_at, more_pieces, with_first, heights_at}
+use Rattle.std.proofs.Common.{◌≡◌, ℕ, suc, ◌-◌, ◌+◌, ◌≤◌, ◌<◌, List, [], ◌∷◌, ◌++◌, Option, Some, None, refl, sym, ap, ◌∙◌, append_assoc, arith}
+use Rattle.flow_list.specs.Reading.{◌>>=◌, piece_at, with_first, heights_at}
 
 -- what was read before, and what is still read
 abbrev pub with_front : List ℕ → Option (List ℕ) → Option (List ℕ)

@@ -1,10 +1,10 @@
 -- The two laws of plain files: what is read is spelled so, and what is spelled so is read.
-use Rattle.std.proofs.Common.{◌≡◌, ℕ, zero, suc, ◌+◌, ◌^◌, ◌<◌, ◌≤◌, Bool, true, false, cond, eqb, ltb, leb, List, [], ◌∷◌, ◌++◌, length, get_or, take, drop, Option, Some, None, refl, sym, ap, subst, ◌∙◌, append_assoc, arith, All}
-use Rattle.std.specs.Prelude.{IfSome}
+use Rattle.std.proofs.Common.{◌≡◌, ℕ, zero, suc, ◌^◌, ◌<◌, ◌≤◌, Bool, true, false, cond, eqb, ltb, List, [], ◌∷◌, ◌++◌, length, get_or, Option, Some, None, refl, sym, ap, subst, ◌∙◌, arith}
+use Rattle.std.specs.Prelude.{IfSome, IfOk, Result, Ok, Err}
 use Rattle.std.specs.Char.{is_ascii_digit}
 use Rattle.std.specs.Fmt.{decimal}
-use Rattle.std.specs.List.{prefix_len, concat, AllByRecursion}
-use Rattle.std.proofs.lemmas.Bool.Decides.{Decides-eqb, nat_tests}
+use Rattle.std.specs.List.{prefix_len, AllByRecursion}
+use Rattle.std.proofs.lemmas.Bool.Decides.{nat_tests}
 use Rattle.std.proofs.lemmas.Fmt.{decimal_nonempty, digits_decimal}
 use Rattle.std.proofs.lemmas.List.{append-nil}
 use Rattle.std.proofs.lemmas.List.Elements.{All-from_recursion, recursion_from_All}
@@ -12,7 +12,7 @@ use Rattle.std.proofs.lemmas.Slice.Eq.{bytes_eq-Decides}
 use Rattle.flow_list.specs.declared.plain.Header.{Header}
 use Rattle.flow_list.specs.declared.plain.PlainFile.{PlainFile}
 use Rattle.flow_list.specs.Plain.{IsPlainHeader, IsPlain, first_line, row_word, space, unlimited, balance_end, atom_word, line_end, break_line, end_line, available_text, header_text, pieces_text, spelling}
-use Rattle.flow_list.specs.Reading.{◌>>=◌, after, number_at, limited, unlimited_or, available_at, some_column, header_at, is_row_end, next_piece, piece_at, with_first, more_pieces, heights_at, pieces_at, plain_at}
+use Rattle.flow_list.specs.Reading.{◌>>=◌, after, number_at, limited, unlimited_or, available_at, some_column, header_at, is_row_end, next_piece, piece_at, more_pieces, heights_at, pieces_at, plain_at}
 use Rattle.flow_list.proofs.Fields.{step, some_is, after_takes, after_again, own, number_takes, number_again, chain, concat_then}
 
 -- ---- no word that follows a number begins with a digit
@@ -116,7 +116,7 @@ header_takes bytes x e =
     let n_text : r2 ≡ decimal some.0 ++ some.1 = tn.0 ∙ ap (λ (p : ℕ × List ℕ). decimal p.0 ++ p.1) column.0 in
     let n_is : n.0 ≡ some.0 = ap (λ (p : ℕ × List ℕ). p.0) column.0 in
     let whole = joined first_line row_word (decimal some.0) space (decimal w.0) space (decimal s.0) space (available_text a.0) balance_end rest r1 r2 some.1 r4 w.1 r6 s.1 r8 a.1 bytes
-        (after_takes first_line bytes r1 is1) (after_takes row_word r1 r2 is2) n_text (after_takes space some.1 r4 is5) tw.0 (after_takes space w.1 r6 is7) ts.0 (after_takes space s.1 r8 is9) ta.0 (after_takes balance_end a.1 rest is11) in
+    (after_takes first_line bytes r1 is1) (after_takes row_word r1 r2 is2) n_text (after_takes space some.1 r4 is5) tw.0 (after_takes space w.1 r6 is7) ts.0 (after_takes space s.1 r8 is9) ta.0 (after_takes balance_end a.1 rest is11) in
     let head : Header = record { n = some.0; w = w.0; step = s.0; available = a.0 } in
     let text : bytes ≡ header_text head ++ rest = whole ∙ sym (concat_then (header_words head) rest) in
     subst (HasHeader bytes) (some_is _ _ h11) (text, record { some_column = omega arith; column_limit = omega arith; w_limit = tw.1; step_limit = ts.1; available_limit = ta.1 })
@@ -277,3 +277,13 @@ pub plain_again : (p : PlainFile) → IsPlain p → plain_at (spelling p) ≡ So
 unfolding plain_at
 plain_again p fits =
     rw (header_again p.header (pieces_text p.heights) fits.header, pieces_again p.heights fits.piece_limit (recursion_from_All _ p.heights fits.height_limit)) refl
+
+-- the same of what a call answers
+pub file_is : {E : Type 0} (bytes : List ℕ) (read : Result (Option PlainFile) E) → IfOk read (λ found. found ≡ plain_at bytes) → IfOk read (λ found. IfSome found (λ p. IsPlain p × (bytes ≡ spelling p)))
+file_is bytes (Ok None) e = tt
+file_is bytes (Ok (Some p)) e = plain_takes bytes p (sym e)
+file_is bytes (Err x) e = tt
+
+pub file_again : {E : Type 0} (bytes : List ℕ) (read : Result (Option PlainFile) E) → IfOk read (λ found. found ≡ plain_at bytes) → IfOk read (λ found. (p : PlainFile) → IsPlain p → bytes ≡ spelling p → found ≡ Some p)
+file_again bytes (Ok found) e = λ p fits text. e ∙ ap plain_at text ∙ plain_again p fits
+file_again bytes (Err x) e = tt

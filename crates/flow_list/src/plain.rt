@@ -4,6 +4,8 @@ ghost use Rattle.std.specs.Prelude.{◌≡◌, ◌+◌, ◌^◌, ◌<◌, ◌≤
 ghost use Rattle.std.specs.Char.{is_ascii_digit};
 ghost use Rattle.std.specs.List.{prefix_len, AllPass};
 ghost use Rattle.std.specs.Str.Parse.{digits_value};
+ghost use Rattle.flow_list.specs.declared.plain.PlainFile.{PlainFile};
+ghost use Rattle.flow_list.specs.Plain.{IsPlain, spelling};
 ghost use Rattle.flow_list.specs.Reading as reading;
 ghost use Rattle.flow_list.specs.Reading.{is_numeral, after, number_at, available_at, header_at, piece_at, heights_at, plain_at};
 
@@ -183,7 +185,7 @@ fn heights(alloc: Global, bytes: &[u8]) -> Result<Option<List<Units>>, NoMemory>
 
 /// What a plain file says, and None where the text isn't one.
 #[tactic(auto, unfolding(crate::specs::Reading::plain_at))]
-pub fn plain_file(alloc: Global, text: &[u8]) -> Result<Option<PlainFile>, NoMemory>
+fn parsed(alloc: Global, text: &[u8]) -> Result<Option<PlainFile>, NoMemory>
     ensures { IfOk result (λ found. found ≡ plain_at text.now) }
 {
     let Some((header, rest)) = first_lines(text) else {
@@ -199,4 +201,12 @@ pub fn plain_file(alloc: Global, text: &[u8]) -> Result<Option<PlainFile>, NoMem
         Some(heights) => Ok(Some(PlainFile { header, heights })),
         None => Ok(None),
     }
+}
+
+/// What a plain file says, and None where the text isn't one.
+pub fn plain_file(alloc: Global, text: &[u8]) -> Result<Option<PlainFile>, NoMemory>
+    ensures found { IfOk result (λ found. IfSome found (λ p. IsPlain p × (text.now ≡ spelling p))) }
+    ensures only { IfOk result (λ found. (p : PlainFile) → IsPlain p → text.now ≡ spelling p → found ≡ Some p) }
+{
+    parsed(alloc, text)
 }

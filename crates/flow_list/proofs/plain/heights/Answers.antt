@@ -1,4 +1,4 @@
-use Rattle.std.proofs.Common.{◌≡◌, ◌+◌, ◌∙◌, Some, None, sym, refl}
+use Rattle.std.proofs.Common.{◌≡◌, ◌∙◌, Some, None, sym, refl}
 use Rattle.flow_list.specs.Reading.{piece_at, heights_at}
 use Rattle.flow_list.proofs.PiecesLoop.{goes_on, is_done, is_refused, is_long}
 use Rattle.flow_list.proofs.plain.heights.Goals as goal

@@ -1,6 +1,5 @@
-use Rattle.std.proofs.Common.{◌≡◌, ◌≤◌, length, arith}
+use Rattle.std.proofs.Common.{arith}
 use Rattle.std.specs.Char.{is_ascii_digit}
-use Rattle.std.specs.List.{AllPass}
 use Rattle.std.proofs.lemmas.List.Sums.{prefix_len-le-length}
 use Rattle.flow_list.proofs.Digits.{digits_pass}
 use Rattle.flow_list.proofs.plain.number.Goals as goal
