@@ -3,3 +3,4 @@ pub mod Fields
 pub mod PiecesLoop
 pub mod PlainLaws
 pub mod PlainSound
+pub mod SoundExamples
