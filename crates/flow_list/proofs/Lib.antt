@@ -1,3 +1,7 @@
+pub mod Fitting
+pub mod LeastHeight
+pub mod StripBounds
+pub mod Walk
 mod Worked
 mod WorkedCloned
 mod WorkedNested
