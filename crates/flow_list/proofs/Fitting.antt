@@ -1,15 +1,13 @@
 -- A height that fits exists: at the whole reach of a flow only forced breaks remain. So the size is the least height that
 -- fits.
-use Rattle.std.proofs.Common.{◌≡◌, ℕ, zero, suc, ◌+◌, ◌-◌, ◌<◌, ◌≤◌, Bool, true, false, cond, not, ◌&&◌, ◌||◌, List, [], ◌∷◌, ◌++◌, length, take, drop, get_or, Option, Some, None, refl, sym, subst, ◌∙◌, ap, arith, sum_by, add-one, zero-add, ◌⊎◌, inl, inr}
-use Rattle.std.specs.Prelude.{fold, filter, nat_le, nat_lt, count_by, ◌==◌}
-use Rattle.std.specs.List.{list_any, flat_map}
+use Rattle.std.proofs.Common.{◌≡◌, ℕ, zero, suc, ◌+◌, ◌-◌, ◌<◌, ◌≤◌, Bool, true, false, cond, not, ◌||◌, List, [], ◌∷◌, ◌++◌, length, take, drop, get_or, None, refl, sym, ◌∙◌, ap, arith, sum_by, add-one, ◌⊎◌, inl, inr}
+use Rattle.std.specs.Prelude.{filter, count_by, ◌==◌}
+use Rattle.std.specs.List.{flat_map}
 use Rattle.std.proofs.lemmas.Bool.{le-ltb, cases_lt}
 use Rattle.std.proofs.lemmas.Bool.Decides.{nat_tests}
-use Rattle.std.proofs.lemmas.Grind.{common_steps}
 use Rattle.std.proofs.lemmas.List.{drop-drop, get_or-drop}
 use Rattle.std.proofs.lemmas.List.Sums.{sum_by-cons, sum_by-append}
 use Rattle.std.proofs.lemmas.List.Filters.{sum_by-filter_both}
-use Rattle.flow_list.specs.declared.data.Edge.{Edge}
 use Rattle.flow_list.specs.declared.data.Item.{Item}
 use Rattle.flow_list.specs.declared.data.Seam.{Seam}
 use Rattle.flow_list.specs.declared.data.Flow.{Flow}
@@ -18,8 +16,8 @@ use Rattle.flow_list.specs.Flows.{item_of, seam_of, box_of, row_of, flow_in, no_
 use Rattle.flow_list.specs.Strip.{Strip, strip_at, put, lay_all}
 use Rattle.flow_list.specs.Tokens.{Token, row_start, item_number, within, is_end}
 use Rattle.flow_list.specs.ClonedEdges.{open_across, tops, bottoms}
-use Rattle.flow_list.specs.Column.{is_forced, Column, Inner, Step, Place, Cut, cut, step_at, steps, strip_behind, start_strip, steps_from, height_of, last_place, no_place, unstopped, column, column_over, column_up_to, column_to, avoids_at, endless_column}
-use Rattle.flow_list.specs.Rows.{columns_by, columns, end_of, fails, reach_end, forced_above, most_columns, fits, heights_from, amounts_in, reach, size_in}
+use Rattle.flow_list.specs.Column.{is_forced, Column, Inner, Step, Place, cut, step_at, steps, strip_behind, start_strip, steps_from, height_of, last_place, no_place, unstopped, column, column_over, column_to, avoids_at, endless_column}
+use Rattle.flow_list.specs.Rows.{columns_by, columns, fails, reach_end, forced_above, most_columns, fits, heights_from, amounts_in, reach, size_in}
 use Rattle.flow_list.proofs.StripBounds.{put_le, lay_all_le}
 use Rattle.flow_list.proofs.Walk.{behind}
 use Rattle.flow_list.proofs.LeastHeight.{IsLeast, least-is}
