@@ -27,7 +27,7 @@ use Rattle.flow_list.proofs.LeastHeight.{IsLeast, least-is}
 filter-le : (g : ℕ → ℕ) (p : ℕ → Bool) (xs : List ℕ) → sum_by g (filter p xs) ≤ sum_by g xs
 filter-le g p xs = omega (arith, sum_by-filter_both p (λ x. not (p x)) (λ x. refl) g xs)
 
-starts-take : (g : ℕ → ℕ) (n : ℕ) (seams : List Seam) → sum_by g (starts_in (take n seams)) ≤ sum_by g (starts_in seams)
+pub starts-take : (g : ℕ → ℕ) (n : ℕ) (seams : List Seam) → sum_by g (starts_in (take n seams)) ≤ sum_by g (starts_in seams)
 starts-take g zero seams = omega arith
 starts-take g (suc n) [] = omega arith
 starts-take g (suc n) (s ∷ ss) = omega (arith, starts-take g n ss, sum_by-append g (flat_map started s.head) (starts_in (take n ss)), sum_by-append g (flat_map started s.head) (starts_in ss))

@@ -1,5 +1,6 @@
 pub mod Fitting
 pub mod LeastHeight
+pub mod OpenBoxes
 pub mod StripBounds
 pub mod Walk
 mod Worked
