@@ -1,6 +1,15 @@
 pub mod Digits
 pub mod Fields
+pub mod Fitting
+pub mod LeastHeight
+pub mod OpenBoxes
 pub mod PiecesLoop
 pub mod PlainLaws
 pub mod PlainSound
-pub mod SoundExamples
+mod SoundExamples
+pub mod StripBounds
+pub mod Walk
+mod Worked
+mod WorkedCloned
+mod WorkedNested
+mod WorkedParts
