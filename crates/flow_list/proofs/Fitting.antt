@@ -32,12 +32,12 @@ starts-take g zero seams = omega arith
 starts-take g (suc n) [] = omega arith
 starts-take g (suc n) (s ∷ ss) = omega (arith, starts-take g n ss, sum_by-append g (flat_map started s.head) (starts_in (take n ss)), sum_by-append g (flat_map started s.head) (starts_in ss))
 
-open_at-le : (g : ℕ → ℕ) (f : Flow) (k : ℕ) → sum_by g (open_at f k) ≤ sum_by g (boxes_in f)
+pub open_at-le : (g : ℕ → ℕ) (f : Flow) (k : ℕ) → sum_by g (open_at f k) ≤ sum_by g (boxes_in f)
 open_at-le g f k =
     let seams : List Seam = take (k + 1) f.seams in
     omega (arith, filter-le g (λ b. not (is_among (ends_in seams) b)) (f.opened ++ starts_in seams), starts-take g (k + 1) f.seams, sum_by-append g f.opened (starts_in seams), sum_by-append g f.opened (starts_in f.seams))
 
-open_across-le : (g : ℕ → ℕ) (f : Flow) (k : ℕ) → sum_by g (open_across f k) ≤ sum_by g (boxes_in f)
+pub open_across-le : (g : ℕ → ℕ) (f : Flow) (k : ℕ) → sum_by g (open_across f k) ≤ sum_by g (boxes_in f)
 open_across-le g f zero = omega (arith, sum_by-append g f.opened (starts_in f.seams))
 open_across-le g f (suc k) = omega (arith, filter-le g (λ b. not (is_among (flat_map ended (seam_of f (suc k)).tail) b)) (open_at f k), open_at-le g f k)
 
@@ -69,7 +69,7 @@ first-amounts [] k = nil k
 first-amounts (s ∷ ss) zero = sum_by-cons (λ (s : Seam). sum_by amount s.tail + sum_by amount s.head) s ss
 first-amounts (s ∷ ss) (suc k) = rw add-one (rw add-one at (first-amounts ss k))
 
-amounts-drop : (seams : List Seam) (k : ℕ) → amounts_in (drop k seams) ≤ amounts_in seams
+pub amounts-drop : (seams : List Seam) (k : ℕ) → amounts_in (drop k seams) ≤ amounts_in seams
 amounts-drop seams zero = omega arith
 amounts-drop [] (suc k) = omega arith
 amounts-drop (s ∷ ss) (suc k) = omega (arith, amounts-drop ss k, sum_by-cons (λ (s : Seam). sum_by amount s.tail + sum_by amount s.head) s ss)
@@ -222,6 +222,10 @@ heights-later : (inner : Inner) (q : Token) (items : List Item) (j : ℕ) → he
 heights-later inner q [] j = omega arith
 heights-later inner q (x ∷ xs) zero = omega arith
 heights-later inner q (x ∷ xs) (suc j) = let e = heights-later inner row_start xs j in omega arith
+
+pub heights-drop : (inner : Inner) (items : List Item) (k : ℕ) → heights_from inner row_start (drop k items) ≤ heights_from inner row_start items
+heights-drop inner items zero = omega arith
+heights-drop inner items (suc k) = heights-later inner row_start items k
 
 reach-later : (inner : Inner) (d : FlowsData) (f : Flow) (t : Token) (e : ℕ) → item_number t < e → reach inner d f (e ∷ []) ≤ reach inner d f t
 reach-later inner d f t e lt =

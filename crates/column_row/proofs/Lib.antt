@@ -1,0 +1,2 @@
+pub mod ColumnWalk
+pub mod Passages
