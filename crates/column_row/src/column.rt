@@ -1,6 +1,6 @@
 //! A column of a flow of atoms.
 
-ghost use Rattle.std.specs.Prelude.{◌≡◌, ◌<◌, ◌≤◌, ◌⊎◌, [], ◌∷◌, IfSome, IfNone, Some, None, cond, true, length};
+ghost use Rattle.std.specs.Prelude.{◌≡◌, ◌<◌, ◌≤◌, ◌⊎◌, [], ◌∷◌, IfSome, IfNone, IsSomeAnd, Some, None, cond, true, length};
 ghost use Rattle.flow_list.specs.Atoms.{HoldsAtoms};
 ghost use Rattle.flow_list.specs.Column.{better_place, column, is_forced, place_in, rank};
 ghost use Rattle.flow_list.specs.Flows.{flow_of};
@@ -9,7 +9,7 @@ ghost use Rattle.column_row.specs.Ending.{IsAcross, considered, place_of, place_
 
 use crate::cloned::Cloned;
 use crate::passing::{Beginning, before_first, past_head, past_item};
-use flow_list::{Flows, item_count};
+use flow_list::{Flows, flow_counts, item_count};
 use mc_base::{Level, Units};
 
 /// The seam where a column ends, before this item, with what the column then is.
@@ -63,7 +63,7 @@ fn better(best: Option<Ending>, later: Ending) -> Ending
 /// The best ending so far, with the last seam of this level among them.
 fn with_last(best: Option<Ending>, last: Option<Ending>, level: Level) -> Option<Ending>
     ensures place { place_opt result ≡ considered (place_opt best) (place_opt last) level }
-    ensures which { (result ≡ best) ⊎ IfSome last (λ l. result ≡ Some (record l { level = rank level })) }
+    ensures which { (result ≡ best) ⊎ IsSomeAnd last (λ l. result ≡ Some (record l { level = rank level })) }
 {
     match last {
         None => best,
@@ -104,6 +104,7 @@ pub fn column_at(flows: &Flows, flow: u32, begin: Beginning, height: Units) -> E
     ensures cloned { IsAcross flows.now (flow_of flows.now flow) result.item result.cloned }
 {
     let count = item_count(flows, flow);
+    let _counts = flow_counts(flows);
     let mut best = None;
     let mut last = None;
     let mut before = before_first(flows, flow, begin);
