@@ -1,2 +1,3 @@
+pub mod ColumnLoops
 pub mod ColumnWalk
 pub mod Passages

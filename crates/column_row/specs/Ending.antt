@@ -1,5 +1,5 @@
 -- The endings of columns as places, and what is known of them.
-use Rattle.std.specs.Prelude.{◌≡◌, ℕ, ◌+◌, ◌<◌, ◌≤◌, false, [], ◌∷◌, drop, sum_by, Option, Some, None}
+use Rattle.std.specs.Prelude.{◌≡◌, ℕ, ◌+◌, ◌<◌, ◌≤◌, false, Bool, List, [], ◌∷◌, drop, sum_by, Option, Some, None}
 use Rattle.mc_base.specs.declared.level.Level.{Level}
 use Rattle.flow_list.specs.declared.data.Flow.{Flow}
 use Rattle.flow_list.specs.declared.data.FlowsData.{FlowsData}
@@ -7,7 +7,9 @@ use Rattle.flow_list.specs.Flows.{amount, boxes_in, open_at, seam_of}
 use Rattle.flow_list.specs.ClonedEdges.{open_across, tops, bottoms}
 use Rattle.flow_list.specs.Rows.{all_rows, amounts_in, heights_from, reach}
 use Rattle.flow_list.specs.Tokens.{row_start}
-use Rattle.flow_list.specs.Column.{Place, better_place, rank}
+use Rattle.std.specs.List.{list_any}
+use Rattle.flow_list.specs.RowHeights.{is_unforced}
+use Rattle.flow_list.specs.Column.{Column, Place, better_place, rank}
 use Rattle.column_row.specs.declared.cloned.Cloned.{Cloned}
 use Rattle.column_row.specs.declared.column.Ending.{Ending}
 use Rattle.column_row.specs.declared.passing.Before.{Before}
@@ -60,3 +62,7 @@ pub record IsBehind (d : FlowsData) (f : Flow) (k : ℕ) (b : Behind) : Type 0 w
   pub across : IsAcross d f (k + 1) b.cloned
   pub level : b.level ≡ (seam_of f (k + 1)).level
   pub room : b.strip.y + b.strip.pending + sum_by amount (seam_of f (k + 1)).head + heights_from (all_rows d) row_start (drop (k + 1) f.items) + amounts_in (drop (k + 1 + 1) f.seams) + bottoms d (boxes_in f) ≤ reach (all_rows d) d f row_start
+
+-- whether one of these columns ends at a break that isn't forced
+abbrev pub any_unforced : Flow → List Column → Bool
+any_unforced f cs = list_any (λ (c : Column). is_unforced f c.end) cs

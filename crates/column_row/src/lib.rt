@@ -6,5 +6,6 @@
 
 mod cloned;
 mod column;
+mod columns;
 mod passing;
 mod strip;

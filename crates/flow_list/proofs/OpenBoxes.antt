@@ -382,3 +382,6 @@ module _ (d : FlowsData) (f : Flow) (sound : IsSoundFlow d f) where
       let m : ℕ = get_or (ended edge) j b in
       in-range m
       (omega (arith, has-count (ended edge) j b in_edge, sum-part (λ x. cond (x == m) 1 0) ended (seam_of f (k + 1)).tail i e in_tail, tail-within m k lt, open_at-le (λ x. cond (x == m) 1 0) f k))
+
+  pub opened-known : All (λ b. b < length d.boxes) f.opened
+  opened-known j b lt = let m : ℕ = get_or f.opened j b in in-range m (omega (arith, has-count f.opened j b lt, count-append m f.opened (starts_in f.seams)))
