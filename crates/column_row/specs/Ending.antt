@@ -1,12 +1,12 @@
 -- The endings of columns as places, and what is known of them.
-use Rattle.std.specs.Prelude.{◌≡◌, ℕ, ◌+◌, ◌<◌, ◌≤◌, false, Bool, List, [], ◌∷◌, drop, sum_by, Option, Some, None}
+use Rattle.std.specs.Prelude.{◌≡◌, ℕ, ◌+◌, ◌-◌, ◌^◌, ◌||◌, cond, nat_lt, ◌<◌, ◌≤◌, false, Bool, List, [], ◌∷◌, drop, map, sum_by, Option, Some, None}
 use Rattle.mc_base.specs.declared.level.Level.{Level}
 use Rattle.flow_list.specs.declared.data.Flow.{Flow}
 use Rattle.flow_list.specs.declared.data.FlowsData.{FlowsData}
 use Rattle.flow_list.specs.Flows.{amount, boxes_in, open_at, seam_of}
 use Rattle.flow_list.specs.ClonedEdges.{open_across, tops, bottoms}
 use Rattle.flow_list.specs.Rows.{all_rows, amounts_in, heights_from, reach}
-use Rattle.flow_list.specs.Tokens.{row_start}
+use Rattle.flow_list.specs.Tokens.{item_number, row_start}
 use Rattle.std.specs.List.{list_any}
 use Rattle.flow_list.specs.RowHeights.{is_unforced}
 use Rattle.flow_list.specs.Column.{Column, Place, better_place, rank}
@@ -66,3 +66,17 @@ pub record IsBehind (d : FlowsData) (f : Flow) (k : ℕ) (b : Behind) : Type 0 w
 -- whether one of these columns ends at a break that isn't forced
 abbrev pub any_unforced : Flow → List Column → Bool
 any_unforced f cs = list_any (λ (c : Column). is_unforced f c.end) cs
+
+-- the items before which these columns end
+abbrev pub items_of : List Column → List ℕ
+items_of cs = map (λ (c : Column). item_number c.end) cs
+
+-- the height of the columns of a row with `column-fill: auto`
+abbrev pub limit : Option ℕ → ℕ
+limit None = 2 ^ 64 - 1
+limit (Some available) = available
+
+-- the height of that row, whose longest column reaches this far, and one of whose columns was broken or not
+abbrev pub filled_to : Option ℕ → ℕ → Bool → ℕ
+filled_to None extent unforced = extent
+filled_to (Some available) extent unforced = cond (unforced || nat_lt available extent) available extent

@@ -8,4 +8,7 @@ mod cloned;
 mod column;
 mod columns;
 mod passing;
+mod rows;
 mod strip;
+
+pub use rows::{FlatColumns, flat_columns, flat_row};
