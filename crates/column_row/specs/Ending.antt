@@ -1,5 +1,5 @@
 -- The endings of columns as places, and what is known of them.
-use Rattle.std.specs.Prelude.{◌≡◌, ℕ, ◌+◌, ◌-◌, ◌^◌, ◌||◌, cond, nat_lt, ◌<◌, ◌≤◌, false, Bool, List, [], ◌∷◌, drop, map, sum_by, Option, Some, None}
+use Rattle.std.specs.Prelude.{◌≡◌, ℕ, ◌+◌, ◌-◌, ◌^◌, ◌==◌, ◌||◌, cond, nat_lt, ◌<◌, ◌≤◌, false, Bool, List, [], ◌∷◌, drop, map, sum_by, Option, Some, None}
 use Rattle.mc_base.specs.declared.level.Level.{Level}
 use Rattle.flow_list.specs.declared.data.Flow.{Flow}
 use Rattle.flow_list.specs.declared.data.FlowsData.{FlowsData}
@@ -80,3 +80,8 @@ limit (Some available) = available
 abbrev pub filled_to : Option ℕ → ℕ → Bool → ℕ
 filled_to None extent unforced = extent
 filled_to (Some available) extent unforced = cond (unforced || nat_lt available extent) available extent
+
+-- whether this height is all that is available
+abbrev pub is_all_of : Option ℕ → ℕ → Bool
+is_all_of None height = false
+is_all_of (Some available) height = height == available

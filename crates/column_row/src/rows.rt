@@ -1,11 +1,11 @@
 //! The columns of a row at a height, and the height of a row.
 
-ghost use Rattle.std.specs.Prelude.{◌≡◌, ◌<◌, ◌↔◌, IfOk, IsTrue, Some, false, length, true};
+ghost use Rattle.std.specs.Prelude.{◌≡◌, ◌<◌, IfOk, Some, false, length, true};
 ghost use Rattle.flow_list.specs.Atoms.{HoldsAtoms};
 ghost use Rattle.flow_list.specs.Flows.{flow_in, row_of};
 ghost use Rattle.flow_list.specs.RowHeights.{balanced_height, before_items, columns_of_row, ends_of, greatest_extent, height_fits, row_columns, row_height, size_of};
 ghost use Rattle.flow_list.specs.Tokens.{row_start};
-ghost use Rattle.column_row.specs.Ending.{any_unforced, filled_to, items_of, limit};
+ghost use Rattle.column_row.specs.Ending.{any_unforced, filled_to, is_all_of, items_of, limit};
 
 use crate::columns::{Made, columns_at, flow_fits, most_columns};
 use flow_list::{FlatRow, Flows, flow_counts, row_at};
@@ -58,12 +58,13 @@ fn made_at(alloc: Global, flows: &Flows, row: u32, height: Units) -> Result<Made
 {
     let _counts = flow_counts(flows);
     let most = most_columns(flows, row);
-    columns_at(alloc, flows, row_at(flows, row).flow, most, height)
+    let made = columns_at(alloc, flows, row_at(flows, row).flow, most, height)?;
+    Ok(made)
 }
 
 /// Whether this much is available, and no more.
 fn is_all(available: Option<Units>, height: Units) -> bool
-    ensures { IsTrue result ↔ (available ≡ Some height) }
+    ensures { result ≡ is_all_of available height }
 {
     match available {
         None => false,
@@ -83,7 +84,7 @@ fn least_height(flows: &Flows, row: u32, available: Option<Units>) -> Units
     let most = most_columns(flows, row);
     let flow = row_at(flows, row).flow;
     let mut height: Units = 0;
-    while !is_all(available, height) && !flow_fits(flows, flow, most, height) {
+    'heights: while !is_all(available, height) && !flow_fits(flows, flow, most, height) {
         height += 1;
     }
     height
