@@ -1,4 +1,6 @@
+pub mod AtomFlows
 pub mod Digits
+pub mod EdgeSums
 pub mod Fields
 pub mod Fitting
 pub mod LeastHeight
