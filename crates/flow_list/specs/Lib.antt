@@ -3,6 +3,7 @@ pub mod Column
 pub mod Counts
 pub mod Flows
 pub mod RowHeights
+pub mod Ranges
 pub mod Rows
 pub mod Soundness
 pub mod Strip

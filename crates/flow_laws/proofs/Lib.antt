@@ -1,0 +1,2 @@
+mod StopStays
+mod RowsStay

@@ -1,0 +1,16 @@
+//! Laws of columns: what is true of the definitions of flow_list, whatever lays out or checks.
+//!
+//! It stands on flow_list. Each function promises one law, does nothing, and takes no memory.
+#![tactic(auto)]
+
+ghost use Rattle.std.specs.Prelude.{ℕ};
+ghost use Rattle.flow_list.specs.declared.data.FlowsData.{FlowsData};
+ghost use Rattle.flow_laws.specs.Constant.{BreaksAreConstant};
+
+/// Breaks are constant over a range of heights: up to the least bound of a column its lines and its overflow stay, and
+/// where it doesn't overflow its end and level too; so do those of a fill and of the columns that are judged, and a height
+/// fits just where the lower one does.
+pub fn breaks_are_constant()
+    ensures { (d : FlowsData) (depth : ℕ) → BreaksAreConstant d depth }
+{
+}
