@@ -1,2 +1,5 @@
 mod StopStays
 mod RowsStay
+mod Strips
+mod Reach
+mod Exists

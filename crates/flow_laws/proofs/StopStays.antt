@@ -116,7 +116,7 @@ cut-stay : (avoids : Bool) (lo h : ℕ) (before : List Step) (s : Step) (f g : F
     ColumnStays (stopped_by avoids lo before s f c w bs us) (stopped_by avoids h before s g c' w' cs vs)
 cut-stay avoids lo h before s f g true true true true bs cs us vs _ _ _ _ e =
     let k = choose-inside (seams_between (before ++ s ∷ [])) f.overflow g.overflow (inside_place avoids s (room s lo) f) (inside_place avoids s (room s h) g) (overflowing (inside_place avoids s (room s lo) f)) (overflowing (inside_place avoids s (room s h) g))
-        e.overflow (λ none. inside-same avoids s lo h f g none e) (over-alike (inside_place avoids s (room s lo) f) (inside_place avoids s (room s h) g)) in
+    e.overflow (λ none. inside-same avoids s lo h f g none e) (over-alike (inside_place avoids s (room s lo) f) (inside_place avoids s (room s h) g)) in
     column_to-stays _ _ (Some s.item) (map deeper f.lines) (map deeper g.lines) bs cs us vs k.overflow k.end k.level (ap (map deeper) e.lines)
 cut-stay avoids lo h before s f g false c' w w' bs cs us vs x y z t e = cc
 cut-stay avoids lo h before s f g true false w w' bs cs us vs x y z t e = cc
@@ -180,7 +180,7 @@ stop-stays : (inner : Inner) (law : FillsStay inner) (avoids : Bool) (lo h : ℕ
     IsBelowEach h (cond z ((s.x + s.feet) ∷ []) [] ++ cond t ((s.x + s.feet + s.height) ∷ map (λ b. s.x + s.feet + b) (inner.fill r q (room s lo)).bounds) []) →
     ColumnStays (stopped avoids lo before s (Some (inner.fill r q (room s lo)))) (stopped avoids h before s (Some (inner.fill r q (room s h))))
 stop-stays inner law avoids lo h before s r q le true e z ez b =
-    let k = (IsBelowEach-append h (cond z ((s.x + s.feet) ∷ []) [] ) _ b).1 in
+    let k = (IsBelowEach-append h (cond z ((s.x + s.feet) ∷ []) []) _ b).1 in
     let top : h < s.x + s.feet + s.height = k.0 in
     let from : s.x + s.feet ≤ lo = cut-from s lo e in
     let left : room s lo < s.height = cut-room s lo e in

@@ -5,12 +5,19 @@
 
 ghost use Rattle.std.specs.Prelude.{ℕ};
 ghost use Rattle.flow_list.specs.declared.data.FlowsData.{FlowsData};
+ghost use Rattle.flow_list.specs.Column.{Inner};
 ghost use Rattle.flow_laws.specs.Constant.{BreaksAreConstant};
+ghost use Rattle.flow_laws.specs.LeastHeight.{SizesAreLeast};
 
 /// Breaks are constant over a range of heights: up to the least bound of a column its lines and its overflow stay, and
 /// where it doesn't overflow its end and level too; so do those of a fill and of the columns that are judged, and a height
 /// fits just where the lower one does.
 pub fn breaks_are_constant()
     ensures { (d : FlowsData) (depth : ℕ) → BreaksAreConstant d depth }
-{
-}
+{}
+
+/// The size of a row from a place on exists: it is the one least height that fits. At all heights, margins, solid amounts and
+/// cloned edges together only forced breaks remain.
+pub fn sizes_are_least()
+    ensures { (inner : Inner) (d : FlowsData) → SizesAreLeast inner d }
+{}
