@@ -218,7 +218,8 @@ all-fit inner d f h (suc n) t enough = go (λ u e. all-fit inner d f h n u e) (i
     go again false e =
         let lt = not-at-end f t e in
         let ends = column-ends inner d f t h lt (enough lt).0 in
-        reach-end-cons f t (column inner d f t h) _ (fine _ ends.overflow ends.level) (again _ (enough-later inner d f h n t _ ends.end.0 lt enough ends.end.1 ends.end.2))
+        reach-end-cons f t (column inner d f t h) (columns inner d f n (column inner d f t h).end h) (fine (column inner d f t h) ends.overflow ends.level)
+        (again (column inner d f t h).end (enough-later inner d f h n t (column inner d f t h).end ends.end.0 lt enough ends.end.1 ends.end.2))
 
 -- ---- the least number that passes
 
