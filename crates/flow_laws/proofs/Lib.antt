@@ -1,5 +1,6 @@
-mod StopStays
-mod RowsStay
-mod Strips
-mod Reach
+mod DepthSame
 mod Exists
+mod Reach
+mod RowsStay
+mod StopStays
+mod Strips

@@ -7,6 +7,7 @@ ghost use Rattle.std.specs.Prelude.{ℕ};
 ghost use Rattle.flow_list.specs.declared.data.FlowsData.{FlowsData};
 ghost use Rattle.flow_list.specs.Column.{Inner};
 ghost use Rattle.flow_laws.specs.Constant.{BreaksAreConstant};
+ghost use Rattle.flow_laws.specs.Depth.{DepthChangesNothing};
 ghost use Rattle.flow_laws.specs.LeastHeight.{SizesAreLeast};
 
 /// Breaks are constant over a range of heights: up to the least bound of a column its lines and its overflow stay, and
@@ -20,4 +21,10 @@ pub fn breaks_are_constant()
 /// cloned edges together only forced breaks remain.
 pub fn sizes_are_least()
     ensures { (inner : Inner) (d : FlowsData) → SizesAreLeast inner d }
+{}
+
+/// A deeper recursion than needed changes nothing: of a row of which at most n stand one inside another the same is told at each
+/// depth from n on.
+pub fn depth_changes_nothing()
+    ensures { (d : FlowsData) → DepthChangesNothing d }
 {}
