@@ -1,3 +1,4 @@
+mod Advance
 mod DepthSame
 mod Exists
 mod Reach
