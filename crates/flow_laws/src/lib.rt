@@ -3,12 +3,14 @@
 //! It stands on flow_list. Each function promises one law, does nothing, and takes no memory.
 #![tactic(auto)]
 
-ghost use Rattle.std.specs.Prelude.{ℕ};
+ghost use Rattle.std.specs.Prelude.{ℕ, ◌<◌, length};
 ghost use Rattle.flow_list.specs.declared.data.FlowsData.{FlowsData};
 ghost use Rattle.flow_list.specs.Column.{Inner};
 ghost use Rattle.flow_laws.specs.Constant.{BreaksAreConstant};
 ghost use Rattle.flow_laws.specs.Depth.{DepthChangesNothing};
 ghost use Rattle.flow_laws.specs.LeastHeight.{SizesAreLeast};
+ghost use Rattle.flow_laws.specs.Progress.{ColumnsAdvance};
+ghost use Rattle.flow_list.specs.Soundness.{IsSound};
 
 /// Breaks are constant over a range of heights: up to the least bound of a column its lines and its overflow stay, and
 /// where it doesn't overflow its end and level too; so do those of a fill and of the columns that are judged, and a height
@@ -27,4 +29,10 @@ pub fn sizes_are_least()
 /// depth from n on.
 pub fn depth_changes_nothing()
     ensures { (d : FlowsData) → DepthChangesNothing d }
+{}
+
+/// In sound flows a column ends later than it begins, and what a row makes of a height leaves a later place. So columns over the
+/// whole content of a row end, and they hold each atom once, in order, also those in inner rows that are cut.
+pub fn columns_advance()
+    ensures { (d : FlowsData) → IsSound d → (r : ℕ) → r < length d.rows → ColumnsAdvance d r }
 {}
