@@ -1,3 +1,8 @@
+pub mod Fitting
+pub mod LeastHeight
+pub mod OpenBoxes
+pub mod StripBounds
+pub mod Walk
 mod Worked
 mod WorkedCloned
 mod WorkedNested

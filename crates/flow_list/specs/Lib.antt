@@ -1,3 +1,4 @@
+pub mod Atoms
 pub mod ClonedEdges
 pub mod Column
 pub mod Counts
