@@ -1,6 +1,7 @@
 mod Advance
 mod DepthSame
 mod Exists
+mod Laying
 mod Reach
 mod RowsAdvance
 mod RowsStay

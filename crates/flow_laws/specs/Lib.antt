@@ -2,3 +2,4 @@ pub mod Constant
 pub mod Depth
 pub mod LeastHeight
 pub mod Progress
+pub mod Rejection
