@@ -2,6 +2,7 @@ mod Advance
 mod DepthSame
 mod Exists
 mod Laying
+mod Needs
 mod Reach
 mod RowsAdvance
 mod RowsStay
