@@ -4,6 +4,7 @@ mod Exists
 mod Laying
 mod Needs
 mod Reach
+mod Rejects
 mod RowsAdvance
 mod RowsStay
 mod StopStays

@@ -159,7 +159,7 @@ module _ (inner : Inner) (d : FlowsData) (f : Flow) (sound : IsSoundFlow d f) wh
       row-no-atom (Atom height kind) r is a = cc
       row-no-atom (Row s) r is a = a
 
-  in-items : (t : Token) → IsPlaceBefore d f t → item_number t < length f.items
+  pub in-items : (t : Token) → IsPlaceBefore d f t → item_number t < length f.items
   in-items [] place = absurd place
   in-items (i ∷ []) place = place
   in-items (i ∷ (j ∷ rest)) place = place.0

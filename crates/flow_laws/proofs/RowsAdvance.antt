@@ -181,7 +181,7 @@ module _ (d : FlowsData) (sound : IsSound d) (r : ℕ) (lt : r < length d.rows) 
   unfolding all_rows atoms_from contents_to
   later-is t u later = record { place = later.place; fewer = later.fewer; rest = later.rest }
 
-  column-is-later : (t : Token) (h : ℕ) → IsPlaceBefore d (flow_in d r) t → IsLater d r t (column (all_rows d) d (flow_in d r) t h).end
+  pub column-is-later : (t : Token) (h : ℕ) → IsPlaceBefore d (flow_in d r) t → IsLater d r t (column (all_rows d) d (flow_in d r) t h).end
   unfolding all_rows
   column-is-later t h place = later-is t _ (column-later d (rows_to d (length d.rows)) (contents_to d (length d.rows)) r (flow_in d r) rows-move t place h)
 
@@ -213,7 +213,7 @@ module _ (d : FlowsData) (sound : IsSound d) (r : ℕ) (lt : r < length d.rows) 
   abbrev cs-from : ℕ → Token → ℕ → List Column
   cs-from n t h = columns (all_rows d) d (flow_in d r) n t h
 
-  not-before : (t : Token) → IsPlaceBefore d (flow_in d r) t → is_end (flow_in d r) t ≡ false
+  pub not-before : (t : Token) → IsPlaceBefore d (flow_in d r) t → is_end (flow_in d r) t ≡ false
   not-before [] place = absurd place
   not-before (i ∷ []) place = grind (arith, nat_tests)
   not-before (i ∷ (j ∷ rest)) place = let in_items = place.0 in grind (arith, nat_tests)

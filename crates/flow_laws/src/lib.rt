@@ -9,7 +9,10 @@ ghost use Rattle.flow_list.specs.Column.{Inner};
 ghost use Rattle.flow_laws.specs.Constant.{BreaksAreConstant};
 ghost use Rattle.flow_laws.specs.Depth.{DepthChangesNothing};
 ghost use Rattle.flow_laws.specs.LeastHeight.{SizesAreLeast};
-ghost use Rattle.flow_laws.specs.Progress.{ColumnsAdvance};
+ghost use Rattle.flow_laws.specs.Progress.{ColumnsAdvance, IsPlaceBefore};
+ghost use Rattle.flow_laws.specs.Rejection.{TallAndAreaReject};
+ghost use Rattle.flow_list.specs.Flows.{flow_in};
+ghost use Rattle.flow_list.specs.Tokens.{Token};
 ghost use Rattle.flow_list.specs.Soundness.{IsSound};
 
 /// Breaks are constant over a range of heights: up to the least bound of a column its lines and its overflow stay, and
@@ -35,4 +38,10 @@ pub fn depth_changes_nothing()
 /// whole content of a row end, and they hold each atom once, in order, also those in inner rows that are cut.
 pub fn columns_advance()
     ensures { (d : FlowsData) → IsSound d → (r : ℕ) → r < length d.rows → ColumnsAdvance d r }
+{}
+
+/// In sound flows no height fits that is below what an atom needs after an unforced break, nor one at which the heights of the
+/// atoms add up to more than the columns that may be used can hold.
+pub fn tall_and_area_reject()
+    ensures { (d : FlowsData) → IsSound d → (r : ℕ) → r < length d.rows → (q : Token) → IsPlaceBefore d (flow_in d r) q → TallAndAreaReject d r q }
 {}
