@@ -7,5 +7,7 @@ mod Reach
 mod Rejects
 mod RowsAdvance
 mod RowsStay
+mod Small
 mod StopStays
 mod Strips
+mod Totals

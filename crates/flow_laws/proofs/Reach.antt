@@ -114,7 +114,7 @@ module _ (inner : Inner) (d : FlowsData) (f : Flow) (h : ℕ) where
       go true r = tt
       go false r = r
 
-start-le : (d : FlowsData) (f : Flow) (t : Token) → (start_strip d f t).y + (start_strip d f t).pending ≤ tops d (boxes_in f) + sum_by amount (seam_of f (item_number t)).head
+pub start-le : (d : FlowsData) (f : Flow) (t : Token) → (start_strip d f t).y + (start_strip d f t).pending ≤ tops d (boxes_in f) + sum_by amount (seam_of f (item_number t)).head
 start-le d f [] = omega arith
 start-le d f (i ∷ []) = start (not (i == 0 || is_forced (seam_of f i).level))
   where

@@ -157,7 +157,7 @@ cuts-at s h a b = grind (arith, nat_tests)
 cut-from : (s : Step) (h : ℕ) → is_cut s h ≡ true → s.x + s.feet ≤ h
 cut-from s h e = grind (arith, nat_tests)
 
-cut-room : (s : Step) (h : ℕ) → is_cut s h ≡ true → room s h < s.height
+pub cut-room : (s : Step) (h : ℕ) → is_cut s h ≡ true → room s h < s.height
 cut-room s h e = grind (arith, nat_tests)
 
 above-place : (s : Step) (h : ℕ) → (nat_lt 0 s.height && nat_lt h (s.x + s.feet)) ≡ true → h < s.x + s.feet

@@ -1,3 +1,4 @@
+pub mod Bounds
 pub mod Constant
 pub mod Depth
 pub mod LeastHeight

@@ -6,6 +6,7 @@
 ghost use Rattle.std.specs.Prelude.{ℕ, ◌<◌, length};
 ghost use Rattle.flow_list.specs.declared.data.FlowsData.{FlowsData};
 ghost use Rattle.flow_list.specs.Column.{Inner};
+ghost use Rattle.flow_laws.specs.Bounds.{NeedsAndBounds};
 ghost use Rattle.flow_laws.specs.Constant.{BreaksAreConstant};
 ghost use Rattle.flow_laws.specs.Depth.{DepthChangesNothing};
 ghost use Rattle.flow_laws.specs.LeastHeight.{SizesAreLeast};
@@ -44,4 +45,10 @@ pub fn columns_advance()
 /// atoms add up to more than the columns that may be used can hold.
 pub fn tall_and_area_reject()
     ensures { (d : FlowsData) → IsSound d → (r : ℕ) → r < length d.rows → (q : Token) → IsPlaceBefore d (flow_in d r) q → TallAndAreaReject d r q }
+{}
+
+/// In sound flows what a column's items need never falls from one to the next, and needs, the places where items begin, sizes and
+/// extents are all below 2^60.
+pub fn needs_and_bounds()
+    ensures { (d : FlowsData) → IsSound d → (r : ℕ) → r < length d.rows → NeedsAndBounds d r }
 {}
