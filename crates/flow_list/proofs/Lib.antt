@@ -7,3 +7,4 @@ mod Worked
 mod WorkedCloned
 mod WorkedNested
 mod WorkedParts
+mod WorkedRanges
