@@ -8,3 +8,4 @@ mod WorkedCloned
 mod WorkedNested
 mod WorkedParts
 mod WorkedRanges
+mod WorkedTrees

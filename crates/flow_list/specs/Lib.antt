@@ -3,9 +3,15 @@ pub mod ClonedEdges
 pub mod Column
 pub mod Counts
 pub mod Flows
+pub mod Looks
 pub mod RowHeights
+pub mod Fragments
+pub mod Placing
 pub mod Ranges
 pub mod Rows
 pub mod Soundness
+pub mod Stacks
 pub mod Strip
 pub mod Tokens
+pub mod Tree
+pub mod TreeText
