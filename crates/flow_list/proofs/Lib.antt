@@ -4,6 +4,7 @@ pub mod OpenBoxes
 pub mod StripBounds
 pub mod Walk
 mod Worked
+mod WorkedCertificates
 mod WorkedCloned
 mod WorkedNested
 mod WorkedParts

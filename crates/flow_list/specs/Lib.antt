@@ -1,9 +1,11 @@
 pub mod Atoms
+pub mod Certificate
 pub mod ClonedEdges
 pub mod Column
 pub mod Counts
 pub mod Flows
 pub mod Looks
+pub mod ResultText
 pub mod RowHeights
 pub mod Fragments
 pub mod Placing

@@ -28,9 +28,12 @@ kind_words (void b) = codes "void" ∷ decimal b ∷ []
 kind_words (image b) = codes "image" ∷ decimal b ∷ []
 kind_words (atom k) = codes "atom" ∷ decimal k ∷ []
 
--- a line: its depth, what it is of, and its rectangle
+-- a line without its line feed: its depth, what it is of, and its rectangle
+abbrev pub tree_line_words : TreeLine → List ℕ
+tree_line_words t = decimal t.depth ++ spaced (kind_words t.kind ++ decimal t.x ∷ decimal t.y ∷ decimal t.w ∷ decimal t.h ∷ [])
+
 abbrev pub tree_line_text : TreeLine → List ℕ
-tree_line_text t = decimal t.depth ++ spaced (kind_words t.kind ++ decimal t.x ∷ decimal t.y ∷ decimal t.w ∷ decimal t.h ∷ []) ++ 10 ∷ []
+tree_line_text t = tree_line_words t ++ 10 ∷ []
 
 abbrev pub tree_text : List TreeLine → List ℕ
 tree_text lines = flat_map tree_line_text lines
