@@ -12,6 +12,9 @@ mod SoundExamples
 pub mod StripBounds
 pub mod Walk
 mod Worked
+mod WorkedCertificates
 mod WorkedCloned
 mod WorkedNested
 mod WorkedParts
+mod WorkedRanges
+mod WorkedTrees
