@@ -1,9 +1,9 @@
 -- Worked cases of certificates, with the sizes of inner rows and the numbers that column lines cite.
-use Rattle.std.proofs.Common.{◌≡◌, ℕ, Bool, true, false, List, [], ◌∷◌, refl, Option, Some, None}
+use Rattle.std.proofs.Common.{◌≡◌, ℕ, true, false, List, [], ◌∷◌, refl}
 use Rattle.std.specs.Prelude.{codes}
 use Rattle.std.specs.Fmt.{digits}
-use Rattle.mc_base.specs.declared.level.Level.TheVariants.{Forced, L0, L1, L2}
-use Rattle.flow_list.specs.declared.data.Edge.TheVariants.{Margin, Solid, Start, End}
+use Rattle.mc_base.specs.declared.level.Level.TheVariants.{L0, L2}
+use Rattle.flow_list.specs.declared.data.Edge.TheVariants.{Solid, Start, End}
 use Rattle.flow_list.specs.declared.data.FlowsData.{FlowsData}
 use Rattle.flow_list.specs.declared.data.Item.TheVariants.{Row}
 use Rattle.flow_list.specs.Column.{column, steps, endless_column}

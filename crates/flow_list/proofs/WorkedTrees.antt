@@ -1,15 +1,11 @@
 -- Worked cases of the tree of a layout, with the place of each box and item.
-use Rattle.std.proofs.Common.{◌≡◌, ℕ, Bool, true, false, List, [], ◌∷◌, ◌++◌, drop, take, refl, Option, Some, None}
+use Rattle.std.proofs.Common.{◌≡◌, ℕ, true, false, List, [], ◌∷◌, ◌++◌, drop, take, refl}
 use Rattle.std.specs.Prelude.{codes}
 use Rattle.std.specs.Fmt.{digits}
-use Rattle.mc_base.specs.declared.level.Level.TheVariants.{Forced, L0, L1, L2}
-use Rattle.flow_list.specs.declared.data.Bound.TheVariants.{Free}
-use Rattle.flow_list.specs.declared.data.BoxInfo.{BoxInfo}
+use Rattle.mc_base.specs.declared.level.Level.TheVariants.{Forced, L0, L2}
 use Rattle.flow_list.specs.declared.data.Edge.TheVariants.{Margin, Solid, Start, End}
 use Rattle.flow_list.specs.declared.data.FlowsData.{FlowsData}
 use Rattle.flow_list.specs.declared.data.Item.TheVariants.{Row}
-use Rattle.flow_list.specs.declared.data.RowInfo.{RowInfo}
-use Rattle.flow_list.specs.Tokens.{Token}
 use Rattle.flow_list.specs.Column.{column, steps, endless_column}
 use Rattle.flow_list.specs.Rows.{columns_by, fits, least, size_in, fill_in, rows_to, all_rows}
 use Rattle.flow_list.specs.RowHeights.{size_of, height_fits, row_columns, row_height, columns_of_row}

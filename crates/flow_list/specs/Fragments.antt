@@ -1,6 +1,6 @@
 -- The fragment of a column: what stands in it, box within box, with its place from the column's top (CSS Fragmentation 3, section 2).
-use Rattle.std.specs.Prelude.{ℕ, zero, suc, ◌+◌, ◌-◌, ◌==◌, Bool, true, false, cond, not, ◌||◌, ◌&&◌, List, [], ◌∷◌, ◌++◌, length, map, nat_lt, Option, Some, None, is_some}
-use Rattle.mc_base.specs.PlainTree.{PlainTree, PlainTrees, plain_trees, atom as atom_tree, piece, row_piece, column as column_tree}
+use Rattle.std.specs.Prelude.{ℕ, zero, suc, ◌+◌, ◌-◌, ◌==◌, Bool, true, false, cond, not, ◌||◌, ◌&&◌, List, [], ◌∷◌, ◌++◌, length, nat_lt, Option, Some, None, is_some}
+use Rattle.mc_base.specs.PlainTree.{PlainTree, plain_trees, atom as atom_tree, piece, row_piece, column as column_tree}
 use Rattle.flow_list.specs.declared.data.Bound.{Bound}
 use Rattle.flow_list.specs.declared.data.Flow.{Flow}
 use Rattle.flow_list.specs.declared.data.FlowsData.{FlowsData}
@@ -12,7 +12,7 @@ use Rattle.flow_list.specs.Tokens.{Token, row_start, item_number, within}
 use Rattle.flow_list.specs.Strip.{Strip, strip_at, put, lay_all, begins}
 use Rattle.flow_list.specs.Column.{Column, Inner, Step, height_of, strip_behind, start_strip, steps_from, is_forced, cut, room, column, endless_column}
 use Rattle.flow_list.specs.Rows.{columns_by, left_in, rows_to, all_rows}
-use Rattle.flow_list.specs.RowHeights.{row_height, columns_of_row, balanced_height, size_of}
+use Rattle.flow_list.specs.RowHeights.{row_height, balanced_height, size_of}
 use Rattle.flow_list.specs.Stacks.{available_to, height_in_stack, stack_strip, stack_extent}
 use Rattle.flow_list.specs.Placing.{RowLaid, Laid, atom, row, laid_edges, Placed, opens_at, closes_at, atom_at, row_at, places_from}
 

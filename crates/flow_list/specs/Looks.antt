@@ -3,7 +3,7 @@ use Rattle.std.specs.Prelude.{ℕ, ◌+◌, ◌*◌, length, Option, Some, None}
 use Rattle.flow_list.specs.declared.data.Flow.{Flow}
 use Rattle.flow_list.specs.declared.data.FlowsData.{FlowsData}
 use Rattle.flow_list.specs.Tokens.{Token}
-use Rattle.flow_list.specs.Column.{Inner, Step, Cut, cut, steps_from}
+use Rattle.flow_list.specs.Column.{Inner, Step, cut, steps_from}
 
 abbrev pub stop_count : Option Step → ℕ
 stop_count None = 0

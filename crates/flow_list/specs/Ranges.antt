@@ -1,6 +1,6 @@
 -- Ranges of heights that don't fit a row, with the reason why (this project's own: CSS Multi-column 1, section 7.1, leaves the height of
 -- balanced columns open).
-use Rattle.std.specs.Prelude.{◌≡◌, ℕ, zero, suc, ◌+◌, ◌-◌, ◌*◌, ◌/◌, ◌<◌, ◌≤◌, ◌==◌, max, min, Bool, true, false, cond, IsTrue, List, [], ◌∷◌, ◌++◌, length, drop, nat_lt, nat_le, fold, sum_by, Option, Some, None, All}
+use Rattle.std.specs.Prelude.{◌≡◌, ℕ, zero, suc, ◌+◌, ◌-◌, ◌*◌, ◌/◌, ◌<◌, ◌≤◌, max, min, Bool, true, false, cond, List, [], ◌∷◌, ◌++◌, length, drop, nat_lt, nat_le, fold, sum_by, Option, Some, None, All}
 use Rattle.std.specs.List.{flat_map}
 use Rattle.flow_list.specs.declared.data.Flow.{Flow}
 use Rattle.flow_list.specs.declared.data.FlowsData.{FlowsData}

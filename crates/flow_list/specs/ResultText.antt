@@ -1,16 +1,15 @@
 -- The lines of a result: the tree, and the certificate with the numbers of the sizes that each column line rests on (this project's own).
-use Rattle.std.specs.Prelude.{ℕ, zero, suc, ◌+◌, Bool, true, false, cond, List, [], ◌∷◌, ◌++◌, map, Option, Some, None, codes, if◌then◌else◌}
+use Rattle.std.specs.Prelude.{ℕ, ◌+◌, cond, List, [], ◌∷◌, ◌++◌, map, Option, Some, None, codes, if◌then◌else◌}
 use Rattle.std.specs.List.{flat_map}
 use Rattle.std.specs.Fmt.{decimal}
 use Rattle.flow_list.specs.declared.data.FlowsData.{FlowsData}
-use Rattle.flow_list.specs.Flows.{row_of}
 use Rattle.flow_list.specs.Tokens.{Token, row_start}
 use Rattle.flow_list.specs.Column.{ColumnLine}
 use Rattle.flow_list.specs.RowHeights.{size_of, row_height, balanced_fits}
 use Rattle.flow_list.specs.Ranges.{Reason, tall, area, left, bad, over, Range}
 use Rattle.flow_list.specs.Tree.{tree_of}
 use Rattle.flow_list.specs.TreeText.{spaced, token_text, tree_line_words}
-use Rattle.flow_list.specs.Certificate.{Use, same_use, Entry, size_entry, row_entry, auto_entry, StackRow, size_ranges, row_ranges, range_owned, certificate, book_of}
+use Rattle.flow_list.specs.Certificate.{Use, same_use, Entry, size_entry, row_entry, auto_entry, size_ranges, row_ranges, range_owned, certificate, book_of}
 
 -- a line of words, with a space between each two
 abbrev pub line_words : List (List ℕ) → List ℕ

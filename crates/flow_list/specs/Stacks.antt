@@ -1,6 +1,6 @@
 -- Stacks: flows that are laid outside any columns, in one column without end (CSS 2.1, section 9.4.1; that breaks have no effect there is
 -- this project's own).
-use Rattle.std.specs.Prelude.{ℕ, zero, suc, ◌+◌, ◌-◌, ◌==◌, max, Bool, true, false, cond, length, Option, Some, None}
+use Rattle.std.specs.Prelude.{ℕ, zero, suc, ◌+◌, ◌-◌, ◌==◌, max, false, cond, length, Option, Some, None}
 use Rattle.flow_list.specs.declared.data.Bound.{Bound}
 use Rattle.flow_list.specs.declared.data.Bound.TheVariants.{Free, Each, Left}
 use Rattle.flow_list.specs.declared.data.Flow.{Flow}

@@ -1,6 +1,6 @@
 -- The tree of a layout: a line for each stack, row, column, box and item, with its rectangle from the document's top left (this project's
 -- own; places and sizes are those of CSS 2.1, chapter 10, and CSS Multi-column 1, section 3.4).
-use Rattle.std.specs.Prelude.{ℕ, zero, suc, ◌+◌, ◌-◌, ◌*◌, max, Bool, true, false, List, [], ◌∷◌, ◌++◌, length, Option, Some, None, is_some}
+use Rattle.std.specs.Prelude.{ℕ, zero, suc, ◌+◌, ◌-◌, ◌*◌, max, Bool, List, [], ◌∷◌, ◌++◌, length, Option, Some, None, is_some}
 use Rattle.mc_base.specs.PlainTree.{PlainTree, PlainTrees, atom as atom_tree, piece, row_piece, column as column_tree, no_trees, more_trees}
 use Rattle.flow_list.specs.declared.data.AtomKind.{AtomKind}
 use Rattle.flow_list.specs.declared.data.AtomKind.TheVariants.{Plain, Line, Void, Image, Bounded}
