@@ -11,7 +11,7 @@ use Rattle.flow_list.specs.declared.data.Item.TheVariants.{Atom, Row}
 use Rattle.flow_list.specs.Flows.{flow_in, item_of, seam_of, no_item}
 use Rattle.flow_list.specs.Tokens.{Token, row_start, item_number, within, is_end}
 use Rattle.flow_list.specs.Strip.{Strip, lay_all}
-use Rattle.flow_list.specs.Column.{Column, Filled, Inner, Step, Place, Cut, cut, longer, step_at, steps, steps_from, start_strip, strip_behind, is_forced, row_from, fill_in_room, room, seams_before, seams_between, inside, inside_place, alone_place, whole_place, is_cut, best, choose, last_place, no_place, column, column_over, column_up_to, avoids_at}
+use Rattle.flow_list.specs.Column.{Filled, Inner, Step, Place, Cut, cut, longer, steps, steps_from, start_strip, strip_behind, is_forced, row_from, fill_in_room, room, seams_before, seams_between, inside, inside_place, alone_place, whole_place, is_cut, best, choose, last_place, no_place, column, column_over, column_up_to, avoids_at}
 use Rattle.flow_list.specs.Rows.{item_left, items_left, left_in}
 use Rattle.flow_laws.specs.Progress.{IsPlaceBefore, AtomAt, Contents, item_atoms, atoms_of_items, atoms_in, EndsWith}
 

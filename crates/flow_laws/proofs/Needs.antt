@@ -1,19 +1,17 @@
 -- What a column's items need in a sound flow: never less than the item before, never less than their atoms are high, and an atom never
 -- less than after an unforced break.
-use Rattle.std.proofs.Common.{◌≡◌, ℕ, zero, suc, ◌+◌, ◌-◌, ◌<◌, ◌≤◌, ◌==◌, ◌||◌, Bool, true, false, cond, not, List, [], ◌∷◌, ◌++◌, length, take, drop, get_or, Option, Some, None, refl, sym, subst, ◌∙◌, ap, arith, sum_by, add-one}
+use Rattle.std.proofs.Common.{◌≡◌, ℕ, zero, suc, ◌+◌, ◌-◌, ◌<◌, ◌≤◌, ◌==◌, ◌||◌, Bool, true, false, not, List, [], ◌∷◌, length, Some, None, refl, subst, arith, sum_by, add-one}
 use Rattle.std.specs.Prelude.{slice_get}
 use Rattle.std.specs.List.{flat_map}
-use Rattle.std.proofs.lemmas.List.Sums.{sum_by-cons}
-use Rattle.std.proofs.lemmas.List.{drop_more}
 use Rattle.flow_list.specs.declared.data.Flow.{Flow}
 use Rattle.flow_list.specs.declared.data.FlowsData.{FlowsData}
 use Rattle.flow_list.specs.declared.data.Item.{Item}
 use Rattle.flow_list.specs.declared.data.Item.TheVariants.{Atom, Row}
-use Rattle.flow_list.specs.declared.data.Edge.TheVariants.{Start, End, Solid}
+use Rattle.flow_list.specs.declared.data.Edge.TheVariants.{End, Solid}
 use Rattle.flow_list.specs.Atoms.{IsAtom}
-use Rattle.flow_list.specs.Flows.{box_of, item_of, seam_of, no_item, no_seam, atom_height, started, ended, open_at}
+use Rattle.flow_list.specs.Flows.{box_of, item_of, seam_of, no_seam, atom_height, started, open_at}
 use Rattle.flow_list.specs.ClonedEdges.{open_across, tops, bottoms}
-use Rattle.flow_list.specs.Soundness.{IsSoundFlow, IsSoundSeam}
+use Rattle.flow_list.specs.Soundness.{IsSoundFlow}
 use Rattle.flow_list.specs.Tokens.{Token, row_start, item_number, within}
 use Rattle.flow_list.specs.Strip.{Strip, strip_at, put, lay_all}
 use Rattle.flow_list.specs.Column.{Inner, Step, height_of, row_from, strip_behind, step_at, steps, steps_from, start_strip, unforced_start, loose_need, is_forced}

@@ -1,18 +1,18 @@
 -- What a flow may need at most: the cloned edges of open boxes, and the edges and items from a place on.
-use Rattle.std.proofs.Common.{◌≡◌, ℕ, zero, suc, ◌+◌, ◌-◌, ◌<◌, ◌≤◌, ◌==◌, ◌||◌, Bool, true, false, cond, not, List, [], ◌∷◌, ◌++◌, length, take, drop, refl, sym, ◌∙◌, ap, arith, sum_by, get_or, add-one, add-zero, filter}
+use Rattle.std.proofs.Common.{◌≡◌, ℕ, zero, suc, ◌+◌, ◌-◌, ◌<◌, ◌≤◌, ◌==◌, ◌||◌, Bool, true, false, cond, not, List, [], ◌∷◌, ◌++◌, length, take, drop, refl, sym, ◌∙◌, ap, arith, sum_by, get_or, add-one, filter}
 use Rattle.std.specs.List.{flat_map}
-use Rattle.std.proofs.lemmas.List.{take-append-drop, drop_more, drop-drop}
+use Rattle.std.proofs.lemmas.List.{take-append-drop, drop-drop}
 use Rattle.std.proofs.lemmas.List.Sums.{sum_by-cons, sum_by-append}
-use Rattle.std.proofs.lemmas.Grind.{flat_map-append, common_steps}
+use Rattle.std.proofs.lemmas.Grind.{flat_map-append}
 use Rattle.flow_list.specs.declared.data.Flow.{Flow}
 use Rattle.flow_list.specs.declared.data.FlowsData.{FlowsData}
 use Rattle.flow_list.specs.declared.data.Item.{Item}
 use Rattle.flow_list.specs.declared.data.Seam.{Seam}
-use Rattle.flow_list.specs.Flows.{box_of, item_of, seam_of, no_seam, no_item, amount, starts_in, ends_in, ended, is_among, open_at, boxes_in}
+use Rattle.flow_list.specs.Flows.{item_of, seam_of, no_seam, no_item, amount, starts_in, ends_in, ended, is_among, open_at, boxes_in}
 use Rattle.flow_list.specs.ClonedEdges.{open_across, tops, bottoms}
 use Rattle.flow_list.specs.Tokens.{Token, row_start, item_number, within}
 use Rattle.flow_list.specs.Strip.{Strip, strip_at, put, lay_all}
-use Rattle.flow_list.specs.Column.{Inner, Step, height_of, strip_behind, step_at, steps, is_forced, start_strip, steps_from}
+use Rattle.flow_list.specs.Column.{Inner, Step, height_of, strip_behind, steps, is_forced, start_strip, steps_from}
 use Rattle.flow_list.specs.Rows.{heights_from, amounts_in, reach}
 use Rattle.flow_laws.proofs.Strips.{put_le, lay_all_le}
 

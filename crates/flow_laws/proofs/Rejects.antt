@@ -1,27 +1,27 @@
 -- No height fits that is below what an atom needs, nor one at which the columns can't hold the atoms.
-use Rattle.std.proofs.Common.{◌≡◌, ℕ, zero, suc, ◌+◌, ◌-◌, ◌*◌, ◌<◌, ◌≤◌, max, Bool, true, false, cond, not, ◌&&◌, ◌||◌, List, [], ◌∷◌, ◌++◌, length, take, drop, get_or, Option, Some, None, refl, sym, subst, ◌∙◌, ap, arith, sum_by, add-one, ◌⊎◌, inl, inr}
+use Rattle.std.proofs.Common.{◌≡◌, ℕ, zero, suc, ◌+◌, ◌-◌, ◌*◌, ◌<◌, ◌≤◌, Bool, true, false, cond, not, ◌&&◌, ◌||◌, List, [], ◌∷◌, ◌++◌, length, take, drop, get_or, Option, Some, None, refl, sym, subst, ◌∙◌, ap, arith, sum_by, ◌⊎◌, inl, inr}
 use Rattle.std.specs.Prelude.{nat_lt, nat_le}
 use Rattle.std.specs.List.{list_any}
 use Rattle.std.proofs.lemmas.Bool.Decides.{nat_tests}
 use Rattle.std.proofs.lemmas.Bool.{cases_lt, cases_order}
 use Rattle.std.proofs.lemmas.List.{drop_more, drop-drop, drop_all, get_or-drop}
-use Rattle.std.proofs.lemmas.List.Sums.{sum_by-cons, sum_by-take-drop, sum_by-drop_more}
+use Rattle.std.proofs.lemmas.List.Sums.{sum_by-cons, sum_by-take-drop}
 use Rattle.std.proofs.Math.Nat.{suc-mul}
 use Rattle.flow_list.specs.declared.data.Flow.{Flow}
 use Rattle.flow_list.specs.declared.data.FlowsData.{FlowsData}
 use Rattle.flow_list.specs.declared.data.Item.{Item}
 use Rattle.flow_list.specs.declared.data.Item.TheVariants.{Atom, Row}
 use Rattle.flow_list.specs.Atoms.{IsAtom}
-use Rattle.flow_list.specs.Flows.{row_of, flow_of, flow_in, item_of, seam_of, no_item, no_flow, no_row, atom_height}
-use Rattle.flow_list.specs.Soundness.{IsSound, IsSoundFlow, IsSoundRow}
+use Rattle.flow_list.specs.Flows.{row_of, flow_in, item_of, seam_of, no_item, no_flow, no_row, atom_height}
+use Rattle.flow_list.specs.Soundness.{IsSound, IsSoundFlow}
 use Rattle.flow_list.specs.Strip.{Strip, lay_all}
 use Rattle.flow_list.specs.Tokens.{Token, row_start, item_number, within, is_end}
-use Rattle.flow_list.specs.Column.{Column, Filled, Inner, Step, Place, Cut, cut, longer, step_at, steps, strip_behind, is_forced, start_strip, steps_from, seams_before, seams_between, inside, inside_place, alone_place, whole_place, is_cut, room, best, choose, last_place, no_place, fill_in_room, column, column_over, column_up_to, avoids_at, loose_need}
-use Rattle.flow_list.specs.Rows.{columns, columns_by, end_of, fits, fails, reach_end, most_columns, rows_to, all_rows}
-use Rattle.flow_laws.specs.Progress.{IsPlaceBefore, IsLater}
+use Rattle.flow_list.specs.Column.{Column, Inner, Step, Place, Cut, cut, longer, step_at, steps, strip_behind, is_forced, start_strip, steps_from, seams_before, seams_between, inside, inside_place, alone_place, whole_place, is_cut, room, best, choose, last_place, no_place, fill_in_room, column, column_over, column_up_to, avoids_at, loose_need}
+use Rattle.flow_list.specs.Rows.{columns, end_of, fits, fails, most_columns, all_rows}
+use Rattle.flow_laws.specs.Progress.{IsPlaceBefore}
 use Rattle.flow_laws.specs.Rejection.{TallAndAreaReject}
 use Rattle.flow_laws.proofs.Needs.{IsGoodStep, AreGoodSteps, column-steps, in-items}
-use Rattle.flow_laws.proofs.RowsAdvance.{by-end, by-cons, by-zero, column-is-later, not-before}
+use Rattle.flow_laws.proofs.RowsAdvance.{by-cons, by-zero, column-is-later, not-before}
 
 -- the heights of the atoms among n items from item k on
 heights : Flow → ℕ → ℕ → ℕ

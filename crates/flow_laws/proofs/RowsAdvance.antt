@@ -1,22 +1,21 @@
 -- Columns advance in rows, and in rows within rows: by how many of them stand one inside another.
-use Rattle.std.proofs.Common.{◌≡◌, ℕ, zero, suc, ◌+◌, ◌-◌, ◌<◌, ◌≤◌, Bool, true, false, cond, List, [], ◌∷◌, ◌++◌, length, take, drop, get_or, refl, sym, subst, ◌∙◌, ap, arith, ◌⊎◌, inl, inr, length-append}
-use Rattle.std.specs.Prelude.{nat_lt, nat_le, All}
+use Rattle.std.proofs.Common.{◌≡◌, ℕ, zero, suc, ◌+◌, ◌-◌, ◌<◌, ◌≤◌, Bool, true, false, List, [], ◌∷◌, ◌++◌, length, drop, refl, sym, subst, ◌∙◌, ap, arith, ◌⊎◌, inl, inr, length-append}
+use Rattle.std.specs.Prelude.{All}
 use Rattle.std.specs.List.{flat_map}
 use Rattle.std.proofs.lemmas.Bool.Decides.{nat_tests}
-use Rattle.std.proofs.lemmas.List.{drop_all, take-append-le}
+use Rattle.std.proofs.lemmas.List.{drop_all}
 use Rattle.std.proofs.Math.Seq.{take-append_seam}
 use Rattle.flow_list.specs.declared.data.Flow.{Flow}
 use Rattle.flow_list.specs.declared.data.FlowsData.{FlowsData}
 use Rattle.flow_list.specs.declared.data.Item.{Item}
 use Rattle.flow_list.specs.declared.data.Item.TheVariants.{Atom, Row}
-use Rattle.flow_list.specs.Flows.{row_of, flow_of, flow_in, item_of, row_in, rows_in, no_flow, no_row}
-use Rattle.flow_list.specs.Tokens.{Token, row_start, item_number, within, is_end}
+use Rattle.flow_list.specs.Flows.{row_of, flow_in, row_in, rows_in, no_flow, no_row}
+use Rattle.flow_list.specs.Tokens.{Token, item_number, within, is_end}
 use Rattle.flow_list.specs.Column.{Column, Filled, Inner, column}
 use Rattle.flow_list.specs.Rows.{columns, columns_by, end_of, left_in, items_left, fill_in, filled_by, rows_to, all_rows}
-use Rattle.flow_list.specs.Soundness.{IsSound, IsSoundItem, IsSoundFlow, IsSoundRow, IsInnerRow, NestsAtMost}
-use Rattle.flow_laws.specs.Depth.{ToldAlike}
-use Rattle.flow_laws.specs.Progress.{IsPlaceBefore, AtomAt, Contents, atoms_of_items, atoms_in, contents_to, atoms_from, atoms_between, held_by, EndsWith, IsLater, ColumnsAdvance}
-use Rattle.flow_laws.proofs.Advance.{ends-trans, item_left-some, FillMoves, RowMoves, ItemMoves, ItemsMove, Later, column-later}
+use Rattle.flow_list.specs.Soundness.{IsSound, IsSoundItem, NestsAtMost}
+use Rattle.flow_laws.specs.Progress.{IsPlaceBefore, AtomAt, Contents, contents_to, atoms_from, atoms_between, held_by, IsLater, ColumnsAdvance}
+use Rattle.flow_laws.proofs.Advance.{ends-trans, item_left-some, FillMoves, RowMoves, ItemsMove, Later, column-later}
 use Rattle.flow_laws.proofs.DepthSame.{told-alike}
 
 -- ---- what sound data says of rows

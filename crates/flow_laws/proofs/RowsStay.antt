@@ -1,13 +1,13 @@
 -- Breaks stay over a range in the columns of rows, and of rows within rows.
-use Rattle.std.proofs.Common.{◌≡◌, ℕ, zero, suc, ◌<◌, ◌≤◌, max, Bool, true, false, cond, not, ◌&&◌, ◌||◌, List, [], ◌∷◌, refl, ap}
+use Rattle.std.proofs.Common.{◌≡◌, ℕ, zero, suc, ◌≤◌, max, Bool, true, false, not, ◌&&◌, ◌||◌, List, [], ◌∷◌, refl, ap}
 use Rattle.std.specs.Prelude.{fold, nat_lt}
 use Rattle.std.specs.List.{list_any, flat_map}
 use Rattle.flow_list.specs.declared.data.Flow.{Flow}
 use Rattle.flow_list.specs.declared.data.FlowsData.{FlowsData}
 use Rattle.flow_list.specs.Flows.{row_of, flow_in}
 use Rattle.flow_list.specs.Tokens.{Token, is_end}
-use Rattle.flow_list.specs.Column.{Column, Filled, Inner, column, steps_from, avoids_at}
-use Rattle.flow_list.specs.Rows.{columns, columns_by, end_of, fits, fails, most_columns, up_to, filled_by, fill_in, rows_to}
+use Rattle.flow_list.specs.Column.{Column, Inner, column, steps_from, avoids_at}
+use Rattle.flow_list.specs.Rows.{columns, columns_by, end_of, fits, fails, most_columns, up_to, fill_in, rows_to}
 use Rattle.flow_list.specs.Ranges.{judged, bounds_of}
 use Rattle.flow_laws.specs.Constant.{IsBelowEach, ColumnStays, ColumnsStay, FillStays, FillsStay, BreaksAreConstant}
 use Rattle.flow_laws.proofs.StopStays.{over-stays, IsBelowEach-append}

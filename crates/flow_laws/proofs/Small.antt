@@ -1,30 +1,25 @@
 -- Sizes, needs and extents are no more than all that stands in a row.
-use Rattle.std.proofs.Common.{◌≡◌, ℕ, zero, suc, ◌+◌, ◌-◌, ◌<◌, ◌≤◌, ◌==◌, ◌^◌, Bool, true, false, cond, not, ◌&&◌, List, [], ◌∷◌, ◌++◌, length, drop, get_or, Option, Some, None, refl, sym, subst, ◌∙◌, ap, arith, sum_by, filter, ◌⊎◌, inl, inr}
+use Rattle.std.proofs.Common.{◌≡◌, ℕ, zero, suc, ◌+◌, ◌-◌, ◌<◌, ◌≤◌, ◌^◌, Bool, true, false, cond, not, ◌&&◌, List, [], ◌∷◌, ◌++◌, length, drop, get_or, Option, Some, None, refl, arith, sum_by}
 use Rattle.std.specs.Prelude.{All, nat_lt, nat_le}
 use Rattle.std.specs.List.{flat_map}
-use Rattle.std.proofs.lemmas.Bool.{cases_lt}
 use Rattle.std.proofs.lemmas.Bool.Decides.{nat_tests}
-use Rattle.std.proofs.lemmas.List.{drop_all}
 use Rattle.std.proofs.lemmas.List.Sums.{sum_by-cons}
-use Rattle.flow_list.specs.declared.data.Edge.{Edge}
 use Rattle.flow_list.specs.declared.data.Flow.{Flow}
 use Rattle.flow_list.specs.declared.data.FlowsData.{FlowsData}
 use Rattle.flow_list.specs.declared.data.Item.{Item}
 use Rattle.flow_list.specs.declared.data.Item.TheVariants.{Atom, Row}
-use Rattle.flow_list.specs.Flows.{box_of, row_of, flow_in, item_of, seam_of, row_in, rows_in, no_row, no_flow, amount, atom_height, boxes_in, open_at}
-use Rattle.flow_list.specs.ClonedEdges.{open_across, tops, bottoms}
+use Rattle.flow_list.specs.Flows.{box_of, row_of, flow_in, item_of, seam_of, row_in, rows_in, no_row, no_flow, atom_height, boxes_in, open_at}
+use Rattle.flow_list.specs.ClonedEdges.{open_across, bottoms}
 use Rattle.flow_list.specs.Soundness.{IsSound, IsSoundFlow, NestsAtMost, flow_height}
 use Rattle.flow_list.specs.Tokens.{Token, row_start, item_number, within}
 use Rattle.flow_list.specs.Strip.{Strip, strip_at, put, lay_all}
-use Rattle.flow_list.specs.Column.{Column, Filled, Inner, Step, Place, Cut, cut, longer, height_of, strip_behind, step_at, steps, steps_from, start_strip, is_forced, tail_from, inside, inside_place, alone_place, whole_place, is_cut, room, best, choose, seams_before, seams_between, last_place, no_place, fill_in_room, column, column_over, column_up_to, avoids_at}
+use Rattle.flow_list.specs.Column.{Filled, Inner, Step, Place, Cut, cut, longer, height_of, strip_behind, steps, steps_from, start_strip, is_forced, tail_from, inside, inside_place, alone_place, whole_place, is_cut, room, best, choose, seams_before, seams_between, last_place, no_place, fill_in_room, column, column_up_to, avoids_at}
 use Rattle.flow_list.specs.Rows.{heights_from, amounts_in, reach, size_in, fits, rows_to, all_rows, least}
 use Rattle.flow_list.specs.RowHeights.{size_of}
 use Rattle.flow_laws.specs.Bounds.{NeedsRise, NeedsAreSmall, NeedsAndBounds}
-use Rattle.flow_laws.specs.LeastHeight.{IsLeast}
-use Rattle.flow_laws.specs.Progress.{IsPlaceBefore}
 use Rattle.flow_laws.proofs.Strips.{put_le, lay_all_le}
 use Rattle.flow_laws.proofs.Reach.{open_at-le, open_across-le, amounts-more, amounts-drop-le, heights-more, start-le}
-use Rattle.flow_laws.proofs.Needs.{IsGoodStep, AreGoodSteps, column-steps, in-items}
+use Rattle.flow_laws.proofs.Needs.{AreGoodSteps, column-steps, in-items}
 use Rattle.flow_laws.proofs.StopStays.{cut-room}
 use Rattle.flow_laws.proofs.RowsAdvance.{good-rows, nests-by-number}
 use Rattle.flow_laws.proofs.Totals.{total_within, total-more, total-same, total-le}

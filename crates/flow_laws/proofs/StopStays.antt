@@ -4,7 +4,7 @@ use Rattle.std.specs.Prelude.{nat_lt, nat_le, fold}
 use Rattle.std.proofs.lemmas.Bool.{lt-ltb, le-ltb}
 use Rattle.std.proofs.lemmas.Bool.Decides.{nat_tests}
 use Rattle.flow_list.specs.Tokens.{Token}
-use Rattle.flow_list.specs.Column.{ColumnLine, Column, Filled, Inner, Step, Place, Cut, cut, longer, seams_between, inside_place, room, is_cut, fill_in_room, inside, alone_place, whole_place, best, choose, deeper, bounds_at, column_to, stopped, column_up_to, column_over, fills, rows_among, inner_uses}
+use Rattle.flow_list.specs.Column.{ColumnLine, Column, Filled, Inner, Step, Place, Cut, cut, longer, seams_between, inside_place, room, is_cut, fill_in_room, whole_place, best, choose, deeper, bounds_at, column_to, stopped, column_up_to, column_over}
 use Rattle.flow_laws.specs.Constant.{IsBelowEach, ColumnStays, FillStays, FillsStay}
 
 -- ---- the stop

@@ -1,7 +1,7 @@
 -- All that stands in a row, with what stands in the rows within it, is no higher than all flows together: each flow belongs to one row
 -- or stack, and each row to one item.
-use Rattle.std.proofs.Common.{◌≡◌, ℕ, zero, suc, ◌+◌, ◌-◌, ◌<◌, ◌≤◌, ◌==◌, ◌≢◌, ◌^◌, Bool, true, false, cond, List, [], ◌∷◌, ◌++◌, map, length, get_or, refl, sym, subst, ◌∙◌, ap, arith, sum_by, ◌⊎◌, inl, inr, zero-add}
-use Rattle.std.specs.Prelude.{All, count_by}
+use Rattle.std.proofs.Common.{◌≡◌, ℕ, zero, suc, ◌+◌, ◌-◌, ◌<◌, ◌≤◌, ◌==◌, ◌≢◌, Bool, true, false, cond, List, [], ◌∷◌, ◌++◌, map, length, get_or, refl, subst, ◌∙◌, ap, arith, sum_by, ◌⊎◌, inl, inr, zero-add}
+use Rattle.std.specs.Prelude.{All}
 use Rattle.std.specs.List.{flat_map}
 use Rattle.std.proofs.lemmas.Bool.Decides.{nat_tests}
 use Rattle.std.proofs.lemmas.Bool.{cases_lt}
@@ -11,9 +11,9 @@ use Rattle.flow_list.specs.declared.data.FlowsData.{FlowsData}
 use Rattle.flow_list.specs.declared.data.RowInfo.{RowInfo}
 use Rattle.flow_list.specs.declared.data.Stack.{Stack}
 use Rattle.flow_list.specs.Flows.{row_of, flow_of, flow_in, rows_in, no_flow, no_row}
-use Rattle.flow_list.specs.Soundness.{IsSound, IsSoundRow, NestsAtMost, IsInnerRow, count_of, flow_owners, flow_height}
+use Rattle.flow_list.specs.Soundness.{IsSound, NestsAtMost, count_of, flow_owners, flow_height}
 use Rattle.flow_list.proofs.OpenBoxes.{sum-less}
-use Rattle.flow_laws.proofs.RowsAdvance.{IsGoodRow, good-rows, nests-by-number}
+use Rattle.flow_laws.proofs.RowsAdvance.{good-rows, nests-by-number}
 
 -- ---- sums
 

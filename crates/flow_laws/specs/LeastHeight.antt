@@ -1,6 +1,6 @@
 -- The size of a row is the least height that fits it (this project's own; CSS Multi-column 1, section 7.1, leaves the height
 -- of balanced columns open).
-use Rattle.std.specs.Prelude.{◌≡◌, ℕ, ◌<◌, ◌≤◌, ◌+◌, Bool, true, false, List, [], ◌∷◌, length, ◌⊎◌}
+use Rattle.std.specs.Prelude.{◌≡◌, ℕ, ◌<◌, ◌≤◌, Bool, true, false, [], ◌∷◌, length, ◌⊎◌}
 use Rattle.flow_list.specs.declared.data.Flow.{Flow}
 use Rattle.flow_list.specs.declared.data.FlowsData.{FlowsData}
 use Rattle.flow_list.specs.Flows.{flow_in, seam_of}

@@ -7,7 +7,6 @@ use Rattle.flow_list.specs.Atoms.{IsAtom}
 use Rattle.flow_list.specs.Tokens.{Token, item_number}
 use Rattle.flow_list.specs.Column.{loose_need}
 use Rattle.flow_list.specs.Rows.{fits, most_columns, all_rows}
-use Rattle.flow_laws.specs.Progress.{IsPlaceBefore}
 
 -- The law, of row r of sound flows from a place on.
 pub record TallAndAreaReject (d : FlowsData) (r : ℕ) (q : Token) : Type 0 where
