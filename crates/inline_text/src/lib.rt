@@ -4,6 +4,8 @@
 //! opportunities; `collapse` and `opportunities` are proved to be exactly that.
 #![tactic(auto)]
 
+mod collapsing;
 mod content;
 
+pub use collapsing::collapse;
 pub use content::{Kind, Piece, RunStyle, Runs};
