@@ -70,7 +70,7 @@ collapsed_stands styles before (piece ∷ after) =
 
 -- White space that collapses stands between content alone.
 
-reversed_onto : (x : Piece) (front before : List Piece) → reverse front ++ (x ∷ before) ≡ reverse (x ∷ front) ++ before
+pub reversed_onto : (x : Piece) (front before : List Piece) → reverse front ++ (x ∷ before) ≡ reverse (x ∷ front) ++ before
 reversed_onto x front before =
     sym (ap (λ r. r ++ before) (reverse-append (x ∷ []) front) ∙ append_assoc (reverse front) (x ∷ []) before)
 

@@ -2,11 +2,12 @@
 
 ghost use Rattle.std.specs.Prelude.{◌≡◌, ◌++◌, ◌&&◌, filter, OnOk, IfOk};
 ghost use Rattle.inline_text.specs.WhiteSpace.{
-    HasStyles, IsCollapsed, SpacesStandBetween, collapsed, content_or, is_no_space, is_white, keeps, kept, kind_of,
+    HasStyles, IsCollapsed, SpacesStandBetween, collapsed, content_or, is_no_space, is_white, kept, kind_of,
     piece_becomes, precedes_content,
 };
 
 use crate::content::{Kind, Piece, RunStyle, Runs};
+use crate::styles::keeps_white_space;
 use mc_base::{List, NoMemory};
 use std::alloc::{AllocError, Global};
 
@@ -152,14 +153,4 @@ fn is_white_space(ch: char) -> bool
     ensures { result ≡ is_white ch }
 {
     ch == ' ' || ch == '\t' || ch == '\n'
-}
-
-/// Whether a style keeps its white space.
-fn keeps_white_space(styles: &[RunStyle], style: u32) -> bool
-    ensures { result ≡ keeps styles.now style }
-{
-    match styles.get(style as usize) {
-        Some(style) => style.keep,
-        None => false,
-    }
 }

@@ -6,6 +6,9 @@
 
 mod collapsing;
 mod content;
+mod places;
+mod styles;
 
 pub use collapsing::collapse;
 pub use content::{Kind, Piece, RunStyle, Runs};
+pub use places::opportunities;
