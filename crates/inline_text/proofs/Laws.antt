@@ -3,7 +3,7 @@ use Rattle.std.proofs.Common.{◌≡◌, ℕ, ◌<◌, Bool, true, false, ◌&&�
 use Rattle.std.specs.List.{AllByRecursion}
 use Rattle.std.proofs.lemmas.Bool.{and_parts, eqb-true}
 use Rattle.std.proofs.lemmas.List.{reverse-append, reverse-reverse, append-nil}
-use Rattle.std.proofs.lemmas.List.Elements.{filter-append}
+use Rattle.std.proofs.lemmas.List.Elements.{filter-append, All-from_recursion, recursion_from_All}
 use Rattle.inline_text.specs.declared.content.Piece.{Piece}
 use Rattle.inline_text.specs.declared.content.Piece.TheVariants.{Char, Image, Forced, Chance}
 use Rattle.inline_text.specs.declared.content.RunStyle.{RunStyle}
@@ -106,7 +106,9 @@ of_collapsed P runs answer same_pieces same_styles h =
         (subst (λ (styles : List RunStyle). P (record { pieces = collapsed runs; styles = styles })) (sym same_styles) h)
 
 pub answer_in_range : (runs answer : Runs) → answer.pieces ≡ collapsed runs → answer.styles ≡ runs.styles → HasStyles runs → HasStyles answer
-answer_in_range runs answer p s h = of_collapsed HasStyles runs answer p s (collapsed_has runs.styles [] runs.pieces h)
+answer_in_range runs answer p s h = 
+    of_collapsed HasStyles runs answer p s
+        (All-from_recursion (HasStyle runs.styles) (collapsed runs) (collapsed_has runs.styles [] runs.pieces (recursion_from_All (HasStyle runs.styles) runs.pieces h)))
 
 pub answer_settled : (runs answer : Runs) → answer.pieces ≡ collapsed runs → answer.styles ≡ runs.styles → IsCollapsed answer
 answer_settled runs answer p s = of_collapsed IsCollapsed runs answer p s (settled_once runs.styles runs.pieces)

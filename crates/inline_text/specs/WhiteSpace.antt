@@ -1,7 +1,7 @@
 -- How white space collapses (CSS 2.1, section 16.6.1): space, tab and line feed, by the style of each character. A piece
 -- of a run is seen between the pieces before it, the nearest first, and the pieces after it.
 use Rattle.std.specs.Prelude.{ℕ, ◌≡◌, ◌<◌, Bool, true, false, ◌||◌, ◌&&◌, ◌==◌, List, [], ◌∷◌, ◌++◌, length, Option, Some, None, IsTrue, not, filter, replicate, reverse, slice_get, if◌then◌else◌}
-use Rattle.std.specs.List.{AllByRecursion}
+use Rattle.std.specs.List.{All}
 use Rattle.inline_text.specs.declared.content.Piece.{Piece}
 use Rattle.inline_text.specs.declared.content.Piece.TheVariants.{Char, Image, Forced, Chance}
 use Rattle.inline_text.specs.declared.content.RunStyle.{RunStyle}
@@ -18,7 +18,7 @@ HasStyle styles Chance = Unit {0}
 
 -- the styles that the pieces of a run name are there
 abbrev pub HasStyles : Runs → Type 0
-HasStyles runs = AllByRecursion (HasStyle runs.styles) runs.pieces
+HasStyles runs = All (HasStyle runs.styles) runs.pieces
 
 abbrev kept_by : Option RunStyle → Bool
 kept_by None = false
