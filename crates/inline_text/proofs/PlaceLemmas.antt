@@ -32,5 +32,5 @@ pub place_at : (runs : Runs) (k : ℕ) → k < length runs.pieces → slice_get 
 place_at runs k h =
     let next : suc k ≡ k + 1 = omega arith in
     subst (λ (n : ℕ). slice_get (opportunities_behind runs.styles [] runs.pieces) k ≡ Some (is_opportunity runs.styles (reverse (take n runs.pieces)) (drop n runs.pieces))) next
-        (place_behind runs.styles [] runs.pieces k h
-        ∙ ap (λ b. Some (is_opportunity runs.styles b (drop (suc k) runs.pieces))) (append-nil (reverse (take (suc k) runs.pieces))))
+    (place_behind runs.styles [] runs.pieces k h
+    ∙ ap (λ b. Some (is_opportunity runs.styles b (drop (suc k) runs.pieces))) (append-nil (reverse (take (suc k) runs.pieces))))

@@ -27,12 +27,12 @@ by_test b P yes_ no_ = elim b as (λ v. (v ≡ true → P true) → (v ≡ false
 char_precedes : (styles : List RunStyle) (ch style : ℕ) (stays : Bool) (rest : List Piece) (keep : Bool) → keeps styles style ≡ keep → precedes_content styles (char_becomes keep ch style stays ++ rest) ≡ content_behind (kind_of_char keep ch) (precedes_content styles rest)
 char_precedes styles ch style stays rest true e =
     by_test (ch == 10) (λ t. precedes_content styles (cond t (Forced ∷ []) (cond (ch == 9) (replicate 8 (Char 32 style)) (Char ch style ∷ [])) ++ rest) ≡ content_behind (cond t Break Content) (precedes_content styles rest))
-        (λ _. refl)
-        (λ no10. by_test (ch == 9) (λ t. precedes_content styles (cond t (replicate 8 (Char 32 style)) (Char ch style ∷ []) ++ rest) ≡ true) (λ _. rw e refl) (λ _. rw (e, no10) refl))
+    (λ _. refl)
+    (λ no10. by_test (ch == 9) (λ t. precedes_content styles (cond t (replicate 8 (Char 32 style)) (Char ch style ∷ []) ++ rest) ≡ true) (λ _. rw e refl) (λ _. rw (e, no10) refl))
 char_precedes styles ch style stays rest false e =
     by_test (is_white ch) (λ t. precedes_content styles (cond t (cond stays (Char 32 style ∷ []) []) (Char ch style ∷ []) ++ rest) ≡ content_behind (cond t Space Content) (precedes_content styles rest))
-        (λ _. by_test stays (λ s. precedes_content styles (cond s (Char 32 style ∷ []) [] ++ rest) ≡ precedes_content styles rest) (λ _. rw e refl) (λ _. refl))
-        (λ no_white. rw (e, no_white) refl)
+    (λ _. by_test stays (λ s. precedes_content styles (cond s (Char 32 style ∷ []) [] ++ rest) ≡ precedes_content styles rest) (λ _. rw e refl) (λ _. refl))
+    (λ no_white. rw (e, no_white) refl)
 
 piece_precedes : (styles : List RunStyle) (piece : Piece) (stays : Bool) (rest : List Piece) → precedes_content styles (piece_becomes styles piece stays ++ rest) ≡ content_behind (kind_of styles piece) (precedes_content styles rest)
 piece_precedes styles (Char ch style) stays rest = char_precedes styles ch style stays rest (keeps styles style) refl
@@ -61,23 +61,23 @@ char_settled : (styles : List RunStyle) (ch style : ℕ) (before after other res
     → (keep : Bool) → keeps styles style ≡ keep → Settled styles other (char_becomes keep ch style (follows_content styles before && precedes_content styles after) ++ rest)
 char_settled styles ch style before after other rest same follows settles true e =
     by_test (ch == 10) (λ t. Settled styles other (cond t (Forced ∷ []) (cond (ch == 9) (replicate 8 (Char 32 style)) (Char ch style ∷ [])) ++ rest))
-        (λ is10. (refl, settles (Forced ∷ other) (rw (e, is10) (λ h. h))))
-        (λ no10. by_test (ch == 9) (λ t. Settled styles other (cond t (replicate 8 (Char 32 style)) (Char ch style ∷ []) ++ rest))
-            (λ is9. (rw e refl, kept_spaces styles style rest e (λ next f. settles next (λ _. f)) 7 (Char 32 style ∷ other) (rw e refl)))
-            (λ no9. (rw (e, no10, no9) refl, settles (Char ch style ∷ other) (rw (e, no10) (λ _. refl)))))
+    (λ is10. (refl, settles (Forced ∷ other) (rw (e, is10) (λ h. h))))
+    (λ no10. by_test (ch == 9) (λ t. Settled styles other (cond t (replicate 8 (Char 32 style)) (Char ch style ∷ []) ++ rest))
+    (λ is9. (rw e refl, kept_spaces styles style rest e (λ next f. settles next (λ _. f)) 7 (Char 32 style ∷ other) (rw e refl)))
+    (λ no9. (rw (e, no10, no9) refl, settles (Char ch style ∷ other) (rw (e, no10) (λ _. refl)))))
 char_settled styles ch style before after other rest same follows settles false e =
     by_test (is_white ch) (λ t. Settled styles other (cond t (cond (follows_content styles before && precedes_content styles after) (Char 32 style ∷ []) []) (Char ch style ∷ []) ++ rest))
-        (λ white. by_test (follows_content styles before && precedes_content styles after) (λ s. Settled styles other (cond s (Char 32 style ∷ []) [] ++ rest))
-            (λ stays. let both : (follows_content styles before ≡ true) × (precedes_content styles after ≡ true) = and_parts _ _ stays in
-                (rw (e, follows both.0, same ∙ both.1) refl, settles (Char 32 style ∷ other) (rw (e, white) (λ h. absurd (cc)))))
-            (λ goes. settles other (rw (e, white) (λ h. absurd (cc)))))
-        (λ no_white. (rw (e, no_white) refl, settles (Char ch style ∷ other) (rw (e, no_white) (λ _. refl))))
+    (λ white. by_test (follows_content styles before && precedes_content styles after) (λ s. Settled styles other (cond s (Char 32 style ∷ []) [] ++ rest))
+    (λ stays. let both : (follows_content styles before ≡ true) × (precedes_content styles after ≡ true) = and_parts _ _ stays in
+    (rw (e, follows both.0, same ∙ both.1) refl, settles (Char 32 style ∷ other) (rw (e, white) (λ h. absurd (cc)))))
+    (λ goes. settles other (rw (e, white) (λ h. absurd (cc)))))
+    (λ no_white. (rw (e, no_white) refl, settles (Char ch style ∷ other) (rw (e, no_white) (λ _. refl))))
 
 pub settled : (styles : List RunStyle) (before other pieces : List Piece) → FollowsToo styles before other → Settled styles other (collapsed_behind styles before pieces)
 settled styles before other [] h = tt
 settled styles before other (Char ch style ∷ after) h =
     char_settled styles ch style before after other (collapsed_behind styles (Char ch style ∷ before) after) (precedes-collapsed styles (Char ch style ∷ before) after) h
-        (λ next f. settled styles (Char ch style ∷ before) next after f) (keeps styles style) refl
+    (λ next f. settled styles (Char ch style ∷ before) next after f) (keeps styles style) refl
 settled styles before other (Image w height style ∷ after) h = (refl, settled styles (Image w height style ∷ before) (Image w height style ∷ other) after (λ _. refl))
 settled styles before other (Forced ∷ after) h = (refl, settled styles (Forced ∷ before) (Forced ∷ other) after (λ f. f))
 settled styles before other (Chance ∷ after) h = (refl, settled styles (Chance ∷ before) (Chance ∷ other) after h)

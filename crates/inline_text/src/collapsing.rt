@@ -2,8 +2,17 @@
 
 ghost use Rattle.std.specs.Prelude.{◌≡◌, ◌++◌, ◌&&◌, filter, OnOk, IfOk};
 ghost use Rattle.inline_text.specs.WhiteSpace.{
-    HasStyles, IsCollapsed, SpacesStandBetween, collapsed, content_or, is_no_space, is_white, kept, kind_of,
-    piece_becomes, precedes_content,
+  HasStyles,
+  IsCollapsed,
+  SpacesStandBetween,
+  collapsed,
+  content_or,
+  is_no_space,
+  is_white,
+  kept,
+  kind_of,
+  piece_becomes,
+  precedes_content,
 };
 
 use crate::content::{Kind, Piece, RunStyle, Runs};
@@ -65,7 +74,7 @@ fn push_piece(
 ) -> Result<(), AllocError>
     ensures { OnOk result
         (pieces.new.items ≡ pieces.old.items
-            ++ piece_becomes styles.now piece.now (follows && precedes_content styles.now after.now)) }
+        ++ piece_becomes styles.now piece.now (follows && precedes_content styles.now after.now)) }
 {
     match *piece {
         Piece::Char { ch, style } => {
@@ -136,7 +145,11 @@ fn kind(styles: &[RunStyle], piece: &Piece) -> Kind
     match *piece {
         Piece::Char { ch, style } => {
             if keeps_white_space(styles, style) {
-                if ch == '\n' { Kind::Break } else { Kind::Content }
+                if ch == '\n' {
+                    Kind::Break
+                } else {
+                    Kind::Content
+                }
             } else if is_white_space(ch) {
                 Kind::Space
             } else {

@@ -2,7 +2,14 @@
 
 ghost use Rattle.std.specs.Prelude.{◌≡◌, ℕ, ◌+◌, ◌<◌, [], ◌&&◌, ◌||◌, IfOk, length, slice_get};
 ghost use Rattle.inline_text.specs.Opportunities.{
-    begins_with_image, begins_with_letter, is_image, letter_or, lets_break, opportunities_behind, opportunity_at, wrap_or,
+  begins_with_image,
+  begins_with_letter,
+  is_image,
+  letter_or,
+  lets_break,
+  opportunities_behind,
+  opportunity_at,
+  wrap_or,
 };
 
 use crate::content::{Piece, RunStyle, Runs};

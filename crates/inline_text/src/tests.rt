@@ -55,12 +55,11 @@ fn piece(ch: char, style: u32) -> Piece
 fn run(alloc: Global, text: &str) -> Result<Runs, AllocError>
     ensures { IfOk result HasStyles }
 {
-    let styles = vec![
-        in alloc;
+    let styles = vec![in alloc;
         style(true, false, true),
         style(false, true, true),
         style(false, false, true),
-        style(true, false, false)
+        style(true, false, false),
     ]?;
     let mut pieces = Vec::new(alloc);
     let mut style_now = 0;
