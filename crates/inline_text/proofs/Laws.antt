@@ -1,5 +1,5 @@
 -- What holds of the collapsed run.
-use Rattle.std.proofs.Common.{◌≡◌, ℕ, ◌<◌, Bool, true, false, ◌&&◌, ◌==◌, List, [], ◌∷◌, ◌++◌, IsTrue, length, refl, ap, sym, ◌∙◌, subst, cond, replicate, reverse, filter, not, zero, suc, append_assoc}
+use Rattle.std.proofs.Common.{◌≡◌, ℕ, Bool, true, false, ◌&&◌, ◌==◌, List, [], ◌∷◌, ◌++◌, refl, ap, sym, ◌∙◌, subst, cond, replicate, reverse, filter, not, append_assoc}
 use Rattle.std.specs.List.{AllByRecursion}
 use Rattle.std.proofs.lemmas.Bool.{and_parts, eqb-true}
 use Rattle.std.proofs.lemmas.List.{reverse-append, reverse-reverse, append-nil}
@@ -8,9 +8,8 @@ use Rattle.inline_text.specs.declared.content.Piece.{Piece}
 use Rattle.inline_text.specs.declared.content.Piece.TheVariants.{Char, Image, Forced, Chance}
 use Rattle.inline_text.specs.declared.content.RunStyle.{RunStyle}
 use Rattle.inline_text.specs.declared.content.Runs.{Runs}
-use Rattle.inline_text.specs.declared.content.Kind.{Kind}
-use Rattle.inline_text.specs.declared.content.Kind.TheVariants.{Space, Content, Break, Through}
-use Rattle.inline_text.specs.WhiteSpace.{HasStyle, keeps, is_white, kept, collapsed_char, char_becomes, kind_of_char, piece_becomes, kind_of, follows_content, precedes_content, becomes, collapsed_behind, is_no_space, SpacesStandBetween, HasStyles, IsCollapsed, collapsed}
+use Rattle.inline_text.specs.declared.content.Kind.TheVariants.{Space, Content, Break}
+use Rattle.inline_text.specs.WhiteSpace.{HasStyle, keeps, is_white, char_becomes, kind_of_char, piece_becomes, kind_of, follows_content, precedes_content, becomes, collapsed_behind, is_no_space, SpacesStandBetween, HasStyles, IsCollapsed, collapsed}
 use Rattle.inline_text.proofs.Settled.{Settled, settled, settled_once, by_test}
 
 -- Each style that the collapsed run names is there.

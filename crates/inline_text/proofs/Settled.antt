@@ -1,14 +1,11 @@
 -- A collapsed run is as it is after collapsing.
-use Rattle.std.proofs.Common.{◌≡◌, ℕ, Bool, true, false, ◌&&◌, ◌==◌, List, [], ◌∷◌, ◌++◌, IsTrue, refl, ap, sym, ◌∙◌, cond, replicate, reverse, zero, suc, filter, not}
-use Rattle.std.specs.List.{AllByRecursion}
+use Rattle.std.proofs.Common.{◌≡◌, ℕ, Bool, true, false, ◌&&◌, ◌==◌, List, [], ◌∷◌, ◌++◌, refl, ap, ◌∙◌, cond, replicate, zero, suc}
 use Rattle.std.proofs.lemmas.Bool.{and_parts}
-use Rattle.std.proofs.lemmas.List.Elements.{filter-append}
 use Rattle.inline_text.specs.declared.content.Piece.{Piece}
 use Rattle.inline_text.specs.declared.content.Piece.TheVariants.{Char, Image, Forced, Chance}
 use Rattle.inline_text.specs.declared.content.RunStyle.{RunStyle}
-use Rattle.inline_text.specs.declared.content.Kind.{Kind}
-use Rattle.inline_text.specs.declared.content.Kind.TheVariants.{Space, Content, Break, Through}
-use Rattle.inline_text.specs.WhiteSpace.{keeps, is_white, kept, collapsed_char, char_becomes, kind_of_char, piece_becomes, kind_of, content_or, content_behind, follows_content, precedes_content, becomes, collapsed_behind}
+use Rattle.inline_text.specs.declared.content.Kind.TheVariants.{Space, Content, Break}
+use Rattle.inline_text.specs.WhiteSpace.{keeps, is_white, char_becomes, kind_of_char, piece_becomes, kind_of, content_behind, follows_content, precedes_content, becomes, collapsed_behind}
 
 -- each of these pieces stays as it is, behind the pieces `before`
 abbrev pub Settled : List RunStyle → (before pieces : List Piece) → Type 0

@@ -1,6 +1,6 @@
 -- Where lines of a collapsed run may break (CSS Text 3, section 5). A place of a run is seen between the pieces before it,
 -- the nearest first, and the pieces after it.
-use Rattle.std.specs.Prelude.{ℕ, ◌≡◌, Bool, true, false, ◌||◌, ◌&&◌, ◌==◌, not, List, [], ◌∷◌, Option, Some, None, slice_get, take, drop, reverse}
+use Rattle.std.specs.Prelude.{ℕ, Bool, true, false, ◌||◌, ◌&&◌, ◌==◌, not, List, [], ◌∷◌, Option, Some, None, slice_get, take, drop, reverse}
 use Rattle.std.specs.Char.{is_ascii_alphabetic}
 use Rattle.inline_text.specs.declared.content.Piece.{Piece}
 use Rattle.inline_text.specs.declared.content.Piece.TheVariants.{Char, Image, Forced, Chance}

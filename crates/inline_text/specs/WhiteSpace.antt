@@ -1,6 +1,6 @@
 -- How white space collapses (CSS 2.1, section 16.6.1): space, tab and line feed, by the style of each character. A piece
 -- of a run is seen between the pieces before it, the nearest first, and the pieces after it.
-use Rattle.std.specs.Prelude.{ℕ, ◌≡◌, ◌<◌, Bool, true, false, ◌||◌, ◌&&◌, ◌==◌, List, [], ◌∷◌, ◌++◌, length, Option, Some, None, IsTrue, not, filter, replicate, reverse, slice_get, if◌then◌else◌}
+use Rattle.std.specs.Prelude.{ℕ, ◌≡◌, ◌<◌, Bool, true, false, ◌||◌, ◌&&◌, ◌==◌, List, [], ◌∷◌, ◌++◌, length, Option, Some, None, IsTrue, not, replicate, reverse, slice_get, if◌then◌else◌}
 use Rattle.std.specs.List.{All}
 use Rattle.inline_text.specs.declared.content.Piece.{Piece}
 use Rattle.inline_text.specs.declared.content.Piece.TheVariants.{Char, Image, Forced, Chance}
