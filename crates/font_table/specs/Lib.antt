@@ -1,0 +1,4 @@
+pub mod Sound
+pub mod Table
+pub mod Forms
+pub mod Views
