@@ -2,3 +2,4 @@ pub mod Sound
 pub mod Table
 pub mod Forms
 pub mod Views
+pub mod Reading

@@ -1,7 +1,7 @@
 -- Metrics tables: the lines, what a line means, what a table of faces is spelled by, and the first fault of a text that
 -- is no table. The format is this project's own.
-use Rattle.std.specs.Prelude.{◌≡◌, ◌≢◌, ℕ, ◌+◌, ◌<◌, ◌≤◌, Bool, true, false, IsTrue, ◌⊎◌, ◌&&◌, ◌||◌, nat_le, ◌==◌, min, List, [], ◌∷◌, ◌++◌, length, slice_index, codes}
-use Rattle.std.specs.List.{AllByRecursion, list_all, position_or_len}
+use Rattle.std.specs.Prelude.{◌≡◌, ◌≢◌, ℕ, ◌+◌, ◌<◌, ◌≤◌, Bool, true, false, IsTrue, ◌⊎◌, ◌&&◌, ◌||◌, nat_le, ◌==◌, min, List, [], ◌∷◌, ◌++◌, length, slice_index, codes, unwrap_or}
+use Rattle.std.specs.List.{AllByRecursion, list_all, position}
 use Rattle.std.specs.Char.{IsScalar}
 use Rattle.std.specs.Str.Lossy.{utf8_valid_len}
 use Rattle.std.specs.Str.Parse.{digits_value}
@@ -118,7 +118,7 @@ pub record IsMetrics (text : List ℕ) (faces : List Face) : Type 0 where
 
 -- where the first U+0000 or the first bad sequence of UTF-8 begins, or the text's length
 abbrev pub sound_len : List ℕ → ℕ
-sound_len text = min (position_or_len (λ b. b == 0) text) (utf8_valid_len text)
+sound_len text = min (unwrap_or (position (λ b. b == 0) text) (length text)) (utf8_valid_len text)
 
 -- some table begins with these lines
 abbrev pub Begins : List (List ℕ) → Type 0

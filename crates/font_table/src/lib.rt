@@ -7,7 +7,7 @@
 
 mod fonts;
 mod line;
-// mod reading;
+mod reading;
 
 pub use fonts::{Advance, Face, FaceId, Fonts};
 // pub use reading::read_fonts;

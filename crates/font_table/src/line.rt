@@ -12,6 +12,7 @@ ghost use Rattle.font_table.specs.Forms as forms;
 use crate::fonts::Advance;
 
 /// A face's line: the face without its characters.
+#[derive(Clone, Copy)]
 pub struct FaceLine<'a> {
     pub name: &'a [u8],
     pub weight: u32,
