@@ -1,4 +1,5 @@
 pub mod Sound
+pub mod Choice
 pub mod Table
 pub mod Forms
 pub mod Views

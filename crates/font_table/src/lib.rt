@@ -5,12 +5,13 @@
 //! lengths that are products rounded down.
 #![tactic(auto)]
 
+mod choice;
 mod fonts;
 mod line;
 mod reading;
 
 pub use fonts::{Advance, Face, FaceId, Fonts};
-// pub use reading::read_fonts;
+pub use reading::read_fonts;
 
-// cfg
-// mod tests;
+#[cfg(test)]
+mod tests;

@@ -1,9 +1,10 @@
 //! Metrics tables from a text.
 
-ghost use Rattle.std.specs.Prelude.{◌≡◌, ◌==◌, ◌≤◌, ◌<◌, ◌^◌, [], length, min, Ok, IfOk, IfErr};
+ghost use Rattle.std.specs.Prelude.{◌≡◌, ◌==◌, ◌≤◌, ◌<◌, ◌^◌, List as Items, [], length, min, Ok, IfOk, IfErr};
 ghost use Rattle.std.specs.List.{position};
 ghost use Rattle.std.specs.Str.Lossy.{utf8_valid_len};
 ghost use Rattle.font_table.specs.Table.{is_plain as is_plain_byte, sound_len as sound_len_of, IsMetrics};
+ghost use Rattle.font_table.specs.declared.fonts.Face.{Face as OneFace};
 ghost use Rattle.font_table.specs.Views.{face_of};
 ghost use Rattle.font_table.specs.Reading as reading;
 ghost use Rattle.font_table.specs.Reading.{Gives, IsRefusalOf};
@@ -170,4 +171,25 @@ fn faces(alloc: Global, text: &[u8]) -> Result<List<Face>, Refusal>
         return Err(if text.is_empty() { fault(0, 3) } else { fault(text.len(), 6) });
     }
     Ok(faces)
+}
+
+/// The faces of a metrics table.
+///
+/// The text has at most 2^28 bytes. It is a table of this project's own format: lines of printable ASCII, each with a line
+/// feed at its end, the first `metrics 1`, and then for each face `face NAME WEIGHT STYLE ASCENT DESCENT DEFAULT` and its
+/// lines `ch HEX ADVANCE`. A text off this grammar is refused with its first fault: `f1` at a U+0000 or a sequence that is
+/// no UTF-8, `f2` at a byte that no line has or at a last line without its line feed, `f3` at another first line, `f4` at a
+/// line of neither form, `f5` at a `ch` line before a face or out of order, and `f6` at the end where there is no face.
+pub fn read_fonts(alloc: Global, text: &[u8]) -> Result<Fonts, Refusal>
+    requires { length text.now ≤ 2 ^ 28 }
+    // What is read is spelled so.
+    ensures found { IfOk result (IsMetrics text.now) }
+    // What is so spelled is read, unless memory runs out.
+    ensures only { (faces : Items OneFace) → IsMetrics text.now faces → Gives (λ fonts. fonts) result (Ok faces) }
+    // A refusal is want of memory or the first fault.
+    ensures first { IfErr result (IsRefusalOf text.now) }
+    ensures exact { Gives (λ fonts. fonts) result (reading.all_of text.now) }
+{
+    let faces = faces(alloc, text)?;
+    Ok(Fonts::of(faces))
 }
