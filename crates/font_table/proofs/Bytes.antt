@@ -1,14 +1,13 @@
 -- Bytes are read line by line: what is read is the text of lines, and the text of lines is read.
-use Rattle.std.proofs.Common.{◌≡◌, ◌≢◌, ℕ, zero, suc, ◌+◌, ◌≤◌, ◌<◌, Bool, true, false, cond, eqb, leb, ltb, ◌&&◌, List, [], ◌∷◌, ◌++◌, length, Option, Some, None, Result, Ok, Err, refl, sym, ap, subst, ◌∙◌, append_assoc, arith}
+use Rattle.std.proofs.Common.{◌≡◌, ◌≢◌, ℕ, ◌+◌, ◌<◌, Bool, true, false, cond, eqb, ◌&&◌, List, [], ◌∷◌, ◌++◌, length, Result, Ok, Err, refl, sym, ap, subst, ◌∙◌, append_assoc, arith}
 use Rattle.std.specs.List.{AllByRecursion, list_all}
 use Rattle.std.proofs.lemmas.Bool.{ne_eqb, eqb-true, eqb-false}
 use Rattle.std.proofs.lemmas.List.{append-nil, length-append, nil_from_length}
 use Rattle.std.proofs.lemmas.List.Folds.{list_all-append}
-use Rattle.font_table.specs.declared.fonts.Face.{Face}
 use Rattle.font_table.specs.declared.reading.Building.{Building}
 use Rattle.font_table.specs.Table.{is_plain, IsLine, text_of, HasLine}
-use Rattle.font_table.specs.Reading.{Fault, fault, ◌>>=◌, faces_of, nothing_yet, line_taken, read_from}
-use Rattle.font_table.proofs.Lines.{Lines, folded, step, done_is}
+use Rattle.font_table.specs.Reading.{Fault, fault, ◌>>=◌, line_taken, read_from}
+use Rattle.font_table.proofs.Lines.{Lines, folded, step}
 
 -- ---- what is read
 
@@ -155,6 +154,7 @@ bytes_broken start line b (byte ∷ bytes) f is e =
         → (r : Result Building Fault) → line_taken start b line ≡ r → (r >>= λ next. read_from (start + length line + 1) [] next bytes) ≡ Err f → Broken start line b (byte ∷ bytes) f
     by_line lines_on feed (Ok next) taken e = broken_later start line b next byte bytes f feed is taken (lines_on next e)
     by_line lines_on feed (Err d) taken e = broken_line start line b byte bytes f feed is (taken ∙ e)
+
     by_feed : ((next : Building) → read_from (start + length line + 1) [] next bytes ≡ Err f → Broken (start + length line + 1) [] next bytes f)
         → (is_plain byte ≡ true → read_from start (line ++ byte ∷ []) b bytes ≡ Err f → Broken start (line ++ byte ∷ []) b bytes f) → (r : Bool) → eqb byte 10 ≡ r → (p : Bool) → is_plain byte ≡ p
         → cond {A = Result Building Fault} r (line_taken start b line >>= λ next. read_from (start + length line + 1) [] next bytes) (cond p (read_from start (line ++ byte ∷ []) b bytes) (fault (start + length line) 2)) ≡ Err f

@@ -1,5 +1,5 @@
 -- Where a character's advance is found.
-use Rattle.std.proofs.Common.{◌≡◌, ℕ, zero, suc, ◌+◌, ◌≤◌, ◌<◌, Bool, true, false, cond, eqb, List, [], ◌∷◌, length, get_or, Option, Some, None, refl, sym, ap, ◌∙◌, arith, tests}
+use Rattle.std.proofs.Common.{◌≡◌, ℕ, zero, suc, ◌+◌, ◌≤◌, ◌<◌, false, eqb, List, [], ◌∷◌, length, get_or, Some, None, refl, arith, tests}
 use Rattle.std.specs.Ordering.{nat_cmp, ordering_index}
 use Rattle.std.specs.declared.cmp.Ordering.TheVariants.{Equal}
 use Rattle.std.specs.List.Sorted.{IsNonDecreasingBy}
@@ -44,7 +44,6 @@ own-none [] d ch none = refl
 own-none (a ∷ xs) d ch none =
     let other : eqb a.ch ch ≡ false = ne_eqb a.ch ch (none 0 (omega arith)) in
     rw other (own-none xs d ch (λ i lt. none (suc i) (omega (arith, lt))))
-
 
 pub equal_is : (a x : ℕ) → a ≡ x → nat_cmp a x ≡ Equal
 equal_is a x same = rw (le-ltb a x (omega (arith, same)), eq-eqb a x same) refl

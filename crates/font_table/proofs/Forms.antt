@@ -1,11 +1,11 @@
 -- The forms of a line, both ways: what is read is of its form, and what is of a form is read.
-use Rattle.std.proofs.Common.{◌≡◌, ℕ, zero, suc, ◌+◌, ◌*◌, ◌≤◌, ◌<◌, Bool, true, false, cond, eqb, ltb, leb, ◌&&◌, List, [], ◌∷◌, ◌++◌, length, get_or, Option, Some, None, inl, inr, refl, sym, ap, subst, ◌∙◌, arith}
-use Rattle.std.specs.Prelude.{IsTrue, codes, option_to_list}
+use Rattle.std.proofs.Common.{◌≡◌, ℕ, ◌+◌, ◌*◌, ◌≤◌, ◌<◌, Bool, true, false, cond, eqb, ltb, leb, ◌&&◌, List, [], ◌∷◌, length, get_or, Option, Some, None, inl, inr, refl, sym, ap, subst, ◌∙◌, arith}
+use Rattle.std.specs.Prelude.{IsTrue, codes}
 use Rattle.std.specs.List.{AllByRecursion, list_all}
-use Rattle.std.specs.Char.{digit_value, IsScalar}
+use Rattle.std.specs.Char.{digit_value}
 use Rattle.std.specs.Str.{bytes_eq}
 use Rattle.std.specs.Str.Parse.{digits_value, digits_value_after}
-use Rattle.std.proofs.lemmas.Bool.{ne_eqb, eqb-true, eqb-false, leb-true, leb-false, ltb-true, ltb-false, lt-ltb, le-ltb, le-leb}
+use Rattle.std.proofs.lemmas.Bool.{ne_eqb, eqb-true, eqb-false, leb-true, ltb-true, ltb-false, lt-ltb, le-ltb, le-leb}
 use Rattle.std.proofs.lemmas.Slice.Eq.{bytes_eq-Decides}
 use lib.Utf8.{scalar, scalar_cases}
 use Rattle.font_table.specs.declared.fonts.Advance.{Advance}
@@ -263,17 +263,29 @@ face_found line face e =
     let d = field_found 10000 ascent.1 descent is_descent in
     let f = decimal_found 10000 descent.1 default is_default in
     let words : line ≡ spaced (codes "face") (spaced name.0 (spaced w.0 (spaced (style_word style.0) (spaced a.0 (spaced d.0 descent.1))))) =
-      keyword_found (codes "face") line behind is_behind
-      ∙ ap (spaced (codes "face")) (n.0 ∙ ap (spaced name.0) (w.1 ∙ ap (spaced w.0) (style_found weight.1 style is_style ∙ ap (spaced (style_word style.0)) (a.1 ∙ ap (spaced a.0) d.1)))) in
-    subst (λ (y : Face). IsFaceLine line y × (y.advances ≡ [])) (some_is _ face made)
-    (record {
-      weight = w.0; ascent = a.0; descent = d.0; default = descent.1; words = words;
-      named = n.1; name_bytes = n.2;
-      is_weight = w.2; weighs = w.4; weight_most = w.3;
-      is_ascent = a.2; ascent_most = a.3;
-      is_descent = d.2; descent_most = d.3;
-      is_default = f.0; default_most = f.1;
-    }, refl)
+    keyword_found (codes "face") line behind is_behind
+    ∙ ap (spaced (codes "face")) (n.0 ∙ ap (spaced name.0) (w.1 ∙ ap (spaced w.0) (style_found weight.1 style is_style ∙ ap (spaced (style_word style.0)) (a.1 ∙ ap (spaced a.0) d.1)))) in
+    subst (λ (y : Face). IsFaceLine line y × (y.advances ≡ [])) (some_is _ face made) (
+      record {
+        weight = w.0;
+        ascent = a.0;
+        descent = d.0;
+        default = descent.1;
+        words = words;
+        named = n.1;
+        name_bytes = n.2;
+        is_weight = w.2;
+        weighs = w.4;
+        weight_most = w.3;
+        is_ascent = a.2;
+        ascent_most = a.3;
+        is_descent = d.2;
+        descent_most = d.3;
+        is_default = f.0;
+        default_most = f.1;
+      },
+      refl,
+    )
 
 keyword_again_face : (rest : List ℕ) → behind_keyword (codes "face") (spaced (codes "face") rest) ≡ Some rest
 unfolding behind_keyword
@@ -287,9 +299,14 @@ pub face_again : (line : List ℕ) (face : Face) → IsFaceLine line face → fa
 unfolding face_at
 face_again line face h =
     ap face_at h.words ∙ rw (
-      keyword_again_face _, name_again face.name _ h.named h.name_bytes, weight_again h.weight face.weight _ h.is_weight h.weight_most h.weighs, style_again face.italic _,
-      field_again 10000 h.ascent face.ascent _ h.is_ascent h.ascent_most, field_again 10000 h.descent face.descent _ h.is_descent h.descent_most,
-      decimal_again 10000 h.default face.default_advance h.is_default h.default_most) refl
+      keyword_again_face _,
+      name_again face.name _ h.named h.name_bytes,
+      weight_again h.weight face.weight _ h.is_weight h.weight_most h.weighs,
+      style_again face.italic _,
+      field_again 10000 h.ascent face.ascent _ h.is_ascent h.ascent_most,
+      field_again 10000 h.descent face.descent _ h.is_descent h.descent_most,
+      decimal_again 10000 h.default face.default_advance h.is_default h.default_most,
+    ) refl
 
 pub character_found : (line : List ℕ) (a : Advance) → character_at line ≡ Some a → IsCharacterLine line a
 unfolding character_at
@@ -301,9 +318,12 @@ character_found line a e =
     let f = decimal_found 10000 word.1 amount is_amount in
     subst (λ (y : Advance). IsCharacterLine line y) (some_is _ a made)
     (record {
-      hex = word.0; amount = word.1;
+      hex = word.0;
+      amount = word.1;
       words = keyword_found (codes "ch") line behind is_behind ∙ ap (spaced (codes "ch")) (word_found behind word.0 word.1 is_word);
-      is_code = code_found word.0 ch is_ch; is_amount = f.0; amount_most = f.1;
+      is_code = code_found word.0 ch is_ch;
+      is_amount = f.0;
+      amount_most = f.1;
     })
 
 pub character_again : (line : List ℕ) (a : Advance) → IsCharacterLine line a → character_at line ≡ Some a

@@ -1,14 +1,14 @@
 -- Lines taken one after the other are a table, and a table's lines are taken.
-use Rattle.std.proofs.Common.{◌≡◌, ◌≢◌, ℕ, zero, suc, ◌+◌, ◌≤◌, ◌<◌, Bool, true, false, cond, eqb, leb, List, [], ◌∷◌, ◌++◌, length, Option, Some, None, Result, Ok, Err, ◌⊎◌, inl, inr, refl, sym, ap, subst, ◌∙◌, append_assoc, arith}
+use Rattle.std.proofs.Common.{◌≡◌, ℕ, ◌+◌, ◌≤◌, ◌<◌, Bool, true, false, cond, eqb, leb, List, [], ◌∷◌, ◌++◌, length, Option, Some, None, Result, Ok, Err, refl, sym, ap, subst, ◌∙◌, append_assoc, arith}
 use Rattle.std.specs.Prelude.{codes, option_to_list}
 use Rattle.std.specs.Str.{bytes_eq}
-use Rattle.std.proofs.lemmas.Bool.{ne_eqb, leb-true, leb-false, le-leb}
-use Rattle.std.proofs.lemmas.List.{append-nil, length-append}
+use Rattle.std.proofs.lemmas.Bool.{ne_eqb, leb-true, le-leb}
+use Rattle.std.proofs.lemmas.List.{append-nil}
 use Rattle.std.proofs.lemmas.Slice.Eq.{bytes_eq-Decides}
 use Rattle.font_table.specs.declared.fonts.Advance.{Advance}
 use Rattle.font_table.specs.declared.fonts.Face.{Face}
 use Rattle.font_table.specs.declared.reading.Building.{Building}
-use Rattle.font_table.specs.Table.{AreCharacters, AreFaces, IsTable, IsFaceLine, IsCharacterLine, Begins}
+use Rattle.font_table.specs.Table.{AreCharacters, AreFaces, IsTable, IsFaceLine, IsCharacterLine}
 use Rattle.font_table.specs.Forms.{face_at, character_at}
 use Rattle.font_table.specs.Reading.{Fault, fault, ◌>>=◌, faces_of, nothing_yet, face_begun, with_advance, character_taken, form_taken, line_taken}
 use Rattle.font_table.proofs.Forms.{face_found, face_again, character_found, character_again, not_a_face}
@@ -26,7 +26,7 @@ folded at b (line ∷ lines) = line_taken at b line >>= λ next. folded (at + le
 pub data Taken (at : ℕ) (b : Building) (line : List ℕ) (next : Building) : Type 0 where
   a_face : (face : Face) → IsFaceLine line face → face.advances ≡ [] → next ≡ face_begun b face → Taken at b line next
   a_character : (face : Face) (a : Advance) → IsCharacterLine line a → b.last ≡ Some face → b.least ≤ a.ch
-    → next ≡ record { done = b.done; last = Some (with_advance face a); least = a.ch + 1 } → Taken at b line next
+      → next ≡ record { done = b.done; last = Some (with_advance face a); least = a.ch + 1 } → Taken at b line next
 
 abbrev pub done : {A : Type 0} → A → Result A Fault
 done x = Ok x
@@ -87,12 +87,22 @@ step (Err d) f y e go = absurd cc
 -- a face's line says nothing of the characters
 pub other_advances : (line : List ℕ) (face : Face) (advances : List Advance) → IsFaceLine line face → IsFaceLine line (record face { advances = advances })
 other_advances line face advances h = record {
-  weight = h.weight; ascent = h.ascent; descent = h.descent; default = h.default; words = h.words;
-  named = h.named; name_bytes = h.name_bytes;
-  is_weight = h.is_weight; weighs = h.weighs; weight_most = h.weight_most;
-  is_ascent = h.is_ascent; ascent_most = h.ascent_most;
-  is_descent = h.is_descent; descent_most = h.descent_most;
-  is_default = h.is_default; default_most = h.default_most;
+  weight = h.weight;
+  ascent = h.ascent;
+  descent = h.descent;
+  default = h.default;
+  words = h.words;
+  named = h.named;
+  name_bytes = h.name_bytes;
+  is_weight = h.is_weight;
+  weighs = h.weighs;
+  weight_most = h.weight_most;
+  is_ascent = h.is_ascent;
+  ascent_most = h.ascent_most;
+  is_descent = h.is_descent;
+  descent_most = h.descent_most;
+  is_default = h.is_default;
+  default_most = h.default_most;
 }
 
 grown-none : (face : Face) → grown face [] ≡ face

@@ -1,10 +1,9 @@
 -- Tables as a whole: what is read is a table, a table is read, and a text that is none has its first fault.
-use Rattle.std.proofs.Common.{◌≡◌, ◌≢◌, ℕ, zero, suc, ◌+◌, ◌^◌, ◌≤◌, ◌<◌, Bool, true, false, cond, eqb, leb, ltb, ◌&&◌, not, List, [], ◌∷◌, ◌++◌, length, get_or, Option, Some, None, Result, Ok, Err, ◌⊎◌, inl, inr, min, refl, sym, ap, subst, ◌∙◌, append_assoc, arith}
-use Rattle.std.specs.Prelude.{codes, option_to_list, unwrap_or}
+use Rattle.std.proofs.Common.{◌≡◌, ◌≢◌, ℕ, ◌+◌, ◌^◌, ◌≤◌, ◌<◌, Bool, true, false, cond, eqb, leb, ltb, ◌&&◌, List, [], ◌∷◌, ◌++◌, length, Option, Some, None, Result, Ok, Err, inl, inr, refl, sym, ap, subst, ◌∙◌, append_assoc, arith}
+use Rattle.std.specs.Prelude.{codes, unwrap_or}
 use Rattle.std.specs.List.{AllByRecursion, list_all, position, position_or_len}
-use Rattle.std.specs.Str.{bytes_eq, IsAscii, IsUtf8}
-use Rattle.std.specs.Str.Lossy.{utf8_valid_len}
-use Rattle.std.proofs.lemmas.Bool.{ne_eqb, eqb-true, eqb-false, leb-true, leb-false, ltb-true, ltb-false, lt-ltb, le-ltb}
+use Rattle.std.specs.Str.{bytes_eq}
+use Rattle.std.proofs.lemmas.Bool.{ne_eqb, eqb-true, eqb-false, leb-true, ltb-true, ltb-false, le-ltb}
 use Rattle.std.proofs.lemmas.List.{append-nil, length-append, nil_from_length}
 use Rattle.std.proofs.lemmas.List.Elements.{All-from_recursion}
 use Rattle.std.proofs.lemmas.Slice.Eq.{bytes_eq-Decides}
@@ -46,12 +45,22 @@ example_line = codes "face a 1 normal 0 0 0"
 is_example : IsFaceLine example_line example
 unfolding example example_line
 is_example = record {
-  weight = 49 ∷ []; ascent = 48 ∷ []; descent = 48 ∷ []; default = 48 ∷ []; words = refl;
-  named = omega arith; name_bytes = refl;
-  is_weight = record { filled = omega arith; digits_only = refl; value = refl }; weighs = omega arith; weight_most = omega arith;
-  is_ascent = record { filled = omega arith; digits_only = refl; value = refl }; ascent_most = omega arith;
-  is_descent = record { filled = omega arith; digits_only = refl; value = refl }; descent_most = omega arith;
-  is_default = record { filled = omega arith; digits_only = refl; value = refl }; default_most = omega arith;
+  weight = 49 ∷ [];
+  ascent = 48 ∷ [];
+  descent = 48 ∷ [];
+  default = 48 ∷ [];
+  words = refl;
+  named = omega arith;
+  name_bytes = refl;
+  is_weight = record { filled = omega arith; digits_only = refl; value = refl };
+  weighs = omega arith;
+  weight_most = omega arith;
+  is_ascent = record { filled = omega arith; digits_only = refl; value = refl };
+  ascent_most = omega arith;
+  is_descent = record { filled = omega arith; digits_only = refl; value = refl };
+  descent_most = omega arith;
+  is_default = record { filled = omega arith; digits_only = refl; value = refl };
+  default_most = omega arith;
 }
 
 begins_some : (front : Lines) (reached : Building) → 0 < length (text_of front) → 0 < length front → folded 0 nothing_yet front ≡ Ok reached → Begins front
@@ -59,9 +68,9 @@ unfolding folded
 begins_some front reached later some e =
     let next = face_begun reached (record example { advances = [] }) in
     let one : folded 0 nothing_yet (front ++ example_line ∷ []) ≡ Ok next =
-      folded-append 0 nothing_yet front (example_line ∷ [])
-      ∙ ap (λ (r : Result Building Fault). r >>= λ n. folded (0 + length (text_of front)) n (example_line ∷ [])) e
-      ∙ ap (λ (r : Result Building Fault). r >>= λ n. Ok n) (face_taken (0 + length (text_of front)) reached example_line example (omega (arith, later)) is_example) in
+    folded-append 0 nothing_yet front (example_line ∷ [])
+    ∙ ap (λ (r : Result Building Fault). r >>= λ n. folded (0 + length (text_of front)) n (example_line ∷ [])) e
+    ∙ ap (λ (r : Result Building Fault). r >>= λ n. Ok n) (face_taken (0 + length (text_of front)) reached example_line example (omega (arith, later)) is_example) in
     (example_line ∷ [], faces_of next, table_found next (front ++ example_line ∷ []) (omega (arith, length-append front (example_line ∷ []), some)) one (omega (arith, length-append (faces_of reached) (record example { advances = [] } ∷ []))))
 
 header_taken : folded 0 nothing_yet (codes "metrics 1" ∷ []) ≡ Ok nothing_yet
@@ -93,9 +102,9 @@ no_table front reached line f taken refusal table =
     let again = table_again ((front ++ line ∷ []) ++ table.0) table.1 table.2 in
     let regrouped : (front ++ line ∷ []) ++ table.0 ≡ front ++ (line ∷ table.0) = append_assoc front (line ∷ []) table.0 in
     let stopped : folded 0 nothing_yet (front ++ (line ∷ table.0)) ≡ Err f =
-      folded-append 0 nothing_yet front (line ∷ table.0)
-      ∙ ap (λ (r : Result Building Fault). r >>= λ n. folded (0 + length (text_of front)) n (line ∷ table.0)) taken
-      ∙ ap (λ (r : Result Building Fault). r >>= λ n. folded (0 + length (text_of front) + length line + 1) n table.0) refusal in
+    folded-append 0 nothing_yet front (line ∷ table.0)
+    ∙ ap (λ (r : Result Building Fault). r >>= λ n. folded (0 + length (text_of front)) n (line ∷ table.0)) taken
+    ∙ ap (λ (r : Result Building Fault). r >>= λ n. folded (0 + length (text_of front) + length line + 1) n table.0) refusal in
     let both = sym again.1 ∙ ap (folded 0 nothing_yet) regrouped ∙ stopped in
     absurd cc
 
@@ -161,7 +170,12 @@ fault_of_lines text f sound e =
 empty_text : (text : List ℕ) (f : Fault) → sound_len text ≡ length text → text ≡ [] → f ≡ record { at = 0; rule = 3 } → IsFaultOfLines text f.at f.rule
 unfolding folded
 empty_text text f sound none f-is = record {
-  sound = sound; front = []; rest = []; whole = none; are_lines = tt; begins = begins [] nothing_yet refl;
+  sound = sound;
+  front = [];
+  rest = [];
+  whole = none;
+  are_lines = tt;
+  begins = begins [] nothing_yet refl;
   fault = no_header refl (inl refl) (ap (λ (x : Fault). x.at) f-is) (ap (λ (x : Fault). x.rule) f-is);
 }
 
@@ -174,12 +188,17 @@ no_faces text b f sound e none filled f-is =
     let h = bytes_found 0 [] nothing_yet b text refl e in
     let size : length text ≡ length (text_of h.lines) = ap length h.whole in
     let stuck : (faces : List Face) → IsTable h.lines faces → ⊥ = λ faces table.
-      let again = table_again h.lines faces table in
-      let same : again.0 ≡ b = done_is again.0 b (sym again.1 ∙ h.taken) in
-      let empty : faces ≡ [] = sym again.2 ∙ ap faces_of same ∙ none in
-      omega (arith, table.some, ap length empty) in
+    let again = table_again h.lines faces table in
+    let same : again.0 ≡ b = done_is again.0 b (sym again.1 ∙ h.taken) in
+    let empty : faces ≡ [] = sym again.2 ∙ ap faces_of same ∙ none in
+    omega (arith, table.some, ap length empty) in
     record {
-      sound = sound; front = h.lines; rest = []; whole = h.whole ∙ sym (append-nil (text_of h.lines)); are_lines = h.are_lines; begins = begins h.lines b h.taken;
+      sound = sound;
+      front = h.lines;
+      rest = [];
+      whole = h.whole ∙ sym (append-nil (text_of h.lines));
+      are_lines = h.are_lines;
+      begins = begins h.lines b h.taken;
       fault = no_face (no_lines_no_text h.lines (λ nil. filled (h.whole ∙ nil))) refl stuck (ap (λ (x : Fault). x.at) f-is ∙ size) (ap (λ (x : Fault). x.rule) f-is);
     }
 
@@ -198,6 +217,7 @@ first_fault text f e = by_sound (ltb (sound_len text) (length text)) refl e
     by_read : (r : Result Building Fault) → read_from 0 [] nothing_yet text ≡ r → sound_len text ≡ length text → (r >>= λ b. ended (length text) (faces_of b)) ≡ Err f → IsFirstFault text f.at f.rule
     by_read (Ok b) read sound e = inr (ended_fault text b (faces_of b) f sound read refl e)
     by_read (Err d) read sound e = inr (fault_of_lines text f sound (read ∙ ap (λ (x : Fault). failing {A = Building} x) (err_is {A = List Face} d f e)))
+
     by_sound : (r : Bool) → ltb (sound_len text) (length text) ≡ r → cond r (fault (sound_len text) 1) (read_from 0 [] nothing_yet text >>= λ b. ended (length text) (faces_of b)) ≡ Err f → IsFirstFault text f.at f.rule
     by_sound true short e =
         let f-is = err_is {A = List Face} (record { at = sound_len text; rule = 1 }) f e in
@@ -230,9 +250,12 @@ is_found text faces e = by_sound (ltb (sound_len text) (length text)) e
         let filled : 0 < length (faces_of b) = omega (arith, ap length all-is) in
         let not_empty : text_of h.lines ≡ [] → ⊥ = λ nil. faces_have_lines b h.lines h.taken filled nil in
         record {
-          lines = h.lines; whole = h.whole; are_lines = h.are_lines;
+          lines = h.lines;
+          whole = h.whole;
+          are_lines = h.are_lines;
           is_table = subst (λ (xs : List Face). IsTable h.lines xs) same (table_found b h.lines (no_lines_no_text h.lines not_empty) h.taken filled);
         }
+
     by_sound : (r : Bool) → cond r (fault (sound_len text) 1) (read_from 0 [] nothing_yet text >>= λ b. ended (length text) (faces_of b)) ≡ Ok faces → IsMetrics text faces
     by_sound true e = absurd cc
     by_sound false e = step (read_from 0 [] nothing_yet text) _ faces e λ b read more. by_faces b (faces_of b) read refl more

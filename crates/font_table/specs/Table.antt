@@ -135,21 +135,21 @@ pub record HasLine (rest line : List ℕ) : Type 0 where
 pub data IsFaultBehind (front : List (List ℕ)) (rest : List ℕ) (start at rule : ℕ) : Type 0 where
   -- a byte that no line has
   bad_byte : (line : List ℕ) (byte : ℕ) (after : List ℕ) → rest ≡ line ++ byte ∷ after → IsLine line → is_plain byte ≡ false → byte ≢ 10
-    → at ≡ start + length line → rule ≡ 2 → IsFaultBehind front rest start at rule
+      → at ≡ start + length line → rule ≡ 2 → IsFaultBehind front rest start at rule
   -- a last line without its line feed
   cut_short : 0 < length rest → IsLine rest → at ≡ start → rule ≡ 2 → IsFaultBehind front rest start at rule
   -- a first line that isn't `metrics 1`, or none
   no_header : front ≡ [] → (rest ≡ []) ⊎ ((line : List ℕ) × (line ≢ codes "metrics 1") × HasLine rest line) → at ≡ start → rule ≡ 3
-    → IsFaultBehind front rest start at rule
+      → IsFaultBehind front rest start at rule
   -- a line that is neither a face's nor a character's
   no_form : (line : List ℕ) → 0 < length front → HasLine rest line → ((face : Face) → IsFaceLine line face → ⊥) → ((a : Advance) → IsCharacterLine line a → ⊥)
-    → at ≡ start → rule ≡ 4 → IsFaultBehind front rest start at rule
+      → at ≡ start → rule ≡ 4 → IsFaultBehind front rest start at rule
   -- a character's line with which no table goes on: before a face, or out of order
   out_of_order : (line : List ℕ) (a : Advance) → 0 < length front → HasLine rest line → IsCharacterLine line a → (Begins (front ++ line ∷ []) → ⊥)
-    → at ≡ start → rule ≡ 5 → IsFaultBehind front rest start at rule
+      → at ≡ start → rule ≡ 5 → IsFaultBehind front rest start at rule
   -- the end, and no face
   no_face : 0 < length front → rest ≡ [] → ((faces : List Face) → IsTable front faces → ⊥) → at ≡ start → rule ≡ 6
-    → IsFaultBehind front rest start at rule
+      → IsFaultBehind front rest start at rule
 
 -- behind the longest front of lines that begins a table
 pub record IsFaultOfLines (text : List ℕ) (at rule : ℕ) : Type 0 where

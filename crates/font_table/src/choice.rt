@@ -60,9 +60,7 @@ fn best_of(faces: &[Face], family: &[u8], weight: u32, italic: bool) -> Option<u
     ensures first { result ≡ position (λ face. is_of family.now face && is_like weight italic face) faces.now }
     ensures known { IfSome result (λ i. i < length faces.now) }
 {
-    faces
-        .iter()
-        .position(|face| is_of_family(family, face) && is_like_asked(weight, italic, face))
+    faces.iter().position(|face| is_of_family(family, face) && is_like_asked(weight, italic, face))
 }
 
 /// The face that this weight and style choose in a family.

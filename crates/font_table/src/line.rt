@@ -113,7 +113,11 @@ fn name(bytes: &[u8]) -> Option<(&[u8], &[u8])>
     ensures { option_map (λ x. (x.0.now, x.1.now)) result ≡ forms.name_at bytes.now }
 {
     let (name, rest) = word(bytes)?;
-    if !name.is_empty() && is_name(name) { Some((name, rest)) } else { None }
+    if !name.is_empty() && is_name(name) {
+        Some((name, rest))
+    } else {
+        None
+    }
 }
 
 /// A number of at most `most`, and what follows its space.
@@ -131,7 +135,11 @@ fn weight(bytes: &[u8]) -> Option<(u32, &[u8])>
     ensures { option_map (λ x. (x.0, x.1.now)) result ≡ forms.weight_at bytes.now }
 {
     let (weight, rest) = field(1000, bytes)?;
-    if weight > 0 { Some((weight, rest)) } else { None }
+    if weight > 0 {
+        Some((weight, rest))
+    } else {
+        None
+    }
 }
 
 #[tactic(auto, unfolding(crate::specs::Forms::style_of))]

@@ -40,7 +40,11 @@ fn fault(offset: usize, number: u8) -> Refusal
 fn faces_of(building: Building) -> Result<List<Face>, Refusal>
     ensures { Gives (λ faces. faces) result (Ok (reading.faces_of building)) }
 {
-    let Building { done, last, least: _ } = building;
+    let Building {
+        done,
+        last,
+        least: _,
+    } = building;
     let mut faces = done;
     if let Some(face) = last {
         faces.push(face)?;
@@ -90,11 +94,20 @@ fn character_taken(at: usize, building: Building, advance: Advance) -> Result<Bu
 
 /// The table with a line that begins at `at`.
 #[tactic(auto, unfolding(crate::specs::Reading::line_taken))]
-fn line_taken(alloc: Global, at: usize, building: Building, line: &[u8]) -> Result<Building, Refusal>
+fn line_taken(
+    alloc: Global,
+    at: usize,
+    building: Building,
+    line: &[u8],
+) -> Result<Building, Refusal>
     ensures { Gives (λ b. b) result (reading.line_taken at building line.now) }
 {
     if at == 0 {
-        return if line == b"metrics 1".as_slice() { Ok(building) } else { Err(fault(0, 3)) };
+        return if line == b"metrics 1".as_slice() {
+            Ok(building)
+        } else {
+            Err(fault(0, 3))
+        };
     }
     if let Some(head) = face_line(line) {
         return face_begun(alloc, building, &head);
@@ -168,7 +181,11 @@ fn faces(alloc: Global, text: &[u8]) -> Result<List<Face>, Refusal>
     }
     let faces = faces_of(lines(alloc, text)?)?;
     if faces.is_empty() {
-        return Err(if text.is_empty() { fault(0, 3) } else { fault(text.len(), 6) });
+        return Err(if text.is_empty() {
+            fault(0, 3)
+        } else {
+            fault(text.len(), 6)
+        });
     }
     Ok(faces)
 }

@@ -1,5 +1,4 @@
-use Rattle.std.proofs.Common.{◌≡◌, ◌<◌, ◌≤◌, ℕ, sym, refl, ap, rules, arith, get_or, length, inl, inr}
-use Rattle.std.specs.Ordering.{nat_cmp}
+use Rattle.std.proofs.Common.{◌≡◌, sym, rules, arith, get_or, inl, inr}
 use Rattle.std.proofs.lemmas.Bool.{cases_lt}
 use Rattle.std.proofs.lemmas.List.Sorted.{answers_always}
 use Rattle.std.proofs.lemmas.Map.Lookups.{exact_unsigned}
@@ -29,7 +28,7 @@ returns-in-Err-clause-value c =
     let ch = c.args.ch in
     let parted = c.in-Err.ensures.position (λ (a : Advance). a.ch) (answers_always _ _ _ (λ f a r g h. search rules)) (searchable xs ch c.requires) in
     sym (own-none xs nowhere ch (λ i lt same.
-      elim (cases_lt i c.in-Err.field-0) [
-        | inl below ↦ let less = parted.0 i nowhere (omega arith) below in let equal = equal_is (get_or xs i nowhere).ch ch same in absurd cc
-        | inr above ↦ let greater = parted.1 i nowhere above lt in let equal = equal_is (get_or xs i nowhere).ch ch same in absurd cc
-      ]))
+    elim (cases_lt i c.in-Err.field-0) [
+      | inl below ↦ let less = parted.0 i nowhere (omega arith) below in let equal = equal_is (get_or xs i nowhere).ch ch same in absurd cc
+      | inr above ↦ let greater = parted.1 i nowhere above lt in let equal = equal_is (get_or xs i nowhere).ch ch same in absurd cc
+    ]))

@@ -1,4 +1,4 @@
-use Rattle.std.proofs.Common.{◌≡◌, ◌<◌, ℕ, false, List, [], ◌∷◌, length, get_or, drop, refl, sym, ap, ◌∙◌, arith, drop-cons}
+use Rattle.std.proofs.Common.{◌≡◌, ◌<◌, ℕ, false, List, [], length, drop, refl, sym, ◌∙◌, drop-cons}
 use Rattle.std.proofs.lemmas.List.{nil_from_length}
 use Rattle.font_table.specs.Choice.{is_named}
 use Rattle.font_table.proofs.choice.is_named.Goals as goal

@@ -1,9 +1,7 @@
-use Rattle.std.proofs.Common.{◌≡◌, ◌+◌, ◌-◌, ◌∙◌, ap, sym, refl, arith, [], cond, eqb, false, true, Ok}
+use Rattle.std.proofs.Common.{◌≡◌, ◌-◌, ◌∙◌, ap, sym, refl, arith, [], cond, eqb, false, Ok}
 use Rattle.std.proofs.lemmas.Bool.{ne_eqb}
 use Rattle.std.proofs.lemmas.Result.{err_from_is_err_and}
-use Rattle.font_table.specs.declared.reading.Building.{Building}
-use Rattle.font_table.specs.Table.{is_plain}
-use Rattle.font_table.specs.Reading.{Fails, fault, nothing_yet, read_from}
+use Rattle.font_table.specs.Reading.{fault, nothing_yet, read_from}
 use Rattle.font_table.proofs.LineLoop.{line_ends, byte_goes_on, byte_is_bad, text_ends, goes_on, fails_along}
 use Rattle.font_table.proofs.reading.lines.Goals as goal
 use Rattle.font_table.proofs.reading.lines.Goals.{then-byte-eq10+in_ok-building, else-byte-eq10+else-not-is_plain}
@@ -26,13 +24,13 @@ loop-i-preserved c =
     let text = c.args.text.now in
     elim c.if-byte-eq10.branch [
       | then-byte-eq10+in_ok-building w ↦ rw (w.start-is, w.building-is) (record {
-          begun = omega arith;
-          so_far = goes_on text c.loop-i.start c.loop-i.i c.loop-i.building w.in_ok-building.building (read_from 0 [] nothing_yet text) c.loop-i.invariant.begun c.loop-i-test.true w.if-byte-eq10.true w.in_ok-building.ensures c.loop-i.invariant.so_far;
-        })
+        begun = omega arith;
+        so_far = goes_on text c.loop-i.start c.loop-i.i c.loop-i.building w.in_ok-building.building (read_from 0 [] nothing_yet text) c.loop-i.invariant.begun c.loop-i-test.true w.if-byte-eq10.true w.in_ok-building.ensures c.loop-i.invariant.so_far;
+      })
       | else-byte-eq10+else-not-is_plain w ↦ rw (w.start-is, w.building-is) (record {
-          begun = omega arith;
-          so_far = sym (byte_goes_on text c.loop-i.start c.loop-i.i c.loop-i.building c.loop-i.invariant.begun c.loop-i-test.true (ne_eqb _ _ w.if-byte-eq10.false) (sym w.is_plain.ensures ∙ w.if-not-is_plain.false)) ∙ c.loop-i.invariant.so_far;
-        })
+        begun = omega arith;
+        so_far = sym (byte_goes_on text c.loop-i.start c.loop-i.i c.loop-i.building c.loop-i.invariant.begun c.loop-i-test.true (ne_eqb _ _ w.if-byte-eq10.false) (sym w.is_plain.ensures ∙ w.if-not-is_plain.false)) ∙ c.loop-i.invariant.so_far;
+      })
     ]
 
 pub returns-then-start-text : goal.returns-then-start-text

@@ -1,10 +1,9 @@
-use Rattle.std.proofs.Common.{◌≡◌, ◌∙◌, ap, sym, refl, subst, arith, Ok, Err, Result, List, ℕ}
-use Rattle.std.specs.Prelude.{IfErr}
+use Rattle.std.proofs.Common.{◌∙◌, ap, sym, subst, Ok, Result, List, ℕ}
 use Rattle.std.proofs.lemmas.Result.{err_from_is_err_and}
 use Rattle.mc_base.specs.declared.refusal.Refusal.{Refusal}
 use Rattle.mc_base.specs.declared.refusal.Refusal.TheVariants as refusals
 use Rattle.font_table.specs.declared.fonts.Face.{Face}
-use Rattle.font_table.specs.Reading.{Fault, Fails, Gives, IsRefusalOf, all_of}
+use Rattle.font_table.specs.Reading.{Fault, Fails, IsRefusalOf, all_of}
 use Rattle.font_table.proofs.Whole.{first_fault, is_found, is_read, is_sound}
 use Rattle.font_table.proofs.reading.read_fonts.Goals as goal
 
