@@ -1,0 +1,9 @@
+pub mod ClonedEdges
+pub mod Column
+pub mod Counts
+pub mod Flows
+pub mod RowHeights
+pub mod Rows
+pub mod Soundness
+pub mod Strip
+pub mod Tokens

@@ -1,0 +1,4 @@
+mod Worked
+mod WorkedCloned
+mod WorkedNested
+mod WorkedParts
