@@ -1,16 +1,16 @@
 -- The heights and the columns of the rows that stand outside any columns (CSS Multi-column 1, sections 7 and 8.1).
-use Rattle.std.specs.Prelude.{ℕ, max, min, Bool, true, false, cond, not, ◌||◌, List, [], ◌∷◌, length, nat_lt, nat_le, fold, Option, Some, None}
+use Rattle.std.specs.Prelude.{ℕ, max, min, Bool, true, false, cond, not, ◌||◌, List, [], ◌∷◌, length, map, nat_lt, nat_le, fold, Option, Some, None}
 use Rattle.std.specs.List.{list_any}
 use Rattle.flow_list.specs.declared.data.Flow.{Flow}
 use Rattle.flow_list.specs.declared.data.FlowsData.{FlowsData}
 use Rattle.flow_list.specs.Flows.{row_of, flow_in, seam_of}
 use Rattle.flow_list.specs.Tokens.{Token, row_start}
 use Rattle.flow_list.specs.Column.{is_forced, Column, column, endless_column}
-use Rattle.flow_list.specs.Rows.{columns_by, fits, left_in, all_rows}
+use Rattle.flow_list.specs.Rows.{size_in, columns_by, fits, left_in, all_rows}
 
 -- the size of a row from a place on: the least height that fits
 unfoldable pub size_of : FlowsData → ℕ → Token → ℕ
-size_of d r q = (all_rows d).size r q
+size_of d r q = size_in (all_rows d) d r q
 
 -- whether a height fits a row from its start on
 unfoldable pub height_fits : FlowsData → ℕ → ℕ → Bool
@@ -24,6 +24,13 @@ column_within d f (Some h) q = column (all_rows d) d f q h
 -- all columns of a row, at a height or without end
 unfoldable pub row_columns : FlowsData → ℕ → Option ℕ → List Column
 row_columns d r height = columns_by (column_within d (flow_in d r) height) (flow_in d r) (left_in (all_rows d) (flow_in d r) row_start) row_start
+
+-- the places where these columns end, and the places before these items
+abbrev pub ends_of : List Column → List Token
+ends_of cs = map (λ (c : Column). c.end) cs
+
+abbrev pub before_items : List ℕ → List Token
+before_items items = map (λ i. i ∷ []) items
 
 -- The height of a balanced row where this much is available: the least that fits, or what is available where that is less.
 -- It fits in the first case.

@@ -31,6 +31,10 @@ end_of t cs = fold (λ q (c : Column). c.end) t cs
 abbrev pub fails : Column → Bool
 fails c = c.overflow || nat_lt 0 c.level
 
+-- whether these columns from a place on reach the end, and none breaks a rule
+abbrev pub reach_end : Flow → Token → List Column → Bool
+reach_end f t cs = is_end f (end_of t cs) && not (list_any fails cs)
+
 -- how many seams above item i and below the end are forced
 abbrev pub forced_above : Flow → ℕ → ℕ
 forced_above f i = count_by (λ (s : Seam). is_forced s.level) (take (length f.items - i - 1) (drop (i + 1) f.seams))
@@ -43,10 +47,7 @@ most_columns n f t = max n (1 + forced_above f (item_number t))
 -- Whether the height h fits a row from a place on: columns of that height reach the end, no more than may be used, and none
 -- breaks a rule (this project's own; CSS Multi-column 1, section 7.1, leaves the height of balanced columns open).
 unfoldable pub fits : Inner → FlowsData → ℕ → Token → ℕ → Bool
-fits inner d r q h =
-    let f = flow_in d r in
-    let cs = columns inner d f (most_columns (row_of d r).n f q) q h in
-    is_end f (end_of q cs) && not (list_any fails cs)
+fits inner d r q h = reach_end (flow_in d r) q (columns inner d (flow_in d r) (most_columns (row_of d r).n (flow_in d r) q) q h)
 
 -- the least number from h on that passes, where one of the next n does
 unfoldable pub least : (ℕ → Bool) → ℕ → ℕ → ℕ
