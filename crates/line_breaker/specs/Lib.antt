@@ -1,3 +1,2 @@
 pub mod Measures
 pub mod Lines
-pub mod Arrays
