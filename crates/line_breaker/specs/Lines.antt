@@ -23,13 +23,16 @@ is_content Chance = false
 abbrev pub part : List Piece → ℕ → ℕ → List Piece
 part pieces from to = take (to - from) (drop from pieces)
 
+abbrev pub is_forced : Piece → Bool
+is_forced (Char ch style) = false
+is_forced (Image w h style) = false
+is_forced Forced = true
+is_forced Chance = false
+
 -- how many pieces there are through the next forced break, or in all
 abbrev pub stretch_len : List Piece → ℕ
 stretch_len [] = 0
-stretch_len (Char ch style ∷ pieces) = stretch_len pieces + 1
-stretch_len (Image w h style ∷ pieces) = stretch_len pieces + 1
-stretch_len (Forced ∷ pieces) = 1
-stretch_len (Chance ∷ pieces) = stretch_len pieces + 1
+stretch_len (piece ∷ pieces) = if is_forced piece then 1 else stretch_len pieces + 1
 
 -- where the stretch of a line ends that begins at a place
 abbrev pub stretch_end : List Piece → ℕ → ℕ
@@ -38,10 +41,7 @@ stretch_end pieces from = from + stretch_len (drop from pieces)
 -- a character or an image stands before the next forced break
 abbrev pub content_ahead : List Piece → Bool
 content_ahead [] = false
-content_ahead (Char ch style ∷ pieces) = true
-content_ahead (Image w h style ∷ pieces) = true
-content_ahead (Forced ∷ pieces) = false
-content_ahead (Chance ∷ pieces) = content_ahead pieces
+content_ahead (piece ∷ pieces) = if is_forced piece then false else (is_content piece || content_ahead pieces)
 
 -- a place of a line's stretch that is an opportunity, with a character or an image before it in the line and another one
 -- after it in the stretch

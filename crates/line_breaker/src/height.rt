@@ -2,7 +2,7 @@
 
 ghost use Rattle.std.specs.Prelude.{◌≡◌, ◌≤◌, ◌<◌, ◌^◌, ◌+◌, pos, ◌+ℤ◌, ◌≤ℤ◌, neg_ℤ, length};
 ghost use Rattle.std.specs.List.{All};
-ghost use Rattle.std.specs.Int.{int_max};
+ghost use Rattle.std.specs.Int.{int_max, int_div_euclid};
 ghost use Rattle.inline_text.specs.WhiteSpace.{HasStyle};
 ghost use Rattle.line_breaker.specs.Lines.{IsStyle, IsMeasurable};
 ghost use Rattle.line_breaker.specs.Measures as measures;
@@ -23,6 +23,15 @@ pub struct Extent {
     ghost whole: { pos 0 ≤ℤ (above +ℤ below) },
 }
 
+/// Half of a length, rounded down.
+fn half(length: i64) -> i64
+    ensures value { result ≡ int_div_euclid length (pos 2) }
+    ensures least { (result +ℤ result) ≤ℤ length }
+    ensures most { length ≤ℤ (result +ℤ result +ℤ pos 1) }
+{
+    length.div_euclid(2)
+}
+
 /// The extent of a text in this style.
 pub fn extent_of(fonts: &Fonts, style: &RunStyle) -> Extent
     requires { IsStyle fonts.now style.now }
@@ -32,7 +41,7 @@ pub fn extent_of(fonts: &Fonts, style: &RunStyle) -> Extent
     let ascent = fonts.ascent(style.face, style.size) as i64;
     let descent = fonts.descent(style.face, style.size) as i64;
     let line = style.line as i64;
-    let above = ascent + (line - ascent - descent).div_euclid(2);
+    let above = ascent + half(line - ascent - descent);
     Extent {
         above,
         below: line - above,

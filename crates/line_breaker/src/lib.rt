@@ -4,12 +4,12 @@
 //! the definition in `specs/`, with their widths and heights.
 #![tactic(auto)]
 
-// mod ahead;
+mod ahead;
 // mod breaking;
 mod height;
 mod line;
 mod measures;
-// mod places;
+mod places;
 // #[cfg(test)]
 // mod tests;
 
