@@ -1,1 +1,4 @@
 pub mod Halves
+pub mod Between
+pub mod Following
+pub mod Ends

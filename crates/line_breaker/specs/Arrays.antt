@@ -112,3 +112,8 @@ pub data IsEnd (places : List Place) (ahead : List Ahead) (from end width to : �
 pub record IsSmall (place : Place) : Type 0 where
   pub before : place.before < 2 ^ 62
   pub hyphen : place.hyphen ≤ 10 * 2 ^ 24
+
+-- how wide a line is between two places, in a stretch that ends at `end`
+abbrev pub width_between : List Place → ℕ → ℕ → ℕ → ℕ
+width_between places from end to =
+    edge (place_at places to) - (place_at places from).before + (if to == end then 0 else (place_at places to).hyphen)

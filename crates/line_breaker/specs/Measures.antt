@@ -1,5 +1,5 @@
 -- How wide the pieces of a run are, and how high a line is (CSS 2.1, sections 10.3.2, 10.8.1 and 16.6.1).
-use Rattle.std.specs.Prelude.{◌≡◌, ℕ, ℤ, pos, ◌+ℤ◌, ◌-ℤ◌, ◌+◌, Bool, true, false, ◌||◌, ◌==◌, if◌then◌else◌, List, [], ◌∷◌, slice_index_or, sum_by}
+use Rattle.std.specs.Prelude.{◌≡◌, ℕ, ℤ, pos, ◌+ℤ◌, ◌-ℤ◌, ◌+◌, Bool, true, false, ◌||◌, ◌==◌, if◌then◌else◌, List, [], ◌∷◌, slice_index_or}
 use Rattle.std.specs.Int.{int_max, int_div_euclid}
 use Rattle.font_table.specs.declared.fonts.Face.{Face}
 use Rattle.font_table.specs.Choice.{face_of, advance_of, scaled}
@@ -31,7 +31,8 @@ width_of styles faces Forced = 0
 width_of styles faces Chance = 0
 
 abbrev pub width_sum : List RunStyle → List Face → List Piece → ℕ
-width_sum styles faces pieces = sum_by (width_of styles faces) pieces
+width_sum styles faces [] = 0
+width_sum styles faces (piece ∷ pieces) = width_of styles faces piece + width_sum styles faces pieces
 
 -- a collapsed space's width where that piece is one, or else 0; forced breaks and `wbr` are looked through
 abbrev pub space_behind : List RunStyle → List Face → (so_far : ℕ) → Piece → ℕ

@@ -5,7 +5,7 @@
 #![tactic(auto)]
 
 mod ahead;
-// mod breaking;
+mod breaking;
 mod height;
 mod line;
 mod measures;
