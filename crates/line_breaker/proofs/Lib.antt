@@ -2,3 +2,4 @@ pub mod Halves
 pub mod Between
 pub mod Following
 pub mod Ends
+pub mod Laws

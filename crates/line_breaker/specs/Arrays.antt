@@ -1,8 +1,11 @@
 -- What is measured once for each place of a run.
-use Rattle.std.specs.Prelude.{◌≡◌, ℕ, ◌+◌, ◌-◌, ◌*◌, ◌^◌, ◌<◌, ◌≤◌, min, Bool, true, false, ◌&&◌, ◌||◌, nat_lt, nat_le, ◌==◌, if◌then◌else◌, List, [], ◌∷◌, length, slice_index_or, Option, Some, None}
+use Rattle.std.specs.Prelude.{◌≡◌, ℕ, ◌+◌, ◌-◌, ◌*◌, ◌^◌, ◌<◌, ◌≤◌, min, Bool, true, false, ◌&&◌, ◌||◌, nat_lt, nat_le, ◌==◌, if◌then◌else◌, List, [], ◌∷◌, length, slice_index_or, slice_get, Option, Some, None}
+use Rattle.std.specs.List.{All}
 use Rattle.font_table.specs.declared.fonts.Face.{Face}
 use Rattle.inline_text.specs.declared.content.Piece.{Piece}
 use Rattle.inline_text.specs.declared.content.RunStyle.{RunStyle}
+use Rattle.inline_text.specs.declared.content.Runs.{Runs}
+use Rattle.inline_text.specs.Opportunities.{opportunity_at}
 use Rattle.line_breaker.specs.declared.places.Place.{Place}
 use Rattle.line_breaker.specs.declared.ahead.Ahead.{Ahead}
 use Rattle.line_breaker.specs.Measures.{width_of, space_behind, hyphen_of}
@@ -117,3 +120,11 @@ pub record IsSmall (place : Place) : Type 0 where
 abbrev pub width_between : List Place → ℕ → ℕ → ℕ → ℕ
 width_between places from end to =
     edge (place_at places to) - (place_at places from).before + (if to == end then 0 else (place_at places to).hyphen)
+
+-- what is measured of a run
+pub record IsMeasured (runs : Runs) (faces : List Face) (places : List Place) (ahead : List Ahead) : Type 0 where
+  pub opportunities : List Bool
+  pub places_are : places ≡ places_from runs.styles faces start runs.pieces
+  pub ahead_are : ahead ≡ aheads_from places opportunities 0 runs.pieces
+  pub opportunities_are : (k : ℕ) → k < length runs.pieces → slice_get opportunities k ≡ Some (opportunity_at runs (k + 1))
+  pub small : All IsSmall places

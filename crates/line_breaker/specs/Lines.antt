@@ -1,6 +1,6 @@
 -- How a run is cut into lines (CSS 2.1, section 9.4.2; CSS Text 3, section 5.1). Places are counted from 0: place k stands
 -- before piece k.
-use Rattle.std.specs.Prelude.{◌≡◌, ◌≢◌, ℕ, ◌+◌, ◌-◌, ◌^◌, ◌<◌, ◌≤◌, pos, ◌+ℤ◌, Bool, true, false, IsTrue, ◌||◌, ◌==◌, if◌then◌else◌, List, [], ◌∷◌, take, drop, length}
+use Rattle.std.specs.Prelude.{◌≡◌, ◌≢◌, ℕ, ◌+◌, ◌-◌, ◌^◌, ◌<◌, ◌≤◌, pos, ◌+ℤ◌, Bool, true, false, IsTrue, ◌||◌, ◌==◌, ◌⊎◌, if◌then◌else◌, List, [], ◌∷◌, ◌++◌, take, drop, length}
 use Rattle.std.specs.List.{All, list_any}
 use Rattle.font_table.specs.declared.fonts.Face.{Face}
 use Rattle.inline_text.specs.declared.content.Piece.{Piece}
@@ -120,3 +120,20 @@ pub record CanBreak (runs : Runs) (faces : List Face) (strut : ℕ) : Type 0 whe
   pub named : All (HasStyle runs.styles) runs.pieces
   pub images : All IsMeasurable runs.pieces
   pub strut_named : strut < length runs.styles
+
+-- ---- laws
+
+-- the pieces of the lines, in order
+abbrev pub pieces_of : List Piece → List Line → List Piece
+pieces_of pieces [] = []
+pieces_of pieces (line ∷ lines) = part pieces line.from line.to ++ pieces_of pieces lines
+
+-- the lines hold the run's pieces, in order, each once; what follows the last line is `wbr` alone
+pub record HoldsAll (pieces : List Piece) (lines : List Line) : Type 0 where
+  pub rest : List Piece
+  pub whole : pieces_of pieces lines ++ rest ≡ pieces
+  pub chances : All (λ piece. IsTrue (is_chance piece)) rest
+
+-- a line is no wider than the width, unless no opportunity that counts fits
+abbrev pub IsNarrow : Runs → List Face → (width : ℕ) → Line → Type 0
+IsNarrow runs faces width line = (line.w ≤ width) ⊎ ((place : ℕ) → Counts runs line.from place → Fits runs faces width line.from place → ⊥)
