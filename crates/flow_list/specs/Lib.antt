@@ -5,6 +5,8 @@ pub mod Counts
 pub mod Flows
 pub mod RowHeights
 pub mod Rows
+pub mod Plain
+pub mod Reading
 pub mod Soundness
 pub mod Strip
 pub mod Tokens

@@ -6,6 +6,8 @@
 
 mod data;
 mod flows;
+mod plain;
+mod read;
 mod tally;
 
 pub use data::{
@@ -15,4 +17,5 @@ pub use flows::{
     FlowCounts, Flows, box_at, flow_counts, item_at, item_count, opened_in, row_at, seam_at,
     stack_at,
 };
+pub use read::read_flow;
 pub use tally::{Counts, Tally};
