@@ -1,16 +1,17 @@
 pub mod AtomFlows
 pub mod EdgeSums
+pub mod Digits
+pub mod Fields
 pub mod Fitting
 pub mod LeastHeight
 pub mod OpenBoxes
+pub mod PiecesLoop
+pub mod PlainLaws
+pub mod PlainSound
+mod SoundExamples
 pub mod StripBounds
 pub mod Walk
 mod Worked
 mod WorkedCloned
 mod WorkedNested
 mod WorkedParts
-pub mod Digits
-pub mod Fields
-pub mod PiecesLoop
-pub mod PlainLaws
-pub mod PlainSound

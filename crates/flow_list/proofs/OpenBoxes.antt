@@ -308,9 +308,9 @@ module _ (d : FlowsData) (f : Flow) (sound : IsSoundFlow d f) where
       let s = sum_by-append g f.opened (starts_in (take (k + 1) f.seams)) in
       let s' = sum_by-append g f.opened (starts_in (take (k + 1 + 1) f.seams)) in
       let x : sum_by g (starts_in (take (k + 1 + 1) f.seams)) ≡ sum_by g (starts_in (take (k + 1) f.seams)) + sum_by g (flat_map started (seam_of f (k + 1)).head) =
-          ap (sum_by g) st ∙ sum_by-append g (starts_in (take (k + 1) f.seams)) (flat_map started (seam_of f (k + 1)).head ++ []) ∙ ap (λ ys. sum_by g (starts_in (take (k + 1) f.seams)) + sum_by g ys) (append-nil (flat_map started (seam_of f (k + 1)).head)) in
+      ap (sum_by g) st ∙ sum_by-append g (starts_in (take (k + 1) f.seams)) (flat_map started (seam_of f (k + 1)).head ++ []) ∙ ap (λ ys. sum_by g (starts_in (take (k + 1) f.seams)) + sum_by g ys) (append-nil (flat_map started (seam_of f (k + 1)).head)) in
       let y : sum_by g (ends_in (take (k + 1 + 1) f.seams)) ≡ sum_by g (ends_in (take (k + 1) f.seams)) + sum_by g (flat_map ended (seam_of f (k + 1)).tail) =
-          ap (sum_by g) en ∙ sum_by-append g (ends_in (take (k + 1) f.seams)) (flat_map ended (seam_of f (k + 1)).tail ++ []) ∙ ap (λ ys. sum_by g (ends_in (take (k + 1) f.seams)) + sum_by g ys) (append-nil (flat_map ended (seam_of f (k + 1)).tail)) in
+      ap (sum_by g) en ∙ sum_by-append g (ends_in (take (k + 1) f.seams)) (flat_map ended (seam_of f (k + 1)).tail ++ []) ∙ ap (λ ys. sum_by g (ends_in (take (k + 1) f.seams)) + sum_by g ys) (append-nil (flat_map ended (seam_of f (k + 1)).tail)) in
       omega arith
 
   -- a box that ended in the first tail would have no item
@@ -353,7 +353,7 @@ module _ (d : FlowsData) (f : Flow) (sound : IsSoundFlow d f) where
       let s = sum_by-append g f.opened (starts_in (take (0 + 1) f.seams)) in
       let x : sum_by g (starts_in (take (0 + 1) f.seams)) ≡ sum_by g (flat_map started (seam_of f 0).head) = ap (λ ss. sum_by g (starts_in ss)) t ∙ ap (sum_by g) (append-nil (flat_map started (seam_of f 0).head)) in
       let y : sum_by g (ends_in (take (0 + 1) f.seams)) ≡ 0 =
-          ap (λ ss. sum_by g (ends_in ss)) t ∙ ap (sum_by g) (append-nil (flat_map ended (seam_of f 0).tail)) ∙ ap (sum_by g) (first-tail (flat_map ended (seam_of f 0).tail) refl) in
+      ap (λ ss. sum_by g (ends_in ss)) t ∙ ap (sum_by g) (append-nil (flat_map ended (seam_of f 0).tail)) ∙ ap (sum_by g) (first-tail (flat_map ended (seam_of f 0).tail) refl) in
       omega arith
 
   suc-next : (g : ℕ → ℕ) (k : ℕ) → suc k < length f.seams → sum_by g (open_at f (suc k)) ≡ sum_by g (open_across f (suc k)) + sum_by g (flat_map started (seam_of f (suc k)).head)
