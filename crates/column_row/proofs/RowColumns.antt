@@ -1,6 +1,6 @@
 -- The words on a row's columns, height and fits, where its flow holds atoms alone.
-use Rattle.std.proofs.Common.{◌≡◌, ℕ, ◌+◌, ◌-◌, ◌<◌, ◌≤◌, ◌^◌, max, min, Bool, true, false, cond, not, ◌&&◌, ◌||◌, List, [], ◌∷◌, ◌++◌, Option, Some, None, length, map, refl, sym, ◌∙◌, ap, subst, arith, ◌⊎◌, inl, inr, below_more}
-use Rattle.std.specs.Prelude.{fold, nat_lt, nat_le, ◌==◌, IfSome}
+use Rattle.std.proofs.Common.{◌≡◌, ℕ, ◌+◌, ◌-◌, ◌<◌, ◌≤◌, ◌^◌, max, min, Bool, true, false, cond, ◌||◌, List, [], ◌∷◌, Option, Some, None, length, map, refl, sym, ◌∙◌, ap, arith, ◌⊎◌, inl, inr, below_more}
+use Rattle.std.specs.Prelude.{fold, nat_lt, IfSome}
 use Rattle.std.specs.List.{list_any}
 use Rattle.std.proofs.lemmas.Bool.Decides.{nat_tests}
 use Rattle.std.proofs.lemmas.Bool.{cases_lt, cases_order, lt-ltb, le-ltb}
@@ -9,10 +9,10 @@ use Rattle.flow_list.specs.declared.data.FlowsData.{FlowsData}
 use Rattle.flow_list.specs.declared.data.RowInfo.{RowInfo}
 use Rattle.flow_list.specs.Atoms.{HoldsAtoms}
 use Rattle.flow_list.specs.Flows.{no_row, row_of, flow_in, flow_of}
-use Rattle.flow_list.specs.Tokens.{Token, row_start, item_number}
-use Rattle.flow_list.specs.Column.{Column, Inner, column, endless_column}
-use Rattle.flow_list.specs.RowHeights.{balanced_height, before_items, column_within, columns_of_row, ends_of, filled_height, greatest_extent, height_fits, is_unforced, row_columns, row_height, size_of}
-use Rattle.flow_list.specs.Rows.{all_rows, columns, columns_by, fits, left_in, most_columns, reach, reach_end, size_in}
+use Rattle.flow_list.specs.Tokens.{row_start, item_number}
+use Rattle.flow_list.specs.Column.{Column}
+use Rattle.flow_list.specs.RowHeights.{balanced_height, before_items, columns_of_row, ends_of, filled_height, greatest_extent, height_fits, is_unforced, row_columns, row_height, size_of}
+use Rattle.flow_list.specs.Rows.{all_rows, columns, fits, left_in, most_columns, reach, reach_end}
 use Rattle.flow_list.specs.Soundness.{IsSound}
 use Rattle.flow_list.proofs.AtomFlows.{atoms-left}
 use Rattle.flow_list.proofs.Fitting.{columns-endless, size-least, size-reach}
