@@ -1,6 +1,6 @@
 pub mod AtomFlows
-pub mod EdgeSums
 pub mod Digits
+pub mod EdgeSums
 pub mod Fields
 pub mod Fitting
 pub mod LeastHeight
@@ -12,6 +12,9 @@ mod SoundExamples
 pub mod StripBounds
 pub mod Walk
 mod Worked
+mod WorkedCertificates
 mod WorkedCloned
 mod WorkedNested
 mod WorkedParts
+mod WorkedRanges
+mod WorkedTrees

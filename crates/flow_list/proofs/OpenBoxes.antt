@@ -1,10 +1,10 @@
 -- The cloned edges of the boxes that are open, one seam after another, in a sound flow: at a tail those that end there fall
 -- away, at a head those that start there come.
-use Rattle.std.proofs.Common.{◌≡◌, ℕ, zero, suc, ◌+◌, ◌-◌, ◌*◌, ◌<◌, ◌≤◌, Bool, true, false, cond, not, ◌&&◌, ◌||◌, List, [], ◌∷◌, ◌++◌, length, take, drop, get_or, refl, sym, subst, ◌∙◌, ap, arith, sum_by, add-one, zero-add, add-zero, ◌⊎◌, inl, inr, append_assoc, All, reverse, ◌≢◌}
-use Rattle.std.specs.Prelude.{filter, count_by, ◌==◌, AllPairs, nat_eq, Contains, SomeIndex, slice_get, Some}
-use Rattle.std.specs.List.{list_any, flat_map}
+use Rattle.std.proofs.Common.{◌≡◌, ℕ, zero, suc, ◌+◌, ◌*◌, ◌<◌, ◌≤◌, Bool, true, false, cond, not, ◌||◌, List, [], ◌∷◌, ◌++◌, length, take, drop, get_or, refl, sym, subst, ◌∙◌, ap, arith, sum_by, add-one, zero-add, add-zero, append_assoc, All, reverse, ◌≢◌}
+use Rattle.std.specs.Prelude.{filter, ◌==◌, AllPairs, Contains, SomeIndex}
+use Rattle.std.specs.List.{flat_map}
 use Rattle.std.proofs.lemmas.Bool.Decides.{nat_tests}
-use Rattle.std.proofs.lemmas.Grind.{common_steps, flat_map-append}
+use Rattle.std.proofs.lemmas.Grind.{flat_map-append}
 use Rattle.std.proofs.lemmas.List.{append-nil, drop_more, take_more}
 use Rattle.std.proofs.lemmas.List.Elements.{filter_passes}
 use Rattle.std.proofs.lemmas.List.Sums.{sum_by-cons, sum_by-append}
@@ -15,7 +15,7 @@ use Rattle.flow_list.specs.declared.data.Seam.{Seam}
 use Rattle.flow_list.specs.declared.data.Flow.{Flow}
 use Rattle.flow_list.specs.declared.data.FlowsData.{FlowsData}
 use Rattle.flow_list.specs.Flows.{seam_of, no_seam, started, starts_in, ended, is_among, ends_in, open_at, boxes_in}
-use Rattle.flow_list.specs.Soundness.{count_of, AreNested, edges_of, IsSoundSeam, IsSoundFlow}
+use Rattle.flow_list.specs.Soundness.{count_of, AreNested, IsSoundFlow}
 use Rattle.flow_list.specs.ClonedEdges.{open_across}
 use Rattle.flow_list.proofs.EdgeSums.{sum-part}
 use Rattle.flow_list.proofs.Fitting.{starts-take, open_at-le}

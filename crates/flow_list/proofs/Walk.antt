@@ -1,7 +1,7 @@
 -- A column is what a walk over its items finds that keeps the best place so far.
 use Rattle.std.proofs.Common.{◌≡◌, ℕ, ◌+◌, Bool, true, false, cond, List, [], ◌∷◌, ◌++◌, Option, Some, None, refl, ap, append_assoc}
 use Rattle.std.specs.Prelude.{nat_lt, nat_le, fold}
-use Rattle.flow_list.specs.Column.{place_in, better_place, Column, Filled, Inner, Step, Place, cut, longer, rank, seams_between, seams_before, fill_in_room, room, inside, alone_place, best, choose, stopped, unstopped, column_up_to, column_over, last_place, no_place}
+use Rattle.flow_list.specs.Column.{place_in, better_place, Filled, Inner, Step, Place, cut, longer, rank, seams_between, seams_before, fill_in_room, room, inside, alone_place, best, choose, stopped, unstopped, column_up_to, column_over, last_place, no_place}
 
 -- the place behind an item, where the column may end if the seam there is forced or the end
 abbrev pub behind : Step → Place
