@@ -19,7 +19,8 @@ fn holds_atoms(flows: &Flows, row: u32) -> bool
         below: 0,
         folds: 0,
     };
-    for i in 0..item_count(flows, flow) {
+    let count = item_count(flows, flow);
+    for i in 0..count {
         match item_at(flows, flow, i, &mut tally) {
             Item::Atom { .. } => {}
             Item::Row(_) => return false,
