@@ -1,16 +1,16 @@
 -- Columns one after another: what one more column adds.
-use Rattle.std.proofs.Common.{◌≡◌, ℕ, suc, ◌+◌, ◌-◌, ◌<◌, ◌≤◌, max, Bool, true, false, not, ◌&&◌, ◌||◌, List, [], ◌∷◌, ◌++◌, length, map, refl, sym, ◌∙◌, ap, arith, append_assoc, ◌⊎◌, inl, inr}
+use Rattle.std.proofs.Common.{◌≡◌, ℕ, suc, ◌+◌, ◌-◌, ◌<◌, ◌≤◌, max, Bool, true, false, not, ◌&&◌, ◌||◌, List, [], ◌∷◌, ◌++◌, length, refl, sym, ◌∙◌, ap, arith, append_assoc, ◌⊎◌, inl, inr}
 use Rattle.std.specs.Prelude.{fold, nat_lt}
 use Rattle.std.specs.List.{list_any}
 use Rattle.std.proofs.lemmas.Bool.{cases_lt, lt-ltb, le-ltb}
 use Rattle.std.proofs.lemmas.Bool.Decides.{nat_tests}
-use Rattle.std.proofs.lemmas.List.{append-nil, map-append}
+use Rattle.std.proofs.lemmas.List.{map-append}
 use Rattle.flow_list.specs.declared.data.Flow.{Flow}
 use Rattle.flow_list.specs.declared.data.FlowsData.{FlowsData}
 use Rattle.flow_list.specs.Flows.{seam_of}
-use Rattle.flow_list.specs.Tokens.{Token, row_start, is_end}
+use Rattle.flow_list.specs.Tokens.{Token, is_end}
 use Rattle.flow_list.specs.Column.{Column, Inner, Place, column, is_forced, place_in}
-use Rattle.flow_list.specs.RowHeights.{before_items, ends_of, greatest_extent, is_unforced}
+use Rattle.flow_list.specs.RowHeights.{before_items, ends_of, is_unforced}
 use Rattle.flow_list.specs.Rows.{columns_by, columns, end_of, fails, forced_above, reach_end}
 use Rattle.flow_list.proofs.Fitting.{columns_by-step, columns_by-past, forced_above-one, forced_above-none, forced_above-last, reach_end-past}
 use Rattle.column_row.specs.declared.column.Ending.{Ending}

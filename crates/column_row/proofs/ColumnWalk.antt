@@ -1,20 +1,18 @@
 -- One item of a column of a flow of atoms.
 use Rattle.std.proofs.Common.{◌≡◌, ℕ, suc, ◌+◌, ◌-◌, ◌<◌, ◌≤◌, Bool, true, false, cond, List, [], ◌∷◌, length, Option, Some, None, refl, sym, ◌∙◌, ap, subst, arith, ◌⊎◌, inl, inr}
-use Rattle.std.specs.Prelude.{IfSome, IfNone, IsSomeAnd, nat_lt, ◌==◌}
+use Rattle.std.specs.Prelude.{IfSome, IfNone, IsSomeAnd, ◌==◌}
 use Rattle.std.proofs.lemmas.Bool.{lt-ltb, le-ltb}
 use Rattle.mc_base.specs.declared.level.Level.{Level}
 use Rattle.flow_list.specs.declared.data.Flow.{Flow}
 use Rattle.flow_list.specs.declared.data.FlowsData.{FlowsData}
 use Rattle.flow_list.specs.Atoms.{IsAtom}
-use Rattle.flow_list.specs.ClonedEdges.{bottoms, open_across}
 use Rattle.flow_list.specs.Flows.{item_of, seam_of}
 use Rattle.flow_list.specs.Strip.{Strip, lay_all}
 use Rattle.flow_list.specs.Tokens.{row_start}
-use Rattle.flow_list.specs.Column.{Inner, Step, Place, Column, better_place, place_in, is_forced, rank, step_at, steps, strip_behind, start_strip, steps_from, column, column_over, avoids_at, whole_place, no_place}
+use Rattle.flow_list.specs.Column.{Inner, Step, Place, place_in, is_forced, rank, step_at, steps, strip_behind, start_strip, steps_from, column, avoids_at, whole_place}
 use Rattle.flow_list.proofs.AtomFlows.{atom-row}
 use Rattle.flow_list.proofs.Walk.{walk, consider, behind, place_or, column_over-walk}
 use Rattle.column_row.specs.declared.column.Ending.{Ending}
-use Rattle.column_row.specs.declared.cloned.Cloned.{Cloned}
 use Rattle.column_row.specs.declared.passing.Before.{Before}
 use Rattle.column_row.specs.declared.passing.Behind.{Behind}
 use Rattle.column_row.specs.declared.strip.Laying.{Laying}

@@ -1,11 +1,10 @@
 -- What passing an item or a seam of a flow of atoms leaves.
-use Rattle.std.proofs.Common.{◌≡◌, ℕ, ◌+◌, ◌<◌, ◌≤◌, ◌^◌, List, length, drop, ap, ◌∙◌, subst, sym, arith, sum_by, All}
+use Rattle.std.proofs.Common.{◌≡◌, ℕ, ◌+◌, ◌<◌, ◌≤◌, ◌^◌, List, length, drop, ap, ◌∙◌, arith, sum_by, All}
 use Rattle.std.specs.List.{flat_map}
 use Rattle.mc_base.specs.declared.level.Level.{Level}
 use Rattle.flow_list.specs.declared.data.Edge.{Edge}
 use Rattle.flow_list.specs.declared.data.Flow.{Flow}
 use Rattle.flow_list.specs.declared.data.FlowsData.{FlowsData}
-use Rattle.flow_list.specs.declared.data.Item.{Item}
 use Rattle.flow_list.specs.declared.data.Seam.{Seam}
 use Rattle.flow_list.specs.Atoms.{IsAtom, HoldsAtoms}
 use Rattle.flow_list.specs.ClonedEdges.{tops, bottoms}

@@ -1,18 +1,20 @@
 -- The words on a row's columns, height and fits, where its flow holds atoms alone.
-use Rattle.std.proofs.Common.{◌≡◌, ℕ, ◌+◌, ◌-◌, ◌<◌, ◌≤◌, ◌^◌, max, min, Bool, true, false, cond, not, ◌&&◌, ◌||◌, List, [], ◌∷◌, ◌++◌, Option, Some, None, length, map, refl, sym, ◌∙◌, ap, subst, arith, ◌⊎◌, inl, inr, below_more}
-use Rattle.std.specs.Prelude.{fold, nat_lt, nat_le, ◌==◌, IfSome}
+use Rattle.std.proofs.Common.{◌≡◌, ℕ, ◌+◌, ◌-◌, ◌<◌, ◌≤◌, ◌^◌, max, min, Bool, true, false, cond, ◌||◌, List, [], ◌∷◌, Option, Some, None, length, get_or, map, refl, sym, ◌∙◌, ap, subst, arith, ◌⊎◌, inl, inr, below_more}
+use Rattle.std.specs.Prelude.{fold, nat_lt, IfSome}
 use Rattle.std.specs.List.{list_any}
 use Rattle.std.proofs.lemmas.Bool.Decides.{nat_tests}
+use Rattle.std.proofs.lemmas.List.{get_or_default}
 use Rattle.std.proofs.lemmas.Bool.{cases_lt, cases_order, lt-ltb, le-ltb}
 use Rattle.flow_list.specs.declared.data.Flow.{Flow}
 use Rattle.flow_list.specs.declared.data.FlowsData.{FlowsData}
+use Rattle.flow_list.specs.declared.data.Item.{Item}
 use Rattle.flow_list.specs.declared.data.RowInfo.{RowInfo}
-use Rattle.flow_list.specs.Atoms.{HoldsAtoms}
-use Rattle.flow_list.specs.Flows.{no_row, row_of, flow_in, flow_of}
-use Rattle.flow_list.specs.Tokens.{Token, row_start, item_number}
-use Rattle.flow_list.specs.Column.{Column, Inner, column, endless_column}
-use Rattle.flow_list.specs.RowHeights.{balanced_height, before_items, column_within, columns_of_row, ends_of, filled_height, greatest_extent, height_fits, is_unforced, row_columns, row_height, size_of}
-use Rattle.flow_list.specs.Rows.{all_rows, columns, columns_by, fits, left_in, most_columns, reach, reach_end, size_in}
+use Rattle.flow_list.specs.Atoms.{HoldsAtoms, IsAtom}
+use Rattle.flow_list.specs.Flows.{no_item, no_row, item_of, row_of, flow_in, flow_of}
+use Rattle.flow_list.specs.Tokens.{row_start, item_number}
+use Rattle.flow_list.specs.Column.{Column}
+use Rattle.flow_list.specs.RowHeights.{balanced_height, before_items, columns_of_row, ends_of, filled_height, greatest_extent, height_fits, is_unforced, row_columns, row_height, size_of}
+use Rattle.flow_list.specs.Rows.{all_rows, columns, fits, left_in, most_columns, reach, reach_end}
 use Rattle.flow_list.specs.Soundness.{IsSound}
 use Rattle.flow_list.proofs.AtomFlows.{atoms-left}
 use Rattle.flow_list.proofs.Fitting.{columns-endless, size-least, size-reach}
@@ -209,3 +211,10 @@ module _ (d : FlowsData) (r : ℕ) (sound : IsSound d) (in_rows : r < length d.r
 
 pub balanced-same : (d : FlowsData) (r : ℕ) (available : Option ℕ) → (row_of d r).auto ≡ false → (h : ℕ) → h ≡ balanced_height available (size_of d r row_start) → row_columns d r (Some h) ≡ columns_of_row d r available
 balanced-same d r available balanced h is = ap (λ k. row_columns d r (Some k)) is ∙ sym (balanced-columns d r available balanced)
+
+-- a row's flow holds atoms alone where each of its items is one
+pub all-atoms : (d : FlowsData) (r : ℕ) (info : RowInfo) → info ≡ row_of d r → (n : ℕ) → n ≡ length (flow_of d info.flow).items → ((k : ℕ) → k < n → IsAtom (item_of (flow_of d info.flow) k)) → HoldsAtoms (flow_in d r)
+all-atoms d r info is n all h = let P : RowInfo → Type 0 = λ i. HoldsAtoms (flow_of d i.flow) in subst P is (λ k x lt. any-item (flow_of d info.flow) k x lt (h k (omega arith)))
+  where
+    any-item : (f : Flow) (k : ℕ) (x : Item) → k < length f.items → IsAtom (item_of f k) → IsAtom (get_or f.items k x)
+    any-item f k x lt a = let Q : Item → Type 0 = λ i. IsAtom i in subst Q (get_or_default f.items k no_item x lt) a

@@ -104,6 +104,7 @@ pub fn column_at(flows: &Flows, flow: u32, begin: Beginning, height: Units) -> E
     ensures cloned { IsAcross flows.now (flow_of flows.now flow) result.item result.cloned }
 {
     let count = item_count(flows, flow);
+    // Sealed flows are sound.
     let _counts = flow_counts(flows);
     let mut best = None;
     let mut last = None;

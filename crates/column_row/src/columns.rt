@@ -33,6 +33,7 @@ fn beginning(flows: &Flows, flow: u32) -> Beginning
     ensures item { result.item ≡ 0 }
     ensures cloned { IsAcross flows.now (flow_of flows.now flow) 0 result.cloned }
 {
+    // Sealed flows are sound.
     let _counts = flow_counts(flows);
     Beginning {
         item: 0,
@@ -45,6 +46,7 @@ pub fn most_columns(flows: &Flows, row: u32) -> u64
     requires { row < length flows.now.rows }
     ensures { result ≡ most_of (row_of flows.now row).n (flow_in flows.now row) row_start }
 {
+    // Sealed flows are sound.
     let _counts = flow_counts(flows);
     let info = row_at(flows, row);
     let count = item_count(flows, info.flow);
@@ -96,6 +98,7 @@ fn is_unforced_at(flows: &Flows, flow: u32, item: u32) -> bool
     requires item { item ≤ length (flow_of flows.now flow).items }
     ensures { result ≡ is_unforced (flow_of flows.now flow) (item ∷ []) }
 {
+    // Sealed flows are sound.
     let _counts = flow_counts(flows);
     item < item_count(flows, flow) && !is_forced_at(seam_at(flows, flow, item).level)
 }

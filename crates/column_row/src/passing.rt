@@ -58,6 +58,7 @@ pub fn before_first(flows: &Flows, flow: u32, begin: Beginning) -> Before
     ensures strip { strip_of result.strip ≡ start_strip flows.now (flow_of flows.now flow) (begin.item ∷ []) }
     ensures before { IsBefore flows.now (flow_of flows.now flow) begin.item result }
 {
+    // Sealed flows are sound.
     let _counts = flow_counts(flows);
     let seam = seam_at(flows, flow, begin.item);
     let head = seam.head.as_slice();
@@ -78,6 +79,7 @@ pub fn past_item(flows: &Flows, flow: u32, k: u32, before: Before) -> Behind
     ensures strip { strip_of result.strip ≡ strip_behind (all_rows flows.now) (flow_of flows.now flow) (strip_of before.strip) k row_start }
     ensures behind { IsBehind flows.now (flow_of flows.now flow) k result }
 {
+    // Sealed flows are sound.
     let _counts = flow_counts(flows);
     let mut tally = Counts {
         reads: 0,
@@ -103,6 +105,7 @@ pub fn past_head(flows: &Flows, flow: u32, k: u32, behind: Behind) -> Before
     ensures strip { strip_of result.strip ≡ lay_all (strip_of behind.strip) (seam_of (flow_of flows.now flow) (k + 1)).head }
     ensures before { IsBefore flows.now (flow_of flows.now flow) (k + 1) result }
 {
+    // Sealed flows are sound.
     let _counts = flow_counts(flows);
     let seam = seam_at(flows, flow, k + 1);
     let head = seam.head.as_slice();

@@ -56,6 +56,7 @@ fn made_at(alloc: Global, flows: &Flows, row: u32, height: Units) -> Result<Made
     ensures extent { IfOk result (λ r. r.extent ≡ greatest_extent (row_columns flows.now row (Some height))) }
     ensures unforced { IfOk result (λ r. r.unforced ≡ any_unforced (flow_in flows.now row) (row_columns flows.now row (Some height))) }
 {
+    // Sealed flows are sound.
     let _counts = flow_counts(flows);
     let most = most_columns(flows, row);
     let made = columns_at(alloc, flows, row_at(flows, row).flow, most, height)?;
@@ -80,6 +81,7 @@ fn least_height(flows: &Flows, row: u32, available: Option<Units>) -> Units
     requires atoms { HoldsAtoms (flow_in flows.now row) }
     ensures { result ≡ balanced_height available (size_of flows.now row row_start) }
 {
+    // Sealed flows are sound.
     let _counts = flow_counts(flows);
     let most = most_columns(flows, row);
     let flow = row_at(flows, row).flow;
@@ -156,6 +158,7 @@ fn auto_row(
     ensures ends { IfOk result (λ r. r.ends ≡ items_of (columns_of_row flows.now row available)) }
     ensures places { IfOk result (λ r. before_items r.ends ≡ ends_of (columns_of_row flows.now row available)) }
 {
+    // Sealed flows are sound.
     let _counts = flow_counts(flows);
     let made = made_at(alloc, flows, row, limit_of(available))?;
     Ok(FlatRow {

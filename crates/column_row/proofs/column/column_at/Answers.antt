@@ -1,6 +1,4 @@
-use Rattle.std.proofs.Common.{◌≡◌, ◌+◌, ◌<◌, ◌≤◌, refl, sym, arith}
-use Rattle.flow_list.specs.Column.{column, place_in}
-use Rattle.flow_list.specs.ClonedEdges.{bottoms}
+use Rattle.std.proofs.Common.{◌+◌, refl, sym, arith}
 use Rattle.flow_list.specs.Flows.{flow_of, box_of}
 use Rattle.flow_list.specs.Rows.{all_rows}
 use Rattle.flow_list.proofs.Fitting.{open_across-le}

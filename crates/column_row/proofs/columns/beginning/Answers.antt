@@ -1,4 +1,4 @@
-use Rattle.std.proofs.Common.{◌≡◌, ◌∙◌, arith}
+use Rattle.std.proofs.Common.{◌∙◌, arith}
 use Rattle.flow_list.specs.Flows.{box_of, flow_of}
 use Rattle.flow_list.proofs.Fitting.{open_across-le}
 use Rattle.flow_list.proofs.OpenBoxes.{opened-known}

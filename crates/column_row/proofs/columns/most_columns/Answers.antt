@@ -1,4 +1,4 @@
-use Rattle.std.proofs.Common.{◌≡◌, ◌+◌, ◌∙◌, ap, sym, arith}
+use Rattle.std.proofs.Common.{◌∙◌, ap, sym, arith}
 use Rattle.flow_list.specs.declared.data.Seam.{Seam}
 use Rattle.flow_list.specs.Column.{is_forced}
 use Rattle.flow_list.specs.Flows.{flow_of}

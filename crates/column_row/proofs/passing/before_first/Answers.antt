@@ -1,6 +1,5 @@
-use Rattle.std.proofs.Common.{◌+◌, ◌≤◌, ap, arith, sum_by}
+use Rattle.std.proofs.Common.{◌+◌, ap, arith}
 use Rattle.flow_list.specs.Strip.{Strip}
-use Rattle.flow_list.specs.Flows.{amount}
 use Rattle.column_row.proofs.Passages.{first-room, first-known, first-tops, first-bottoms, first-before}
 use Rattle.column_row.proofs.passing.before_first.Goals as goal
 

@@ -1,7 +1,6 @@
-use Rattle.std.proofs.Common.{◌≡◌, ◌+◌, ◌-◌, ◌<◌, ◌≤◌, Bool, true, false, sym, arith}
-use Rattle.flow_list.specs.Flows.{flow_in, row_of}
-use Rattle.flow_list.specs.RowHeights.{height_fits, size_of}
-use Rattle.flow_list.specs.Rows.{all_rows, reach}
+use Rattle.std.proofs.Common.{◌+◌, ◌-◌, ◌<◌, true, false, sym, arith}
+use Rattle.flow_list.specs.Flows.{row_of}
+use Rattle.flow_list.specs.RowHeights.{size_of}
 use Rattle.flow_list.specs.Tokens.{row_start}
 use Rattle.column_row.proofs.Passages.{bound}
 use Rattle.column_row.proofs.RowColumns.{made-fits, row-flow, size-below, tried-more, tried-next, tried-whole, tried-fits}

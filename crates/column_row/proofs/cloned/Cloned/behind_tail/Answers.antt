@@ -1,4 +1,4 @@
-use Rattle.std.proofs.Common.{◌+◌, arith}
+use Rattle.std.proofs.Common.{arith}
 use Rattle.flow_list.specs.declared.data.Edge.TheVariants.{Margin}
 use Rattle.flow_list.specs.Flows.{box_of, ended}
 use Rattle.flow_list.proofs.EdgeSums.{sum-part}
