@@ -1,3 +1,5 @@
+pub mod AtomFlows
+pub mod EdgeSums
 pub mod Fitting
 pub mod LeastHeight
 pub mod OpenBoxes
