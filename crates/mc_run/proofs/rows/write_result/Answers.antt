@@ -15,13 +15,13 @@ put_columns-requires-clause-heights c = heights_small _ _ c.requires c.row_at-ro
 
 pub put_columns-requires-clause-count : goal.put_columns-requires-clause-count
 put_columns-requires-clause-count c =
-    subst (λ ends. length ends < 2 ^ 32) (sym c.as_slice.ensures) (ends_few _ c.in_ok-laid.laid.ends c.available.result c.requires c.in_ok-laid.ensures.ends)
+    subst (λ ends. length ends < 2 ^ 32) (sym c.as_slice.ensures) (ends_few _ c.in_ok-laid.laid.ends c.available.result c.requires c.in_ok-laid.ensures.places)
 
 pub returns : goal.returns
 returns c =
     let laid = c.in_ok-laid.laid in
     let height_is = c.in_ok-laid.ensures.height ∙ ap (λ a. row_height c.args.flows.now 0 a) c.available.ensures in
-    let ends_are = c.in_ok-laid.ensures.ends ∙ ap (λ a. ends_of (columns_of_row c.args.flows.now 0 a)) c.available.ensures in
+    let ends_are = c.in_ok-laid.ensures.places ∙ ap (λ a. ends_of (columns_of_row c.args.flows.now 0 a)) c.available.ensures in
     added _ _ _ _ _ _ _ _ _ _ _ _ c.new-out.ensures c.in_ok-extend.ensures.ok c.in_ok-put_line.ensures c.in_ok-put_line-2.ensures
     (ap (λ w. tree_line 1 (codes "row") (0 ∷ 0 ∷ 0 ∷ 0 ∷ w ∷ laid.height ∷ [])) c.width.ensures)
     (subst (λ ends. c.put_columns.new.out ≡ c.put_line-2.new.out ++ columns_text (flow_of c.args.flows.now c.row_at-row.result.now.flow).items c.row_at-row.result.now laid.height 0 0 ends) c.as_slice.ensures c.in_ok-put_columns.ensures)
