@@ -18,6 +18,8 @@ mod inputs;
 mod print;
 mod rows;
 mod stop;
+#[cfg(test)]
+mod tests;
 mod words;
 
 use mc_base::{Files, Sink};
