@@ -1,5 +1,5 @@
 -- What follows for all lines.
-use Rattle.std.proofs.Common.{◌≡◌, ℕ, zero, suc, ◌+◌, ◌-◌, ◌≤◌, ◌<◌, Bool, true, false, ◌&&◌, List, [], ◌∷◌, ◌++◌, length, get_or, take, drop, Some, All, ◌⊎◌, inl, inr, refl, sym, ap, subst, ◌∙◌, arith, append_assoc, length-drop}
+use Rattle.std.proofs.Common.{◌≡◌, ℕ, zero, suc, ◌+◌, ◌-◌, ◌≤◌, ◌<◌, Bool, true, false, ◌&&◌, List, [], ◌∷◌, ◌++◌, length, get_or, ltb, ℤ, pos, ◌+ℤ◌, take, drop, Some, All, ◌⊎◌, inl, inr, refl, sym, ap, subst, ◌∙◌, arith, append_assoc, length-drop}
 use Rattle.std.specs.Prelude.{IsTrue, slice_get}
 use Rattle.std.specs.List.{AllByRecursion}
 use Rattle.std.proofs.lemmas.List.{append-nil, drop-drop, take-append-drop}
@@ -7,16 +7,21 @@ use Rattle.std.proofs.lemmas.List.Elements.{All-from_recursion, All-drop}
 use Rattle.std.proofs.lemmas.Bool.{lt-ltb}
 use Rattle.font_table.specs.declared.fonts.Face.{Face}
 use Rattle.inline_text.specs.declared.content.Piece.{Piece}
+use Rattle.inline_text.specs.declared.content.RunStyle.{RunStyle}
 use Rattle.inline_text.specs.declared.content.Runs.{Runs}
-use Rattle.inline_text.specs.Opportunities.{opportunity_at}
+use Rattle.inline_text.specs.Opportunities.{opportunity_at, opportunities_behind}
 use Rattle.line_breaker.specs.declared.line.Line.{Line}
 use Rattle.line_breaker.specs.declared.places.Place.{Place}
 use Rattle.line_breaker.specs.declared.ahead.Ahead.{Ahead}
 use Rattle.line_breaker.specs.Lines.{part, stretch_len, stretch_end, Counts, Fits, EndsAt, whole, last_that_fits, first, unbroken, IsLine, AreLines, is_chance, pieces_of, HoldsAll, IsNarrow}
-use Rattle.line_breaker.specs.Arrays.{IsMeasured, opportunity_before}
-use Rattle.line_breaker.proofs.Between.{place_at-from}
-use Rattle.line_breaker.proofs.Following.{ahead_at-from, stretch-some}
+use Rattle.line_breaker.specs.Measures.{greatest_above, greatest_below}
+use Rattle.line_breaker.specs.Arrays.{start, place_at, ahead_at, ahead_of, IsMeasured, opportunity_before}
+use Rattle.line_breaker.proofs.Between.{place_at-from, length-places}
+use Rattle.line_breaker.proofs.Following.{ahead_at-from, length-aheads, end_is, stretch-some, stretch-within}
 use Rattle.line_breaker.proofs.Ends.{Setting}
+
+abbrev pub IsChance : Piece → Type 0
+IsChance piece = IsTrue (is_chance piece)
 
 abbrev pub AreChances : List Piece → Type 0
 AreChances pieces = All (λ piece. IsTrue (is_chance piece)) pieces
@@ -90,8 +95,43 @@ read_again (x ∷ xs) (suc k) b e = read_again xs k b e
 
 pub setting : (runs : Runs) (faces : List Face) (places : List Place) (ahead : List Ahead) (from : ℕ) (h : IsMeasured runs faces places ahead) → from < length runs.pieces → Setting runs faces places h.opportunities ahead from
 setting runs faces places ahead from h lt = record {
-  places_are = ?;
-  ahead_is = ?;
-  opportunities_are = ?;
+  places_are = λ k le. ap (λ (ps : List Place). place_at ps k) h.places_are ∙ place_at-from runs.styles faces start runs.pieces k le;
+  ahead_is = λ k le.
+    let same : 0 + k ≡ k = omega arith in
+    ap (λ (xs : List Ahead). ahead_at xs k) h.ahead_are ∙ ahead_at-from places h.opportunities 0 runs.pieces k le ∙ ap (λ (n : ℕ). ahead_of places h.opportunities n (drop k runs.pieces)) same;
+  opportunities_are = λ k later le.
+    let some : ltb 0 k ≡ true = lt-ltb 0 k later in
+    let same : k - 1 + 1 ≡ k = omega arith in
+    ap (λ (b : Bool). b && get_or h.opportunities (k - 1) false) some ∙ read_again h.opportunities (k - 1) (opportunity_at runs (k - 1 + 1)) (h.opportunities_are (k - 1) (omega arith)) ∙ ap (opportunity_at runs) same;
   within = lt;
 }
+
+pub record Facts (runs : Runs) (places : List Place) (ahead : List Ahead) (from : ℕ) : Type 0 where
+  pub places_len : length places ≡ length runs.pieces + 1
+  pub ahead_len : length ahead ≡ length runs.pieces + 1
+  pub end : (ahead_at ahead from).end ≡ stretch_end runs.pieces from
+  pub later : from < stretch_end runs.pieces from
+  pub within : stretch_end runs.pieces from ≤ length runs.pieces
+
+pub facts : (runs : Runs) (faces : List Face) (places : List Place) (ahead : List Ahead) (from : ℕ) → IsMeasured runs faces places ahead → from < length runs.pieces → Facts runs places ahead from
+facts runs faces places ahead from h lt =
+    let s = setting runs faces places ahead from h lt in
+    record {
+      places_len = ap length h.places_are ∙ length-places runs.styles faces start runs.pieces;
+      ahead_len = ap length h.ahead_are ∙ length-aheads places h.opportunities 0 runs.pieces;
+      end = ap (λ (a : Ahead). a.end) (s.ahead_is from (omega arith)) ∙ end_is places h.opportunities from (drop from runs.pieces);
+      later = omega (arith, stretch-some (drop from runs.pieces) (omega (arith, length-drop from runs.pieces)));
+      within = omega (arith, stretch-within (drop from runs.pieces), length-drop from runs.pieces);
+    }
+
+pub length-opportunities : (styles : List RunStyle) (before pieces : List Piece) → length (opportunities_behind styles before pieces) ≡ length pieces
+length-opportunities styles before [] = refl
+length-opportunities styles before (p ∷ ps) = ap (λ (n : ℕ). suc n) (length-opportunities styles (p ∷ before) ps)
+
+pub height_is : (styles styles' : List RunStyle) (faces : List Face) (a a' b b' : ℤ) (ps ps' : List Piece) (h : ℕ) → styles ≡ styles' → a ≡ a' → b ≡ b' → ps ≡ ps'
+    → pos h ≡ greatest_above styles faces a ps +ℤ greatest_below styles faces b ps → pos h ≡ greatest_above styles' faces a' ps' +ℤ greatest_below styles' faces b' ps'
+height_is styles styles' faces a a' b b' ps ps' h same_styles same_a same_b same_ps e =
+    e ∙ ap (λ (s : List RunStyle). greatest_above s faces a ps +ℤ greatest_below s faces b ps) same_styles
+    ∙ ap (λ (x : ℤ). greatest_above styles' faces x ps +ℤ greatest_below styles' faces b ps) same_a
+    ∙ ap (λ (x : ℤ). greatest_above styles' faces a' ps +ℤ greatest_below styles' faces x ps) same_b
+    ∙ ap (λ (xs : List Piece). greatest_above styles' faces a' xs +ℤ greatest_below styles' faces b' xs) same_ps

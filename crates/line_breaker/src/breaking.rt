@@ -129,12 +129,13 @@ fn next_line(runs: &Runs, fonts: &Fonts, places: &[Place], ahead: &[Ahead], from
     let pieces = runs.pieces.as_slice();
     let end = ahead[from].end;
     let to = line_end(places, ahead, from, end, width);
+    let (own, _) = pieces.split_at(from).1.split_at(to - from);
     let strut = extent_of(fonts, &styles[strut as usize]);
     Line {
         from: from as u32,
         to: to as u32,
         w: line_width(places, from, end, to),
-        h: line_height(strut, styles, fonts, &pieces[from..to]),
+        h: line_height(strut, styles, fonts, own),
     }
 }
 

@@ -10,8 +10,8 @@ mod height;
 mod line;
 mod measures;
 mod places;
-// #[cfg(test)]
-// mod tests;
+#[cfg(test)]
+mod tests;
 
-// pub use breaking::break_lines;
+pub use breaking::break_lines;
 pub use line::Line;
