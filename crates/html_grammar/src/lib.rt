@@ -1,0 +1,15 @@
+//! What a document of this profile of HTML is: its characters, tokens and trees, and the laws of the grammar.
+//!
+//! It stands on mc_base. The files of `specs/` say which characters spell which token, which tokens have which tree,
+//! and which fault is the first. Each function here is a law about them, and does nothing when it runs.
+#![tactic(auto)]
+
+mod dom;
+mod place;
+mod stage;
+mod token;
+
+pub use dom::{Attribute, Dom, DomNode, NodeId, NodeKind};
+pub use place::Place;
+pub use stage::{Open, Stage};
+pub use token::{Fault, Meaning, Piece, ReadAttribute, ReadAttributes, Spelled, Tag, Token, Value};
