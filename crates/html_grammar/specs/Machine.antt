@@ -172,10 +172,15 @@ abbrev pub all_omit : List Open → Bool
 all_omit [] = true
 all_omit (o ∷ os) = omits o.name && all_omit os
 
-abbrev pub finish : ℕ → State → Result State Fault
-finish size s = if all_omit s.opens then ended s (nodes_at_rest s) ([], s.html) else fault size 7
+-- the nodes of a whole document, and how many of its elements stand one inside another at most
+pub record Built : Type 0 where
+  pub nodes : List DomNode
+  pub deepest : ℕ
 
-abbrev pub conclude_at : Stage → ℕ → State → Result State Fault
+abbrev pub finish : ℕ → State → Result Built Fault
+finish size s = if all_omit s.opens then Ok (record { nodes = nodes_at_rest s; deepest = s.deepest }) else fault size 7
+
+abbrev pub conclude_at : Stage → ℕ → State → Result Built Fault
 conclude_at (Opening doctype) size s = finish size (begin_body (end_head (begin_head (begin_html s size []) size [])) size [])
 conclude_at BeforeHead size s = finish size (begin_body (end_head (begin_head s size [])) size [])
 conclude_at InHead size s = finish size (begin_body (end_head s) size [])
@@ -183,7 +188,7 @@ conclude_at BehindHead size s = finish size (begin_body s size [])
 conclude_at InBody size s = finish size s
 
 -- the end of a text of this many bytes
-unfoldable pub conclude : ℕ → State → Result State Fault
+unfoldable pub conclude : ℕ → State → Result Built Fault
 conclude size s = conclude_at s.stage size s
 
 -- the reading behind these tokens, or the first fault
@@ -192,5 +197,5 @@ read_all s [] = Ok s
 read_all s (t ∷ ts) = take_token s t >>= λ next. read_all next ts
 
 -- what the tokens of a text of this many bytes come to, or the first fault
-unfoldable pub built : ℕ → List Token → Result State Fault
+unfoldable pub built : ℕ → List Token → Result Built Fault
 built size toks = read_all opening_state toks >>= conclude size

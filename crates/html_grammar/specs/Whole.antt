@@ -14,12 +14,12 @@ use Rattle.html_grammar.specs.declared.place.Place.{Place}
 use Rattle.html_grammar.specs.declared.token.Fault.{Fault}
 use Rattle.html_grammar.specs.Places.{places_of}
 use Rattle.html_grammar.specs.Tokens.{◌>>=◌, fault, late_of, construct_of}
-use Rattle.html_grammar.specs.Machine.{State, opening_state, take_token, conclude}
+use Rattle.html_grammar.specs.Machine.{State, Built, opening_state, take_token, conclude}
 use Rattle.html_grammar.specs.Lexing.{token_at}
 
 -- what reading comes to, and the first construct that isn't laid out
 pub record Reading : Type 0 where
-  pub state : State
+  pub built : Built
   pub construct : Option Found
 
 abbrev pub or_found : Option Found → Option Found → Option Found
@@ -32,7 +32,7 @@ not_late (Some f) (Ok s) = Err f
 not_late (Some f) (Err e) = Err e
 
 abbrev pub concluded : ℕ → Option Found → State → Result Reading Fault
-concluded size seen s = conclude size s >>= λ last. Ok (record { state = last; construct = seen })
+concluded size seen s = conclude size s >>= λ last. Ok (record { built = last; construct = seen })
 
 -- The tokens one after the other, of which there are at most as many as counted: a token's own form comes first, then
 -- the structure, then what the token has behind its place.
@@ -72,9 +72,9 @@ grammar_refusal f = refusals.Grammar inputs.Document f.at (record { letter = 104
 -- at most 20,000 elements, and at most 64 of them one inside another
 abbrev pub within_limits : Reading → Result Dom Refusal
 within_limits r =
-    if nat_lt 20000 (count_elements r.state.nodes) then Err (refusals.Limit limits.Elements 20001 20000)
-    else (if nat_lt 64 r.state.deepest then Err (refusals.Limit limits.Depth 65 64)
-    else Ok (record { nodes = r.state.nodes; construct = r.construct }))
+    if nat_lt 20000 (count_elements r.built.nodes) then Err (refusals.Limit limits.Elements 20001 20000)
+    else (if nat_lt 64 r.built.deepest then Err (refusals.Limit limits.Depth 65 64)
+    else Ok (record { nodes = r.built.nodes; construct = r.construct }))
 
 abbrev pub refused_or_within : Result Reading Fault → Result Dom Refusal
 refused_or_within (Ok r) = within_limits r
