@@ -13,3 +13,6 @@ pub use dom::{Attribute, Dom, DomNode, NodeId, NodeKind};
 pub use place::Place;
 pub use stage::{Open, Stage};
 pub use token::{Fault, Meaning, Piece, ReadAttribute, ReadAttributes, Spelled, Tag, Token, Value};
+
+/// A placeholder.
+pub fn nothing() {}

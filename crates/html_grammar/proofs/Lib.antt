@@ -1,0 +1,6 @@
+mod Steps
+mod Complete
+mod Stages
+mod Heads
+mod Whole
+mod Unique
