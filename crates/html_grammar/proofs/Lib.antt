@@ -4,3 +4,4 @@ mod Stages
 mod Heads
 mod Whole
 mod Unique
+mod Sound
