@@ -1,6 +1,6 @@
 -- What is a document is read.
-use Rattle.std.proofs.Common.{◌≡◌, ℕ, zero, suc, ◌+◌, ◌≤◌, List, [], ◌∷◌, ◌++◌, length, Option, Some, None, Result, Ok, Err, Bool, true, false, cond, ◌&&◌, refl, sym, ap, ◌∙◌, append_assoc, arith, length-append, inl, inr}
-use Rattle.std.specs.Prelude.{IsTrue, MatchBool, ◌⊎◌, max, encode_utf8, codes}
+use Rattle.std.proofs.Common.{◌≡◌, ℕ, suc, ◌+◌, ◌≤◌, List, [], ◌∷◌, ◌++◌, length, Option, Some, None, Ok, Bool, true, false, cond, refl, sym, ap, ◌∙◌, append_assoc, arith, length-append, inl, inr}
+use Rattle.std.specs.Prelude.{MatchBool, ◌⊎◌, max, encode_utf8, codes}
 use Rattle.std.proofs.lemmas.List.{append-nil}
 use Rattle.html_grammar.specs.declared.dom.Attribute.{Attribute}
 use Rattle.html_grammar.specs.declared.dom.DomNode.{DomNode}
@@ -9,12 +9,12 @@ use Rattle.html_grammar.specs.declared.token.Fault.{Fault}
 use Rattle.html_grammar.specs.declared.token.Piece.{Piece}
 use Rattle.html_grammar.specs.declared.token.Token.{Token}
 use Rattle.html_grammar.specs.declared.token.Token.TheVariants.{Start, Raw, End, Comment, Doctype, Char}
-use Rattle.html_grammar.specs.Names.{same, is_outer, is_void, omits, closes}
-use Rattle.html_grammar.specs.Tokens.{◌>>=◌, is_white}
+use Rattle.html_grammar.specs.Names.{same, is_outer, is_void, closes}
+use Rattle.html_grammar.specs.Tokens.{is_white}
 use Rattle.html_grammar.specs.Tree.{Forest, Nil, Element, Words, element_node, words_node, nodes_from}
-use Rattle.html_grammar.specs.Grammar.{skip_comments, skip_blank, run_text, behind_run, Closed, Content, tag_as, raw_forest, depth_of, behind_end}
-use Rattle.html_grammar.specs.Machine.{State, Built, raw_nodes, with_raw}
-use Rattle.html_grammar.proofs.Steps.{run, at_rest, speaking, open_as, over_comments, over_text, over_end}
+use Rattle.html_grammar.specs.Grammar.{skip_comments, skip_blank, behind_run, Closed, Content, tag_as, raw_forest, depth_of, behind_end}
+use Rattle.html_grammar.specs.Machine.{raw_nodes}
+use Rattle.html_grammar.proofs.Steps.{run, at_rest, open_as, over_comments, over_text, over_end}
 
 length_one : (nodes : List DomNode) (r : DomNode) → length (nodes ++ r ∷ []) ≡ suc (length nodes)
 length_one nodes r = simp length-append (omega arith)

@@ -1,20 +1,14 @@
 -- The head of a document, and the nodes and the depth of the whole.
-use Rattle.std.proofs.Common.{◌≡◌, ℕ, zero, suc, ◌+◌, ◌≤◌, List, [], ◌∷◌, ◌++◌, length, Option, Some, None, Bool, true, false, cond, refl, sym, ap, subst, ◌∙◌, append_assoc, arith, length-append, inl, inr}
-use Rattle.std.specs.Prelude.{◌⊎◌, max, codes}
-use Rattle.std.proofs.lemmas.List.{append-nil}
+use Rattle.std.proofs.Common.{◌≡◌, ℕ, suc, ◌+◌, ◌≤◌, List, [], ◌∷◌, Option, Some, None, Bool, true, false, cond, refl, sym, ap, subst, ◌∙◌, arith, inl, inr}
+use Rattle.std.specs.Prelude.{◌⊎◌, max}
 use Rattle.std.proofs.lemmas.Bool.{true≢false}
-use Rattle.html_grammar.specs.declared.dom.Attribute.{Attribute}
-use Rattle.html_grammar.specs.declared.dom.DomNode.{DomNode}
-use Rattle.html_grammar.specs.declared.token.Fault.{Fault}
 use Rattle.html_grammar.specs.declared.token.Piece.{Piece}
-use Rattle.html_grammar.specs.declared.token.Spelled.{Spelled}
-use Rattle.html_grammar.specs.declared.token.Tag.{Tag}
 use Rattle.html_grammar.specs.declared.token.Token.{Token}
 use Rattle.html_grammar.specs.declared.token.Token.TheVariants.{Start, Raw, End, Comment, Doctype, Char}
 use Rattle.html_grammar.specs.Names.{is_head_void}
 use Rattle.html_grammar.specs.Tokens.{is_white, is_blank, is_head_element}
-use Rattle.html_grammar.specs.Tree.{Forest, Nil, Element, Words, element_node, nodes_from}
-use Rattle.html_grammar.specs.Grammar.{skip_blank, raw_forest, tag_as, depth_of, HeadPart, begins_head_element, Begun, whole_tree}
+use Rattle.html_grammar.specs.Tree.{Forest, Nil, Element, Words}
+use Rattle.html_grammar.specs.Grammar.{skip_blank, raw_forest, tag_as, depth_of, HeadPart, begins_head_element}
 use Rattle.html_grammar.proofs.Stages.{head_forest, head_rest, deepened_head}
 
 -- the next token that isn't blank

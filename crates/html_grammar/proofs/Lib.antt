@@ -5,3 +5,4 @@ mod Heads
 mod Whole
 mod Unique
 mod Sound
+mod First

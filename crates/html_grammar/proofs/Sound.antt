@@ -1,8 +1,7 @@
 -- What is read is a document.
-use Rattle.std.proofs.Common.{◌≡◌, ℕ, zero, suc, ◌+◌, ◌≤◌, ◌<◌, List, [], ◌∷◌, ◌++◌, length, Option, Some, None, Result, Ok, Err, Bool, true, false, cond, ◌&&◌, refl, sym, ap, subst, ◌∙◌, arith, inl, inr}
-use Rattle.std.specs.Prelude.{IsTrue, MatchBool, ◌⊎◌, max, encode_utf8, codes}
+use Rattle.std.proofs.Common.{◌≡◌, ℕ, zero, suc, ◌+◌, ◌≤◌, List, [], ◌∷◌, ◌++◌, length, Option, Some, Result, Ok, Bool, true, false, cond, refl, sym, ap, ◌∙◌, arith, inl, inr}
+use Rattle.std.specs.Prelude.{max, encode_utf8, codes}
 use Rattle.std.proofs.lemmas.Bool.{and_parts}
-use Rattle.html_grammar.specs.declared.dom.Attribute.{Attribute}
 use Rattle.html_grammar.specs.declared.dom.DomNode.{DomNode}
 use Rattle.html_grammar.specs.declared.stage.Open.{Open}
 use Rattle.html_grammar.specs.declared.token.Fault.{Fault}
@@ -13,15 +12,14 @@ use Rattle.html_grammar.specs.declared.token.Token.{Token}
 use Rattle.html_grammar.specs.declared.token.Token.TheVariants.{Start, Raw, End, Comment, Doctype, Char}
 use Rattle.html_grammar.specs.Names.{same, is_outer, is_void, omits, closes}
 use Rattle.html_grammar.specs.Tokens.{◌>>=◌, fault, is_white}
-use Rattle.html_grammar.specs.Tree.{Forest, Nil, Element, Words, element_node, words_node}
-use Rattle.html_grammar.specs.Grammar.{skip_comments, skip_blank, run_text, behind_run, Closed, Content, tag_as, raw_forest, behind_end, html_begun, head_begun, body_begun, whole_tree, IsDocument}
-use Rattle.html_grammar.specs.Machine.{State, Built, drop_closed, started, raw_put, without, ended, finish, all_omit, built, with_raw}
+use Rattle.html_grammar.specs.Tree.{Forest, Nil, Element, Words, element_node}
+use Rattle.html_grammar.specs.Grammar.{skip_comments, skip_blank, run_text, behind_run, Closed, Content, raw_forest, behind_end, html_begun, head_begun, body_begun, whole_tree, IsDocument}
+use Rattle.html_grammar.specs.Machine.{Built, drop_closed, started, raw_put, without, ended, all_omit, built}
 use Rattle.html_grammar.specs.Laws.{built_as}
-use Rattle.html_grammar.proofs.Steps.{run, at_rest, speaking, open_as, over_text}
-use Rattle.html_grammar.proofs.Complete.{Form}
-use Rattle.html_grammar.proofs.Stages.{head_forest, with_head, head_depth, body_at, body_tokens, past_head, built_is_body}
+use Rattle.html_grammar.proofs.Steps.{run, at_rest, open_as, over_text}
+use Rattle.html_grammar.proofs.Stages.{head_forest, with_head, body_tokens, past_head, built_is_body}
 use Rattle.html_grammar.proofs.Heads.{head_part_of}
-use Rattle.html_grammar.proofs.Whole.{document_is_read, body_node}
+use Rattle.html_grammar.proofs.Whole.{document_is_read}
 
 -- behind the body: nothing but blank tokens, and the end of html if that is to come
 abbrev pub Ending : Bool → List Token → Type 0

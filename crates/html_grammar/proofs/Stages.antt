@@ -1,5 +1,5 @@
 -- Reading up to the body.
-use Rattle.std.proofs.Common.{◌≡◌, ℕ, zero, suc, ◌+◌, ◌≤◌, List, [], ◌∷◌, ◌++◌, length, Option, Some, None, Result, Ok, Err, Bool, true, false, cond, not, ◌&&◌, refl, sym, ap, ◌∙◌, append_assoc, arith, length-append, inl, inr}
+use Rattle.std.proofs.Common.{◌≡◌, ℕ, List, [], ◌∷◌, ◌++◌, length, Option, Some, None, Result, Ok, Err, Bool, true, false, cond, not, ◌&&◌, refl, sym, ap, ◌∙◌}
 use Rattle.std.specs.Prelude.{max, codes}
 use Rattle.std.proofs.lemmas.List.{append-nil}
 use Rattle.html_grammar.specs.declared.dom.Attribute.{Attribute}
@@ -9,17 +9,16 @@ use Rattle.html_grammar.specs.declared.stage.Stage.{Stage}
 use Rattle.html_grammar.specs.declared.stage.Stage.TheVariants.{Opening, BeforeHead, InHead, BehindHead, InBody}
 use Rattle.html_grammar.specs.declared.token.Fault.{Fault}
 use Rattle.html_grammar.specs.declared.token.Piece.{Piece}
-use Rattle.html_grammar.specs.declared.token.Spelled.{Spelled}
 use Rattle.html_grammar.specs.declared.token.Tag.{Tag}
 use Rattle.html_grammar.specs.declared.token.Token.{Token}
 use Rattle.html_grammar.specs.declared.token.Token.TheVariants.{Start, Raw, End, Comment, Doctype, Char}
-use Rattle.html_grammar.specs.Names.{same, is_outer, is_head_void}
+use Rattle.html_grammar.specs.Names.{is_outer, is_head_void}
 use Rattle.html_grammar.specs.Tokens.{◌>>=◌, fault, place_of, is_white, is_blank, is_start, is_end, is_doctype, is_head_element, attributes_of}
 use Rattle.html_grammar.specs.Tree.{Forest, Nil, Element, Words, element_node, nodes_from}
-use Rattle.html_grammar.specs.Grammar.{skip_blank, raw_forest, depth_of, Begun, begun, behind_doctype, behind_end, html_begun, head_begun, body_begun}
-use Rattle.html_grammar.specs.Machine.{State, Built, opening_state, nodes_at_rest, started, raw_put, raw_nodes, without, ended, spell, step, begin_html, begin_head, end_head, begin_body, in_head, with_doctype, take_behind_head, take_in_head, take_before_head, take_opening, take_at, take_token, conclude_at, conclude, read_all, built}
+use Rattle.html_grammar.specs.Grammar.{skip_blank, raw_forest, Begun, begun, behind_doctype, behind_end, html_begun, head_begun, body_begun}
+use Rattle.html_grammar.specs.Machine.{State, Built, opening_state, nodes_at_rest, started, raw_put, raw_nodes, without, ended, spell, begin_html, begin_head, end_head, begin_body, in_head, with_doctype, take_behind_head, take_in_head, take_before_head, take_opening, take_at, take_token, conclude_at, conclude, read_all, built}
 use Rattle.html_grammar.proofs.Steps.{go, step_is_go, run, at_rest, open_as}
-use Rattle.html_grammar.proofs.Complete.{grown_by, with_kids, raw_kids}
+use Rattle.html_grammar.proofs.Complete.{grown_by, raw_kids}
 
 -- the steps at each stage, always unfolded
 abbrev pub go_behind_head : State → Token → Result State Fault

@@ -1,6 +1,6 @@
 -- Tokens have at most one tree.
-use Rattle.std.proofs.Common.{◌≡◌, ℕ, List, [], ◌∷◌, ◌++◌, Option, Some, None, Bool, true, false, refl, sym, ap, subst, ◌∙◌, inl, inr}
-use Rattle.std.specs.Prelude.{IsTrue, MatchBool, ◌⊎◌, encode_utf8, codes}
+use Rattle.std.proofs.Common.{◌≡◌, ℕ, List, [], ◌∷◌, ◌++◌, Option, Bool, true, false, refl, sym, ap, subst, ◌∙◌, inl, inr}
+use Rattle.std.specs.Prelude.{IsTrue, MatchBool, encode_utf8, codes}
 use Rattle.std.proofs.lemmas.Bool.{true≢false}
 use Rattle.html_grammar.specs.declared.dom.Attribute.{Attribute}
 use Rattle.html_grammar.specs.declared.token.Fault.{Fault}
@@ -9,7 +9,7 @@ use Rattle.html_grammar.specs.declared.token.Spelled.{Spelled}
 use Rattle.html_grammar.specs.declared.token.Tag.{Tag}
 use Rattle.html_grammar.specs.declared.token.Token.{Token}
 use Rattle.html_grammar.specs.declared.token.Token.TheVariants.{Start, Raw, End, Comment, Doctype, Char}
-use Rattle.html_grammar.specs.Names.{same, is_outer, is_void, omits, closes}
+use Rattle.html_grammar.specs.Names.{same, is_void, omits, closes}
 use Rattle.html_grammar.specs.Tree.{Forest, Nil, Element, Words}
 use Rattle.html_grammar.specs.Grammar.{skip_comments, run_text, behind_run, Closed, Content, tag_as, raw_forest, html_begun, head_begun, body_begun, whole_tree, IsDocument}
 use Rattle.html_grammar.proofs.Complete.{Form}

@@ -1,17 +1,17 @@
 -- What is a document is read, from its first token to its last.
-use Rattle.std.proofs.Common.{◌≡◌, ℕ, zero, suc, ◌+◌, ◌≤◌, List, [], ◌∷◌, ◌++◌, length, Option, Some, None, Result, Ok, Err, Bool, true, false, refl, sym, ap, subst, ◌∙◌, append_assoc, arith, length-append}
-use Rattle.std.specs.Prelude.{max, codes}
+use Rattle.std.proofs.Common.{◌≡◌, ℕ, suc, ◌+◌, List, [], ◌∷◌, ◌++◌, length, Some, None, Result, Ok, true, refl, sym, ap, subst, ◌∙◌, arith}
+use Rattle.std.specs.Prelude.{codes}
 use Rattle.std.proofs.lemmas.List.{append-nil}
 use Rattle.html_grammar.specs.declared.dom.DomNode.{DomNode}
 use Rattle.html_grammar.specs.declared.token.Fault.{Fault}
 use Rattle.html_grammar.specs.declared.token.Token.{Token}
-use Rattle.html_grammar.specs.Tree.{Forest, Nil, Element, Words, element_node, nodes_from}
-use Rattle.html_grammar.specs.Grammar.{depth_of, Content, Closed, Begun, html_begun, head_begun, body_begun, whole_tree, IsDocument}
+use Rattle.html_grammar.specs.Tree.{Forest, element_node, nodes_from}
+use Rattle.html_grammar.specs.Grammar.{depth_of, Content, Begun, html_begun, head_begun, body_begun, whole_tree, IsDocument}
 use Rattle.html_grammar.specs.Machine.{Built, built}
 use Rattle.html_grammar.specs.Laws.{built_as}
 use Rattle.html_grammar.proofs.Complete.{grown, over_content, over_rest, deepened, deeper}
-use Rattle.html_grammar.proofs.Steps.{run, over_end}
-use Rattle.html_grammar.proofs.Stages.{head_forest, head_rest, with_head, head_depth, body_at, body_tokens, past_head, built_is_body}
+use Rattle.html_grammar.proofs.Steps.{over_end}
+use Rattle.html_grammar.proofs.Stages.{head_forest, with_head, head_depth, body_tokens, past_head, built_is_body}
 use Rattle.html_grammar.proofs.Heads.{head_part_is, head_deeper}
 
 -- the body, in a document whose head is this
