@@ -6,3 +6,5 @@ mod Whole
 mod Unique
 mod Sound
 mod First
+mod Spans
+mod ReferenceForms

@@ -8,4 +8,5 @@ pub mod Grammar
 pub mod Machine
 pub mod Faults
 pub mod Laws
+pub mod Spelling
 pub mod Whole
