@@ -8,3 +8,4 @@ mod Sound
 mod First
 mod Spans
 mod ReferenceForms
+mod ValueForms
