@@ -9,3 +9,4 @@ mod First
 mod Spans
 mod ReferenceForms
 mod ValueForms
+mod AttributeForms
