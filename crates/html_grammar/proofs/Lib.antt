@@ -10,3 +10,4 @@ mod Spans
 mod ReferenceForms
 mod ValueForms
 mod AttributeForms
+mod AttributeRead
