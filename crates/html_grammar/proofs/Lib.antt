@@ -11,3 +11,5 @@ mod ReferenceForms
 mod ValueForms
 mod AttributeForms
 mod AttributeRead
+mod TokenBack
+mod TokenRead
