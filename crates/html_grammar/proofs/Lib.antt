@@ -13,3 +13,4 @@ mod AttributeForms
 mod AttributeRead
 mod TokenBack
 mod TokenRead
+mod Lexed

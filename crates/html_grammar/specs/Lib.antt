@@ -10,3 +10,4 @@ pub mod Faults
 pub mod Laws
 pub mod Spelling
 pub mod Whole
+pub mod Documents
