@@ -17,12 +17,8 @@ use Rattle.html_grammar.proofs.TokenRead.{Reads, Sound, token_gives}
 
 -- a spelled token has no late fault
 pub in_time : (t : Token) (one rest : List Place) → IsToken t one rest → late_of t ≡ None
-in_time (Start tag) one rest h = by_form h.1
-  where
-    by_form : IsStart tag one rest → tag.late ≡ None
-    by_form (inl g) = g.0.sound
-    by_form (inr g) = g.3.sound
-in_time (Raw tag text) one rest h = h.1.tag_is.sound
+in_time (Start tag) one rest h = h.3
+in_time (Raw tag text) one rest h = h.3
 in_time (End at m) one rest h = refl
 in_time (Comment at) one rest h = refl
 in_time (Doctype at) one rest h = refl

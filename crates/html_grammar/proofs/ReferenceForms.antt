@@ -9,7 +9,7 @@ use Rattle.html_grammar.specs.declared.token.Meaning.TheVariants as meanings
 use Rattle.html_grammar.specs.References.{named_character}
 use Rattle.html_grammar.specs.Places.{behind_first, codes_while, behind_while, begins_with, begins}
 use Rattle.html_grammar.specs.Lexing.{number_from, is_character, is_radix_digit, numbered, number_at, found_or_unknown, name_at, meaning_at}
-use Rattle.html_grammar.specs.Spelling.{codes_of, IsNumeral, IsNumberReference, IsNameReference, IsReference, IsBadReference, IsUnknownReference, BeginsReference, BeginsUnknown}
+use Rattle.html_grammar.specs.Spelling.{codes_of, IsNumeral, IsNumberReference, IsNameReference, IsReference, IsBadReference, IsUnknownReference, BeginsReference, BeginsBad, BeginsUnknown}
 use Rattle.html_grammar.proofs.Spans.{begins_first, begins_back, begins_other, begins_some, run_found, run_back}
 
 both : (a b : Bool) → a ≡ true → b ≡ true → a && b ≡ true
@@ -113,7 +113,7 @@ not_plain ps rest e h = by_form h.3
 abbrev pub Meant : Meaning → List Place → List Place → Type 0
 Meant meanings.Plain rest ps = rest ≡ ps
 Meant meanings.Unknown rest ps = (rest ≡ ps) × BeginsUnknown ps
-Meant meanings.Bad rest ps = (form : List Place) × (more : List Place) × (ps ≡ form ++ more) × IsBadReference form
+Meant meanings.Bad rest ps = (rest ≡ ps) × BeginsBad ps
 Meant (meanings.Character c) rest ps = (form : List Place) × (ps ≡ form ++ rest) × IsReference c form
 
 abbrev MeantAs : Meaning × List Place → List Place → Type 0
@@ -124,7 +124,7 @@ number_meant n ps form rest e h = by_character (is_character n) refl
   where
     by_character : (b : Bool) → is_character n ≡ b → MeantAs (cond b (meanings.Character n, rest) (meanings.Bad, ps)) ps
     by_character true is = (form, e, inl (h, is))
-    by_character false is = (form, rest, e, (n, h, is))
+    by_character false is = (refl, (form, rest, e, (n, h, is)))
 
 name_meant : (name : List ℕ) (ps form rest : List Place) → ps ≡ form ++ rest → IsNameReference name form → MeantAs (found_or_unknown (named_character name) ps rest) ps
 name_meant name ps form rest e h = by_name (named_character name) refl
