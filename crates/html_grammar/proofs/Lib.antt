@@ -15,3 +15,4 @@ mod TokenBack
 mod TokenRead
 mod Lexed
 pub mod Texts
+mod TokenFaults

@@ -53,7 +53,7 @@ tag_named (q ∷ front) ps rest e passes codes_are stops letter letters = (sym (
 pub letter_in_name : (c : ℕ) → is_ascii_alphabetic c ≡ true → is_name_char c ≡ true
 letter_in_name c h = grind (arith, h)
 
-end_gives : (at : ℕ) (ps : List Place) → Gives (EndForm at ps) (end_at at ps)
+pub end_gives : (at : ℕ) (ps : List Place) → Gives (EndForm at ps) (end_at at ps)
 unfolding end_at
 end_gives at ps = by_letter (begins_with is_ascii_alphabetic ps) (begins 62 (behind_while is_space (behind_while is_name_char ps))) refl refl
   where
@@ -91,7 +91,7 @@ pub record RawSpan (name : List ℕ) (ps : List Place) : Type 0 where
   pub codes_are : raw_codes name ps ≡ codes_of inner
   pub over : begins 60 (behind_raw name ps) ≡ true → ends_raw name (behind_raw name ps) ≡ true
 
-raw_span : (name : List ℕ) (ps : List Place) → RawSpan name ps
+pub raw_span : (name : List ℕ) (ps : List Place) → RawSpan name ps
 raw_span name [] = record { inner = []; whole = refl; not_over = tt; codes_are = refl; over = λ h. absurd cc }
 raw_span name (p ∷ ps) = by_end (raw_span name ps) (ends_raw name (p ∷ ps)) refl
   where
@@ -120,7 +120,7 @@ pub record TextSpan (t : List ℕ) (ps : List Place) : Type 0 where
   pub not_over : NoneBegins (begins_text t) inner (from_text t ps)
   pub over : begins 45 (from_text t ps) ≡ true → begins_text t (from_text t ps) ≡ true
 
-text_span : (t : List ℕ) (ps : List Place) → TextSpan t ps
+pub text_span : (t : List ℕ) (ps : List Place) → TextSpan t ps
 text_span t [] = record { inner = []; whole = refl; not_over = tt; over = λ h. absurd cc }
 text_span t (p ∷ ps) = by_end (text_span t ps) (begins_text t (p ∷ ps)) refl
   where
