@@ -204,7 +204,7 @@ cut_fault size InHead s f h = finish_fault size (begin_body (end_head s) size []
 cut_fault size BehindHead s f h = finish_fault size (begin_body s size []) f h
 cut_fault size InBody s f h = finish_fault size s f h
 
-concluded_fault : (size : ℕ) (s : State) (f : Fault) → conclude size s ≡ Err f → f ≡ record { at = size; rule = 7 }
+pub concluded_fault : (size : ℕ) (s : State) (f : Fault) → conclude size s ≡ Err f → f ≡ record { at = size; rule = 7 }
 unfolding conclude
 concluded_fault size s f h = cut_fault size s.stage s f h
 

@@ -16,3 +16,7 @@ mod TokenRead
 mod Lexed
 pub mod Texts
 mod TokenFaults
+mod Fates
+mod TokenLate
+mod TextPlaces
+pub mod TextFaults

@@ -100,7 +100,7 @@ good_bytes bytes u z =
     at_length : (n : ℕ) → nat_lt (min n n) n ≡ false
     at_length n = grind arith
 
-bytes_are_good : (bytes : List ℕ) → nat_lt (first_bad_byte bytes) (length bytes) ≡ false → IsUtf8 bytes × NoZero bytes
+pub bytes_are_good : (bytes : List ℕ) → nat_lt (first_bad_byte bytes) (length bytes) ≡ false → IsUtf8 bytes × NoZero bytes
 bytes_are_good bytes h =
     let a = utf8_valid_len_le bytes in
     let b = before_zero_le bytes in

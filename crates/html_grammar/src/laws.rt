@@ -1,5 +1,6 @@
 ghost use Rattle.html_grammar.specs.Laws as laws;
 ghost use Rattle.html_grammar.specs.Documents as documents;
+ghost use Rattle.html_grammar.specs.FirstFaults as faults;
 
 /// Every document is read, and gives the nodes of its tree in preorder and its depth.
 pub fn documents_are_read()
@@ -55,5 +56,11 @@ pub fn doms_are_of_their_texts()
 /// The document of a text is answered.
 pub fn texts_have_their_doms()
     ensures { documents.TextsHaveTheirDoms }
+{
+}
+
+/// The fault of a text that is reported is the first, by place and then by rule.
+pub fn the_fault_of_a_text_is_the_first()
+    ensures { faults.TheFaultOfATextIsTheFirst }
 {
 }
