@@ -32,25 +32,31 @@ pub record Form (name : List ℕ) (ps : List Place) (x : ReadAttribute × List P
 quoted_form : (n : ℕ) (name : List ℕ) (q : ℕ) (opening : Place) (ps : List Place) → length ps ≤ n → opening.character ≡ q
     → begins q (value_from n (is_other q) empty_value ps).1 ≡ true
     → (toks : List Token) × (bad : Option ℕ) × (form : List Place) × (opening ∷ ps ≡ form ++ behind_first (value_from n (is_other q) empty_value ps).1)
-      × IsQuoted q toks bad (place_or 0 ps) form (behind_first (value_from n (is_other q) empty_value ps).1)
-      × ((value_from n (is_other q) empty_value ps).0 ≡ with_text empty_value toks bad)
+    × IsQuoted q toks bad (place_or 0 ps) form (behind_first (value_from n (is_other q) empty_value ps).1)
+    × ((value_from n (is_other q) empty_value ps).0 ≡ with_text empty_value toks bad)
 quoted_form n name q opening ps le is ends =
     let v = value_read n (is_other q) empty_value ps le in
     let r = value_from n (is_other q) empty_value ps in
     let f = begins_first q r.1 ends in
     let rest : behind_first r.1 ≡ f.more = ap behind_first f.whole in
     let last : r.1 ≡ f.place ∷ behind_first r.1 = f.whole ∙ ap (λ (x : List Place). f.place ∷ x) (sym rest) in
-    let whole : ps ≡ v.inner ++ (f.place ∷ behind_first r.1) = v.whole ∙ ap (λ (x : List Place). v.inner ++ x) last in
-    ( v.toks
-    , v.bad
-    , opening ∷ (v.inner ++ f.place ∷ [])
-    , ap (λ (x : List Place). opening ∷ x) (whole ∙ sym (append_assoc v.inner (f.place ∷ []) (behind_first r.1)))
-    , record {
-        opening = opening; inner = v.inner; closing = f.place; whole = refl; opens = is; closes = f.is;
+    let whole : ps ≡ v.inner ++ (f.place ∷ behind_first r.1) = v.whole ∙ ap (λ (x : List Place). v.inner ++ x) last in (
+      v.toks,
+      v.bad,
+      opening ∷ (v.inner ++ f.place ∷ []),
+      ap (λ (x : List Place). opening ∷ x) (whole ∙ sym (append_assoc v.inner (f.place ∷ []) (behind_first r.1))),
+      record {
+        opening = opening;
+        inner = v.inner;
+        closing = f.place;
+        whole = refl;
+        opens = is;
+        closes = f.is;
         text = subst (λ (x : List Place). IsText (is_other q) v.toks v.bad v.inner x) last v.text;
         stands = ap (place_or 0) whole ∙ first_place v.inner f.place (behind_first r.1);
-      }
-    , v.value)
+      },
+      v.value,
+    )
   where
     first_place : (inner : List Place) (p : Place) (rest : List Place) → place_or 0 (inner ++ (p ∷ rest)) ≡ place_or 0 (inner ++ p ∷ [])
     first_place [] p rest = refl
@@ -87,7 +93,7 @@ value_gives n tag name ps le = by_double (begins 34 ps) refl
         let b : f.more ≡ behind_first ps = sym (ap behind_first f.whole) in
         let whole : ps ≡ f.place ∷ behind_first ps = f.whole ∙ ap (λ (x : List Place). f.place ∷ x) b in
         subst (λ (x : List Place). Gives (Form name x) (quoted_at n tag name 39 (behind_first ps))) (sym whole)
-          (quoted_gives n tag name 39 (λ toks bad at form rest g. inr (inl g)) f.place (behind_first ps) (longer f.place (behind_first ps) ps n whole le) f.is)
+        (quoted_gives n tag name 39 (λ toks bad at form rest g. inr (inl g)) f.place (behind_first ps) (longer f.place (behind_first ps) ps n whole le) f.is)
     by_single false h = bare_gives n tag name ps le
 
     by_double : (b : Bool) → begins 34 ps ≡ b → Gives (Form name ps) (cond b (quoted_at n tag name 34 (behind_first ps)) (cond (begins 39 ps) (quoted_at n tag name 39 (behind_first ps)) (bare_at n tag name ps)))
@@ -96,7 +102,7 @@ value_gives n tag name ps le = by_double (begins 34 ps) refl
         let b : f.more ≡ behind_first ps = sym (ap behind_first f.whole) in
         let whole : ps ≡ f.place ∷ behind_first ps = f.whole ∙ ap (λ (x : List Place). f.place ∷ x) b in
         subst (λ (x : List Place). Gives (Form name x) (quoted_at n tag name 34 (behind_first ps))) (sym whole)
-          (quoted_gives n tag name 34 (λ toks bad at form rest g. inl g) f.place (behind_first ps) (longer f.place (behind_first ps) ps n whole le) f.is)
+        (quoted_gives n tag name 34 (λ toks bad at form rest g. inl g) f.place (behind_first ps) (longer f.place (behind_first ps) ps n whole le) f.is)
     by_double false h = by_single (begins 39 ps) refl
 
 -- an attribute that was read
@@ -131,7 +137,7 @@ assigned_gives n tag at name ps le = by_equals (begins 61 ps) refl
         let b : f.more ≡ behind_first ps = sym (ap behind_first f.whole) in
         let whole : ps ≡ f.place ∷ behind_first ps = f.whole ∙ ap (λ (x : List Place). f.place ∷ x) b in
         gives_more (Form name (behind_first ps)) (Assigned at name ps) (value_at n tag name (behind_first ps))
-          (value_gives n tag name (behind_first ps) (longer f.place (behind_first ps) ps n whole le)) (made f.place (behind_first ps) whole f.is)
+        (value_gives n tag name (behind_first ps) (longer f.place (behind_first ps) ps n whole le)) (made f.place (behind_first ps) whole f.is)
     by_equals false h = record { tail = []; whole = refl; is = inl (refl, h, refl, refl, refl, refl); named = refl }
 
 pub record Attributed (ps : List Place) (x : ReadAttribute × List Place) : Type 0 where
@@ -156,7 +162,10 @@ attribute_gives n tag ps le = by_key (begins_with is_key_char ps) refl
           one = first ∷ (more ++ g.tail);
           whole = whole ∙ ap (λ (u : List Place). first ∷ (more ++ u)) g.whole ∙ ap (λ (u : List Place). first ∷ u) (sym (append_assoc more g.tail x.1));
           is = record {
-            first = first; more = more; tail = g.tail; whole = refl;
+            first = first;
+            more = more;
+            tail = g.tail;
+            whole = refl;
             named = subst (Passes is_key_char) e s.passes;
             stops = ap (begins_with is_key_char) (sym g.whole) ∙ s.stops;
             name_is = g.named ∙ ap (λ (u : List ℕ). encode_utf8_all (map to_ascii_lowercase u)) (s.codes_are ∙ ap codes_of e);
@@ -168,7 +177,7 @@ attribute_gives n tag ps le = by_key (begins_with is_key_char ps) refl
     by_front [] e some = absurd some
     by_front (first ∷ more) e some =
         gives_more (Assigned (place_or 0 ps) (key ps) (behind_while is_key_char ps)) (Attributed ps) (assigned_at n tag (place_or 0 ps) (key ps) (behind_while is_key_char ps))
-          (assigned_gives n tag (place_or 0 ps) (key ps) (behind_while is_key_char ps) shorter) (made first more e)
+        (assigned_gives n tag (place_or 0 ps) (key ps) (behind_while is_key_char ps) shorter) (made first more e)
 
     by_key : (b : Bool) → begins_with is_key_char ps ≡ b → Gives (Attributed ps) (cond b (assigned_at n tag (place_or 0 ps) (key ps) (behind_while is_key_char ps)) (fault tag 3))
     by_key true h = by_front s.front refl (some_pass is_key_char s.front (behind_while is_key_char ps) ps s.whole s.passes s.stops h)
@@ -204,7 +213,8 @@ piece_gives n tag ps le = by_end (begins 62 behind) refl
 
     spaced : begins_with is_space ps ≡ true → (x : ReadAttribute × List Place) → Attributed (behind_while is_space ps) x → Gives (PiecedAs ps) (some_attribute x)
     spaced h x g = record {
-      white = s.front; one = g.one;
+      white = s.front;
+      one = g.one;
       whole = s.whole ∙ ap (λ (u : List Place). s.front ++ u) g.whole;
       spaces = some_pass is_space s.front (behind_while is_space ps) ps s.whole s.passes s.stops h;
       is = g.is;
@@ -219,28 +229,30 @@ piece_gives n tag ps le = by_end (begins 62 behind) refl
     slashed slash more e is true h =
         let f = begins_first 62 (behind_first (behind_while is_space ps)) h in
         let more_is : more ≡ f.place ∷ behind_first (behind_first (behind_while is_space ps)) =
-            sym (ap behind_first e) ∙ f.whole ∙ ap (λ (u : List Place). f.place ∷ u) (sym (ap behind_first f.whole)) in
-        ( s.front ++ (slash ∷ (f.place ∷ []))
-        , s.whole ∙ ap (λ (u : List Place). s.front ++ u) (e ∙ ap (λ (u : List Place). slash ∷ u) more_is) ∙ sym (append_assoc s.front (slash ∷ (f.place ∷ [])) (behind_first (behind_first (behind_while is_space ps))))
-        , record { white = s.front; last = f.place; spaces = s.passes; ends = f.is; whole = inr (slash, is, refl) })
+        sym (ap behind_first e) ∙ f.whole ∙ ap (λ (u : List Place). f.place ∷ u) (sym (ap behind_first f.whole)) in (
+          s.front ++ (slash ∷ (f.place ∷ [])),
+          s.whole ∙ ap (λ (u : List Place). s.front ++ u) (e ∙ ap (λ (u : List Place). slash ∷ u) more_is) ∙ sym (append_assoc s.front (slash ∷ (f.place ∷ [])) (behind_first (behind_first (behind_while is_space ps)))),
+          record { white = s.front; last = f.place; spaces = s.passes; ends = f.is; whole = inr (slash, is, refl) },
+        )
     slashed slash more e is false h = tt
 
     by_slash : (b : Bool) → begins 47 (behind_while is_space ps) ≡ b
         → Gives (PiecedAs ps) (cond b (cond (begins 62 (behind_first (behind_while is_space ps))) (Ok (None, behind_first (behind_first (behind_while is_space ps)))) (fault tag 3))
-          (cond (begins_with is_space ps) (attribute_at n tag (behind_while is_space ps) >>= some_attribute) (fault tag 3)))
+        (cond (begins_with is_space ps) (attribute_at n tag (behind_while is_space ps) >>= some_attribute) (fault tag 3)))
     by_slash true h = let f = begins_first 47 (behind_while is_space ps) h in slashed f.place f.more f.whole f.is (begins 62 (behind_first (behind_while is_space ps))) refl
     by_slash false h = by_space (begins_with is_space ps) refl
 
     by_end : (b : Bool) → begins 62 (behind_while is_space ps) ≡ b
         → Gives (PiecedAs ps) (cond b (Ok (None, behind_first (behind_while is_space ps)))
-          (cond (begins 47 (behind_while is_space ps)) (cond (begins 62 (behind_first (behind_while is_space ps))) (Ok (None, behind_first (behind_first (behind_while is_space ps)))) (fault tag 3))
-          (cond (begins_with is_space ps) (attribute_at n tag (behind_while is_space ps) >>= some_attribute) (fault tag 3))))
+        (cond (begins 47 (behind_while is_space ps)) (cond (begins 62 (behind_first (behind_while is_space ps))) (Ok (None, behind_first (behind_first (behind_while is_space ps)))) (fault tag 3))
+        (cond (begins_with is_space ps) (attribute_at n tag (behind_while is_space ps) >>= some_attribute) (fault tag 3))))
     by_end true h =
         let f = begins_first 62 (behind_while is_space ps) h in
-        let e : behind_while is_space ps ≡ f.place ∷ behind_first (behind_while is_space ps) = f.whole ∙ ap (λ (u : List Place). f.place ∷ u) (sym (ap behind_first f.whole)) in
-        ( s.front ++ f.place ∷ []
-        , s.whole ∙ ap (λ (u : List Place). s.front ++ u) e ∙ sym (append_assoc s.front (f.place ∷ []) (behind_first (behind_while is_space ps)))
-        , record { white = s.front; last = f.place; spaces = s.passes; ends = f.is; whole = inl refl })
+        let e : behind_while is_space ps ≡ f.place ∷ behind_first (behind_while is_space ps) = f.whole ∙ ap (λ (u : List Place). f.place ∷ u) (sym (ap behind_first f.whole)) in (
+          s.front ++ f.place ∷ [],
+          s.whole ∙ ap (λ (u : List Place). s.front ++ u) e ∙ sym (append_assoc s.front (f.place ∷ []) (behind_first (behind_while is_space ps))),
+          record { white = s.front; last = f.place; spaces = s.passes; ends = f.is; whole = inl refl },
+        )
     by_end false h = by_slash (begins 47 (behind_while is_space ps)) refl
 
 -- attributes up to the end of their tag
@@ -279,8 +291,21 @@ attributes_give (suc k) n tag x ps le = gives_bind (PiecedAs ps) (Listed x ps) (
       bad = or_first a.value.bad l.bad;
       one = s.white ++ (s.one ++ l.one);
       whole = s.whole ∙ ap (λ (u : List Place). s.white ++ (s.one ++ u)) l.whole ∙ ap (λ (u : List Place). s.white ++ u) (sym (append_assoc s.one l.one y.1)) ∙ sym (append_assoc s.white (s.one ++ l.one) y.1);
-      is = (a.value.unknown, l.unknown, a.value.bad, l.bad, s.white, s.one, l.one, refl, s.spaces, refl, refl,
-        subst (λ (u : List Place). IsAttribute (spelled_of a) a.value.unknown a.value.bad s.one u) l.whole s.is, l.is);
+      is = (
+        a.value.unknown,
+        l.unknown,
+        a.value.bad,
+        l.bad,
+        s.white,
+        s.one,
+        l.one,
+        refl,
+        s.spaces,
+        refl,
+        refl,
+        subst (λ (u : List Place). IsAttribute (spelled_of a) a.value.unknown a.value.bad s.one u) l.whole s.is,
+        l.is,
+      );
       all_are = l.all_are ∙ append_assoc x.all (spelled_of a ∷ []) l.all;
       unknown_is = l.unknown_is ∙ or_third x.unknown a.value.unknown l.unknown;
       bad_is = l.bad_is ∙ or_third x.bad a.value.bad l.bad;
@@ -295,7 +320,12 @@ attributes_give (suc k) n tag x ps le = gives_bind (PiecedAs ps) (Listed x ps) (
     by_piece : ((y : ReadAttributes) (rest : List Place) → length rest ≤ n → Gives (Listed y rest) (attributes_from k n tag y rest))
         → (a : Option ReadAttribute) (rest : List Place) → Pieced ps a rest → Gives (Listed x ps) (continued x a rest (λ y. attributes_from k n tag y rest))
     by_piece below None rest h = record {
-      all = []; unknown = None; bad = None; one = h.0; whole = h.1; is = (refl, refl, h.2);
+      all = [];
+      unknown = None;
+      bad = None;
+      one = h.0;
+      whole = h.1;
+      is = (refl, refl, h.2);
       all_are = sym (append-nil x.all);
       unknown_is = sym (or_nothing x.unknown);
       bad_is = sym (or_nothing x.bad);

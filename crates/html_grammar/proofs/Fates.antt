@@ -1,5 +1,5 @@
 -- Whether a start tag may stand depends on its name alone.
-use Rattle.std.proofs.Common.{◌≡◌, ℕ, List, [], ◌∷◌, ◌++◌, length, Option, Some, None, Result, Ok, Err, Bool, true, false, cond, not, ◌&&◌, refl, sym, ap, subst, ◌∙◌}
+use Rattle.std.proofs.Common.{◌≡◌, ℕ, List, [], ◌∷◌, length, Option, Result, Ok, Err, Bool, true, false, cond, not, ◌&&◌, refl, sym, ap, ◌∙◌}
 use Rattle.std.specs.Prelude.{codes}
 use Rattle.std.proofs.lemmas.Bool.{true≢false}
 use Rattle.html_grammar.specs.declared.dom.DomNode.{DomNode}
@@ -11,9 +11,9 @@ use Rattle.html_grammar.specs.declared.token.Piece.{Piece}
 use Rattle.html_grammar.specs.declared.token.Tag.{Tag}
 use Rattle.html_grammar.specs.declared.token.Token.{Token}
 use Rattle.html_grammar.specs.declared.token.Token.TheVariants.{Start, Raw, End, Comment, Doctype, Char}
-use Rattle.html_grammar.specs.Names.{same, is_raw, is_outer, is_head_void, closes}
-use Rattle.html_grammar.specs.Tokens.{fault, place_of}
-use Rattle.html_grammar.specs.Machine.{State, nodes_at_rest, drop_closed, started, raw_put, begin_html, begin_head, end_head, begin_body, take_token}
+use Rattle.html_grammar.specs.Names.{same, is_outer, is_head_void, closes}
+use Rattle.html_grammar.specs.Tokens.{fault}
+use Rattle.html_grammar.specs.Machine.{State, drop_closed, started, raw_put, begin_html, begin_head, end_head, begin_body, take_token}
 use Rattle.html_grammar.specs.FirstFaults.{IsStartOf}
 use Rattle.html_grammar.proofs.Steps.{go}
 use Rattle.html_grammar.proofs.Stages.{go_behind_head, go_in_head, go_before_head, go_opening, go_at, take_is}

@@ -71,9 +71,9 @@ unfolding built
 is_front size front s h =
     let e = can_end size s in
     let whole : built size (front ++ e.0) ≡ Ok e.1 =
-        split size front e.0
-        ∙ ap (λ (x : Result State Fault). (x >>= λ next. read_all next e.0) >>= conclude size) h
-        ∙ reading_is_rest size s e.0 ∙ e.2 in
+    split size front e.0
+    ∙ ap (λ (x : Result State Fault). (x >>= λ next. read_all next e.0) >>= conclude size) h
+    ∙ reading_is_rest size s e.0 ∙ e.2 in
     let d = document_of size (front ++ e.0) e.1 whole in
     (e.0, d.0, d.1)
 

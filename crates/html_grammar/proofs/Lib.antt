@@ -20,3 +20,4 @@ mod Fates
 mod TokenLate
 mod TextPlaces
 pub mod TextFaults
+pub mod Refusals

@@ -144,7 +144,7 @@ digits_meant radix ps digits make = by_test (begins_with (is_radix_digit radix) 
         let r = run_found (is_radix_digit radix) digits h g in
         let n = number_from radix 0 (codes_while (is_radix_digit radix) digits) in
         subst (λ (x : List Place). MeantAs (numbered n ps x) ps) (sym r.behind) (make n (r.letters ++ r.last ∷ []) r.rest r.whole
-          (record { digits = r.letters; last = r.last; whole = refl; some = r.some; ends = r.ends; value = ap (number_from radix 0) r.codes_are }))
+        (record { digits = r.letters; last = r.last; whole = refl; some = r.some; ends = r.ends; value = ap (number_from radix 0) r.codes_are }))
     by_test true false h g = refl
     by_test false b h g = refl
 
@@ -157,8 +157,8 @@ names_meant ps = by_test (begins_with is_ascii_alphanumeric ps) (begins 59 (behi
     by_test true true h g =
         let r = run_found is_ascii_alphanumeric ps h g in
         subst (λ (x : List Place). MeantAs (found_or_unknown (named_character (codes_while is_ascii_alphanumeric ps)) ps x) ps) (sym r.behind)
-          (name_meant (codes_while is_ascii_alphanumeric ps) ps (r.letters ++ r.last ∷ []) r.rest r.whole
-            (record { letters = r.letters; last = r.last; whole = refl; some = r.some; ends = r.ends; named = r.codes_are }))
+        (name_meant (codes_while is_ascii_alphanumeric ps) ps (r.letters ++ r.last ∷ []) r.rest r.whole
+        (record { letters = r.letters; last = r.last; whole = refl; some = r.some; ends = r.ends; named = r.codes_are }))
     by_test true false h g = refl
     by_test false b h g = refl
 
@@ -172,12 +172,12 @@ meant ps = by_hash (begins 35 ps) refl
         let f = begins_first 120 (behind_first ps) g in
         let m : more ≡ f.place ∷ f.more = sym (ap behind_first e) ∙ f.whole in
         digits_meant 16 ps (behind_first (behind_first ps)) (λ n form rest d numeral.
-          number_meant n ps (hash ∷ (f.place ∷ form)) rest
-            (e ∙ ap (λ (x : List Place). hash ∷ x) m ∙ ap (λ (x : List Place). hash ∷ (f.place ∷ x)) (sym (ap behind_first f.whole) ∙ d))
-            (hash, form, is, inr (f.place, refl, f.is, numeral)))
+        number_meant n ps (hash ∷ (f.place ∷ form)) rest
+        (e ∙ ap (λ (x : List Place). hash ∷ x) m ∙ ap (λ (x : List Place). hash ∷ (f.place ∷ x)) (sym (ap behind_first f.whole) ∙ d))
+        (hash, form, is, inr (f.place, refl, f.is, numeral)))
     by_ex hash more e is false g =
         digits_meant 10 ps (behind_first ps) (λ n form rest d numeral.
-          number_meant n ps (hash ∷ form) rest (e ∙ ap (λ (x : List Place). hash ∷ x) (sym (ap behind_first e) ∙ d)) (hash, form, is, inl (refl, numeral)))
+        number_meant n ps (hash ∷ form) rest (e ∙ ap (λ (x : List Place). hash ∷ x) (sym (ap behind_first e) ∙ d)) (hash, form, is, inl (refl, numeral)))
 
     by_hash : (b : Bool) → begins 35 ps ≡ b
         → MeantAs (cond b (cond (begins 120 (behind_first ps)) (number_at 16 ps (behind_first (behind_first ps))) (number_at 10 ps (behind_first ps))) (name_at ps)) ps

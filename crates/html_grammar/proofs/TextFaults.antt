@@ -1,22 +1,18 @@
 -- The first fault of a text.
-use Rattle.std.proofs.Common.{◌≡◌, ℕ, zero, suc, ◌+◌, ◌≤◌, ◌<◌, List, [], ◌∷◌, ◌++◌, length, Option, Some, None, Result, Ok, Err, Bool, true, false, cond, nat_lt, refl, sym, ap, subst, ◌∙◌, append_assoc, arith, length-append, inl, inr}
-use Rattle.std.specs.Prelude.{◌⊎◌, chars, IsUtf8}
+use Rattle.std.proofs.Common.{◌≡◌, ℕ, zero, suc, ◌≤◌, ◌<◌, List, [], ◌∷◌, ◌++◌, length, Option, Some, None, Result, Ok, Err, Bool, true, false, cond, nat_lt, refl, sym, ap, subst, ◌∙◌, append_assoc, arith, inl, inr}
+use Rattle.std.specs.Prelude.{◌⊎◌, chars}
 use Rattle.std.proofs.lemmas.List.{append-nil}
 use Rattle.mc_base.specs.declared.refusal.Found.{Found}
 use Rattle.html_grammar.specs.declared.place.Place.{Place}
 use Rattle.html_grammar.specs.declared.token.Fault.{Fault}
 use Rattle.html_grammar.specs.declared.token.Token.{Token}
 use Rattle.html_grammar.specs.Tokens.{◌>>=◌, fault, place_of, late_of, construct_of}
-use Rattle.html_grammar.specs.Tree.{Forest}
 use Rattle.html_grammar.specs.Places.{places_of}
 use Rattle.html_grammar.specs.Machine.{State, Built, opening_state, take_token, read_all, conclude, built}
-use Rattle.html_grammar.specs.Grammar.{IsDocument}
 use Rattle.html_grammar.specs.Faults.{IsFront, rule_of}
 use Rattle.html_grammar.specs.Lexing.{token_at}
-use Rattle.html_grammar.specs.Laws.{built_as}
-use Rattle.html_grammar.specs.Spelling.{IsToken}
 use Rattle.html_grammar.specs.Whole.{Reading, or_found, not_late, concluded, read_from, first_bad_byte, read_text}
-use Rattle.html_grammar.specs.FirstFaults.{fault_as, IsLexedTo, IsStartOf, Barred, IsFaultHere, IsFaultBehind, IsFaultOf, IsFirstFaultOf}
+use Rattle.html_grammar.specs.FirstFaults.{fault_as, IsLexedTo, IsStartOf, Barred, IsFaultHere, IsFaultBehind, IsFirstFaultOf}
 use Rattle.html_grammar.proofs.Whole.{document_is_read}
 use Rattle.html_grammar.proofs.First.{seen, one_more, is_front, no_front, taken_fault, concluded_fault}
 use Rattle.html_grammar.proofs.AttributeForms.{Gives}
@@ -46,7 +42,9 @@ pub record Faulty (size : ℕ) (front : List Token) (ps : List Place) (f : Fault
 -- at once
 here : (size : ℕ) (front : List Token) (ps : List Place) (f : Fault) → IsFront size front → IsFaultBehind size front ps f → Faulty size front ps f
 here size front ps f goes_on h = record {
-  more = []; rest = ps; spelled = refl;
+  more = [];
+  rest = ps;
+  spelled = refl;
   goes_on = subst (IsFront size) (sym (append-nil front)) goes_on;
   fault = subst (λ (x : List Token). IsFaultBehind size x ps f) (sym (append-nil front)) h;
 }
@@ -81,14 +79,25 @@ place_is p ps x r = place_at x.0 p r.front x.1 r.is
 
 stuck : (size : ℕ) (front : List Token) (s : State) (p : Place) (ps : List Place) (x : Token × List Place) (g : Fault) → read_all opening_state front ≡ Ok s → Reads p ps x → take_token s x.0 ≡ Err g → IsFaultHere size front p ps g
 stuck size front s p ps x g h r e =
-    inr (inr (inr (inr (inl (x.0, p ∷ r.front, x.1, ap (λ (u : List Place). p ∷ u) r.whole, r.is,
+    inr (inr (inr (inr (inl (
+      x.0,
+      p ∷ r.front,
+      x.1,
+      ap (λ (u : List Place). p ∷ u) r.whole,
+      r.is,
       no_front size (front ++ x.0 ∷ []) g (one_more front s x.0 h ∙ e),
-      taken_fault s x.0 g e ∙ ap (λ (u : ℕ). fault_as u (rule_of x.0)) (place_is p ps x r))))))
+      taken_fault s x.0 g e ∙ ap (λ (u : ℕ). fault_as u (rule_of x.0)) (place_is p ps x r),
+    )))))
 
 late_stuck : (size : ℕ) (front : List Token) (s : State) (p : Place) (ps : List Place) (x : Token × List Place) (late g : Fault) → read_all opening_state front ≡ Ok s → Lately p ps x.0 late → take_token s x.0 ≡ Err g → IsFaultHere size front p ps g
 late_stuck size front s p ps x late g h l e =
-    inr (inr (inr (inr (inr (inl (l.tag, l.has, l.once, barred size front s l.tag.name x.0 g h l.start e,
-      taken_fault s x.0 g e ∙ ap (λ (u : ℕ). fault_as u (rule_of x.0)) l.stands ∙ ap (fault_as p.at) l.rule))))))
+    inr (inr (inr (inr (inr (inl (
+      l.tag,
+      l.has,
+      l.once,
+      barred size front s l.tag.name x.0 g h l.start e,
+      taken_fault s x.0 g e ∙ ap (λ (u : ℕ). fault_as u (rule_of x.0)) l.stands ∙ ap (fault_as p.at) l.rule,
+    ))))))
 
 late_fault : (size : ℕ) (front : List Token) (s next : State) (p : Place) (ps : List Place) (x : Token × List Place) (late : Fault) → read_all opening_state front ≡ Ok s → Lately p ps x.0 late → take_token s x.0 ≡ Ok next → IsFaultHere size front p ps late
 late_fault size front s next p ps x late h l e =
@@ -109,7 +118,7 @@ reading_fault (suc n) size [] construct s front f h le len e = here size front [
 reading_fault zero size (p ∷ ps) construct s front f h le len e = absurd (omega arith)
 reading_fault (suc n) size (p ∷ ps) construct s front f h le len e =
     by_token (token_at size p ps) refl (token_gives size p ps (omega (arith, len))) (token_failing size p ps (omega (arith, len))) (token_late size p ps (omega (arith, len)))
-      (λ rest construct next front. reading_fault n size rest construct next front f) e
+    (λ rest construct next front. reading_fault n size rest construct next front f) e
   where
     at_once : IsFaultHere size front p ps f → Faulty size front (p ∷ ps) f
     at_once k = here size front (p ∷ ps) f (is_front size front s h) k

@@ -53,7 +53,7 @@ tag_attributes n tag one rest f le =
     let w = named_back tag.name f.named (f.more ++ rest) f.name_is f.stops in
     let l : length one ≡ suc (length f.named + length f.more) = ap length f.whole ∙ ap suc (length-append f.named f.more) in
     let all : attributes_from n n tag.at no_attributes (f.more ++ rest) ≡ attributes_answer (attributes_as tag.attributes tag.unknown f.bad) rest =
-        attributes_back n n tag.at tag.attributes tag.unknown f.bad f.more rest no_attributes f.attributes_are (omega (arith, l, le)) (omega (arith, l, le)) in
+    attributes_back n n tag.at tag.attributes tag.unknown f.bad f.more rest no_attributes f.attributes_are (omega (arith, l, le)) (omega (arith, l, le)) in
     ap (λ (x : List Place). attributes_from n n tag.at no_attributes x >>= or_doubled tag.at (tag_name ps)) w.behind
     ∙ ap (λ (x : Result (ReadAttributes × List Place) Fault). x >>= or_doubled tag.at (tag_name ps)) all
     ∙ ap (λ (x : List ℕ). or_doubled tag.at x (attributes_as tag.attributes tag.unknown f.bad, rest)) w.is
@@ -73,9 +73,10 @@ raw_stops : (name : List ℕ) (inner rest : List Place) → NoneBegins (ends_raw
 raw_stops name [] [] h over = (refl, refl)
 raw_stops name [] (p ∷ rest) h over = (ap (λ (b : Bool). cond b (p ∷ rest) (behind_raw name rest)) over, ap (λ (b : Bool). cond b [] (p.character ∷ raw_codes name rest)) over)
 raw_stops name (p ∷ inner) rest h over =
-    let r = raw_stops name inner rest h.1 over in
-    ( ap (λ (b : Bool). cond b (p ∷ (inner ++ rest)) (behind_raw name (inner ++ rest))) h.0 ∙ r.0
-    , ap (λ (b : Bool). cond b [] (p.character ∷ raw_codes name (inner ++ rest))) h.0 ∙ ap (λ (x : List ℕ). p.character ∷ x) r.1)
+    let r = raw_stops name inner rest h.1 over in (
+      ap (λ (b : Bool). cond b (p ∷ (inner ++ rest)) (behind_raw name (inner ++ rest))) h.0 ∙ r.0,
+      ap (λ (b : Bool). cond b [] (p.character ∷ raw_codes name (inner ++ rest))) h.0 ∙ ap (λ (x : List ℕ). p.character ∷ x) r.1,
+    )
 
 text_stops : (t : List ℕ) (inner rest : List Place) → NoneBegins (begins_text t) inner rest → begins_text t rest ≡ true → (c : ℕ) → begins c rest ≡ true → from_text t (inner ++ rest) ≡ rest
 text_stops t [] [] h over c b = refl
@@ -114,7 +115,7 @@ raw_back tag text one rest f =
     let opens : begins 60 behind ≡ true = ap (begins 60) whole ∙ begins_back 60 e.angle (e.slash ∷ (e.named ++ (e.white ++ (e.last ∷ rest)))) e.opens in
     let stands : place_or 0 behind ≡ f.at = ap (place_or 0) whole ∙ e.stands in
     let ended : end_at (place_or 0 behind) (drop 2 behind) ≡ token_answer (End f.at f.name) rest =
-        ap (λ (x : ℕ). end_at x (drop 2 behind)) stands ∙ ap (λ (x : List Place). end_at f.at (drop 2 x)) whole ∙ end_back f.at f.name f.ending rest e in
+    ap (λ (x : ℕ). end_at x (drop 2 behind)) stands ∙ ap (λ (x : List Place). end_at f.at (drop 2 x)) whole ∙ end_back f.at f.name f.ending rest e in
     ap (λ (x : List Place). cond (begins 60 x) (raw_ended tag (raw_piece (place_or 0 ps) (raw_codes tag.name ps)) (end_at (place_or 0 x) (drop 2 x))) (token_answer (Raw (with_late tag (record { at = tag.at; rule = 9 })) None) [])) r.0
     ∙ ap (λ (b : Bool). cond b (raw_ended tag (raw_piece (place_or 0 ps) (raw_codes tag.name ps)) (end_at (place_or 0 behind) (drop 2 behind))) (token_answer (Raw (with_late tag (record { at = tag.at; rule = 9 })) None) [])) opens
     ∙ ap (λ (x : Result (Token × List Place) Fault). raw_ended tag (raw_piece (place_or 0 ps) (raw_codes tag.name ps)) x) ended
@@ -173,9 +174,10 @@ text_begins [] (p ∷ front) rest h = absurd cc
 text_begins (c ∷ t) front rest h =
     let f = head_of c t front h in
     let r = text_begins t f.more rest f.rest in
-    let whole : front ++ rest ≡ f.place ∷ (f.more ++ rest) = ap (λ (x : List Place). x ++ rest) f.whole in
-    ( ap (begins_text (c ∷ t)) whole ∙ ap (λ (b : Bool). b && begins_text t (f.more ++ rest)) (eq-eqb f.place.character c f.is) ∙ r.0
-    , ap (drop (suc (length t))) whole ∙ r.1)
+    let whole : front ++ rest ≡ f.place ∷ (f.more ++ rest) = ap (λ (x : List Place). x ++ rest) f.whole in (
+      ap (begins_text (c ∷ t)) whole ∙ ap (λ (b : Bool). b && begins_text t (f.more ++ rest)) (eq-eqb f.place.character c f.is) ∙ r.0,
+      ap (drop (suc (length t))) whole ∙ r.1,
+    )
 
 -- markup other than a tag
 abbrev marked : ℕ → Place → List Place → Result (Token × List Place) Fault
@@ -215,8 +217,8 @@ comment_back n at one rest f =
     let closing : begins 45 behind ≡ true = ap (λ (x : List Place). begins 45 (x ++ rest)) d.whole ∙ begins_back 45 d.place (d.more ++ rest) d.is in
     let stops : from_text (codes "-->") tail ≡ behind = text_stops (codes "-->") f.inner behind f.not_over c.0 45 closing in
     let whole : one ++ rest ≡ a.place ∷ (a.more ++ tail) =
-        ap (λ (x : List Place). x ++ rest) f.whole ∙ append_assoc f.opening (f.inner ++ f.closing) rest
-        ∙ ap (λ (x : List Place). f.opening ++ x) (append_assoc f.inner f.closing rest) ∙ ap (λ (x : List Place). x ++ tail) a.whole in
+    ap (λ (x : List Place). x ++ rest) f.whole ∙ append_assoc f.opening (f.inner ++ f.closing) rest
+    ∙ ap (λ (x : List Place). f.opening ++ x) (append_assoc f.inner f.closing rest) ∙ ap (λ (x : List Place). x ++ tail) a.whole in
     let marks : a.more ++ tail ≡ b.place ∷ (b.more ++ tail) = ap (λ (x : List Place). x ++ tail) b.whole in
     ap (front_token n) whole
     ∙ ap (token_at n a.place) marks ∙ at_mark n a.place b.place (b.more ++ tail) a.is b.is ∙ ap (mark_at a.place.at) (sym marks)
@@ -251,9 +253,10 @@ folded_begins [] (p ∷ front) rest h = absurd cc
 folded_begins (c ∷ t) front rest h =
     let f = folded_of c t front h in
     let r = folded_begins t f.more rest f.rest in
-    let whole : front ++ rest ≡ f.place ∷ (f.more ++ rest) = ap (λ (x : List Place). x ++ rest) f.whole in
-    ( ap (begins_folded (c ∷ t)) whole ∙ ap (λ (b : Bool). b && begins_folded t (f.more ++ rest)) (eq-eqb (to_ascii_lowercase f.place.character) c f.is) ∙ r.0
-    , ap (drop (suc (length t))) whole ∙ r.1)
+    let whole : front ++ rest ≡ f.place ∷ (f.more ++ rest) = ap (λ (x : List Place). x ++ rest) f.whole in (
+      ap (begins_folded (c ∷ t)) whole ∙ ap (λ (b : Bool). b && begins_folded t (f.more ++ rest)) (eq-eqb (to_ascii_lowercase f.place.character) c f.is) ∙ r.0,
+      ap (drop (suc (length t))) whole ∙ r.1,
+    )
 
 -- a character that isn't a letter stays as it is in lower case
 unfolded_mark : (c : ℕ) → to_ascii_lowercase c ≡ 33 → c ≡ 33
@@ -275,14 +278,14 @@ doctype_back n at one rest f =
     let tail = f.inner ++ (f.last ∷ rest) in
     let m = folded_begins (codes "!doctype") f.mark tail f.marks in
     let whole : one ++ rest ≡ f.angle ∷ (f.mark ++ tail) =
-        ap (λ (x : List Place). x ++ rest) f.whole
-        ∙ ap (λ (x : List Place). f.angle ∷ x) (append_assoc f.mark (f.inner ++ f.last ∷ []) rest ∙ ap (λ (x : List Place). f.mark ++ x) (append_assoc f.inner (f.last ∷ []) rest)) in
+    ap (λ (x : List Place). x ++ rest) f.whole
+    ∙ ap (λ (x : List Place). f.angle ∷ x) (append_assoc f.mark (f.inner ++ f.last ∷ []) rest ∙ ap (λ (x : List Place). f.mark ++ x) (append_assoc f.inner (f.last ∷ []) rest)) in
     let marks : f.mark ++ tail ≡ a.place ∷ (b.place ∷ (b.more ++ tail)) = ap (λ (x : List Place). x ++ tail) (a.whole ∙ ap (λ (x : List Place). a.place ∷ x) b.whole) in
     let mark : a.place.character ≡ 33 = unfolded_mark a.place.character a.is in
     let other : begins_text (codes "!--") (f.mark ++ tail) ≡ false =
-        ap (begins_text (codes "!--")) marks
-        ∙ ap (λ (x : Bool). x && (eqb b.place.character 45 && begins_text (codes "-") (b.more ++ tail))) (eq-eqb a.place.character 33 mark)
-        ∙ ap (λ (x : Bool). x && begins_text (codes "-") (b.more ++ tail)) (unfolded_other b.place.character b.is) in
+    ap (begins_text (codes "!--")) marks
+    ∙ ap (λ (x : Bool). x && (eqb b.place.character 45 && begins_text (codes "-") (b.more ++ tail))) (eq-eqb a.place.character 33 mark)
+    ∙ ap (λ (x : Bool). x && begins_text (codes "-") (b.more ++ tail)) (unfolded_other b.place.character b.is) in
     let stops : begins_with (is_other 62) (f.last ∷ rest) ≡ false = ap (is_other 62) f.ends in
     let behind : behind_while (is_other 62) tail ≡ f.last ∷ rest = behind_back (is_other 62) f.inner (f.last ∷ rest) f.passes stops in
     ap (front_token n) whole

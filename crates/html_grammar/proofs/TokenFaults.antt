@@ -1,9 +1,9 @@
 -- Where no token is read, and what a tag has behind its own place.
-use Rattle.std.proofs.Common.{◌≡◌, ℕ, zero, suc, ◌+◌, ◌≤◌, ◌<◌, List, [], ◌∷◌, ◌++◌, map, drop, length, Option, Some, None, Result, Ok, Err, Bool, true, false, cond, ◌&&◌, ◌||◌, refl, sym, ap, subst, ◌∙◌, append_assoc, arith, length-append, inl, inr}
-use Rattle.std.specs.Prelude.{◌⊎◌, codes, ◌==◌, option_map, unwrap_or}
+use Rattle.std.proofs.Common.{◌≡◌, ℕ, zero, suc, ◌+◌, ◌≤◌, List, [], ◌∷◌, ◌++◌, drop, length, Option, Some, None, Result, Ok, Err, Bool, true, false, cond, ◌&&◌, refl, sym, ap, subst, ◌∙◌, arith, length-append, inl, inr}
+use Rattle.std.specs.Prelude.{◌⊎◌, codes, ◌==◌}
 use Rattle.std.specs.Char.{is_ascii_alphabetic}
 use Rattle.std.proofs.lemmas.List.{append-nil}
-use Rattle.std.proofs.lemmas.Bool.{true≢false, eq-eqb, eqb-true, and_parts}
+use Rattle.std.proofs.lemmas.Bool.{true≢false, eqb-true, and_parts}
 use Rattle.html_grammar.specs.declared.place.Place.{Place}
 use Rattle.html_grammar.specs.declared.token.Fault.{Fault}
 use Rattle.html_grammar.specs.declared.token.Meaning.{Meaning}
@@ -15,18 +15,17 @@ use Rattle.html_grammar.specs.declared.token.Spelled.TheVariants.{Plain}
 use Rattle.html_grammar.specs.declared.token.Tag.{Tag}
 use Rattle.html_grammar.specs.declared.token.Token.{Token}
 use Rattle.html_grammar.specs.declared.token.Token.TheVariants.{Start, Raw, End, Comment, Doctype, Char}
-use Rattle.html_grammar.specs.declared.token.Value.{Value}
 use Rattle.html_grammar.specs.Names.{is_raw}
 use Rattle.html_grammar.specs.Places.{behind_first, place_or, behind_while, begins_with, begins}
-use Rattle.html_grammar.specs.Tokens.{is_space, ◌>>=◌, fault, late_of}
-use Rattle.html_grammar.specs.Lexing.{is_name_char, is_key_char, is_bare_char, is_other, begins_text, begins_folded, meaning_at, empty_value, value_from, read_as, quoted_at, bare_at, value_at, assigned_at, key, attribute_at, some_attribute, piece_at, no_attributes, with_attribute, continued, attributes_from, is_doubled, tag_name, end_at, ends_raw, raw_codes, behind_raw, raw_piece, or_late, with_late, raw_ended, raw_at, tag_of, behind_tag, or_doubled, start_at, from_text, comment_at, doctype_at, mark_at, char_by_meaning, token_at}
-use Rattle.html_grammar.specs.Spelling.{NoneBegins, BeginsBad, IsTag, IsOnce, IsEndTag, IsDoctype, takes_line_feed, IsToken}
-use Rattle.html_grammar.specs.FirstFaults.{fault_as, HasTag, IsStartOf, RawEnds, NeverEnds, IsOpenComment, IsOffForm, IsTwice, IsBadHere, IsLate}
+use Rattle.html_grammar.specs.Tokens.{is_space, ◌>>=◌, fault}
+use Rattle.html_grammar.specs.Lexing.{is_name_char, is_key_char, is_bare_char, is_other, begins_text, begins_folded, meaning_at, empty_value, value_from, read_as, quoted_at, bare_at, value_at, assigned_at, key, attribute_at, some_attribute, piece_at, no_attributes, with_attribute, continued, attributes_from, is_doubled, tag_name, end_at, raw_codes, behind_raw, raw_piece, with_late, raw_ended, raw_at, tag_of, behind_tag, or_doubled, start_at, from_text, comment_at, doctype_at, mark_at, char_by_meaning, token_at}
+use Rattle.html_grammar.specs.Spelling.{NoneBegins, takes_line_feed, IsToken}
+use Rattle.html_grammar.specs.FirstFaults.{fault_as, HasTag, IsOpenComment, IsOffForm, IsTwice, IsBadHere}
 use Rattle.html_grammar.proofs.ReferenceForms.{Meant, meant}
-use Rattle.html_grammar.proofs.AttributeForms.{Gives, gives_bind}
+use Rattle.html_grammar.proofs.AttributeForms.{Gives}
 use Rattle.html_grammar.proofs.AttributeRead.{Listed, attributes_give}
 use Rattle.html_grammar.proofs.TokenBack.{front_token, token_answer, token_back, started_back, doubled_back}
-use Rattle.html_grammar.proofs.TokenRead.{RawSpan, raw_span, TextSpan, text_span, Tagged, tag_form, name_shorter, EndForm, end_gives}
+use Rattle.html_grammar.proofs.TokenRead.{text_span, tag_form, name_shorter}
 
 -- what holds of a fault, if there is one
 abbrev pub Fails : {A : Type 0} → (Fault → Type 0) → Result A Fault → Type 0
@@ -70,8 +69,8 @@ unfolding piece_at
 piece_fails n tag ps =
     fails_if (Off tag) (begins 62 (behind_while is_space ps)) (Ok (None, behind_first (behind_while is_space ps))) _ tt
     (fails_if (Off tag) (begins 47 (behind_while is_space ps)) _ _
-      (fails_if (Off tag) (begins 62 (behind_first (behind_while is_space ps))) (Ok (None, behind_first (behind_first (behind_while is_space ps)))) (fault tag 3) tt refl)
-      (fails_if (Off tag) (begins_with is_space ps) _ (fault tag 3) (fails_bind (Off tag) (attribute_at n tag (behind_while is_space ps)) some_attribute (attribute_fails n tag (behind_while is_space ps)) (λ x. tt)) refl))
+    (fails_if (Off tag) (begins 62 (behind_first (behind_while is_space ps))) (Ok (None, behind_first (behind_first (behind_while is_space ps)))) (fault tag 3) tt refl)
+    (fails_if (Off tag) (begins_with is_space ps) _ (fault tag 3) (fails_bind (Off tag) (attribute_at n tag (behind_while is_space ps)) some_attribute (attribute_fails n tag (behind_while is_space ps)) (λ x. tt)) refl))
 
 attributes_fail : (k n tag : ℕ) (x : ReadAttributes) (ps : List Place) → Fails (Off tag) (attributes_from k n tag x ps)
 unfolding attributes_from
@@ -91,8 +90,8 @@ behind_reads : (tag : Tag) (ps : List Place) → Fails (λ f. ⊥) (behind_tag t
 unfolding behind_tag raw_at
 behind_reads tag ps =
     fails_if (λ f. ⊥) (is_raw tag.name) _ _
-      (fails_if (λ f. ⊥) (begins 60 (behind_raw tag.name ps)) _ (Ok (Raw (with_late tag (record { at = tag.at; rule = 9 })) None, [])) (raw_reads tag (raw_piece (place_or 0 ps) (raw_codes tag.name ps)) (end_at (place_or 0 (behind_raw tag.name ps)) (drop 2 (behind_raw tag.name ps)))) tt)
-      (fails_if (λ f. ⊥) (takes_line_feed tag ps) (Ok (Start tag, behind_first ps)) (Ok (Start tag, ps)) tt tt)
+    (fails_if (λ f. ⊥) (begins 60 (behind_raw tag.name ps)) _ (Ok (Raw (with_late tag (record { at = tag.at; rule = 9 })) None, [])) (raw_reads tag (raw_piece (place_or 0 ps) (raw_codes tag.name ps)) (end_at (place_or 0 (behind_raw tag.name ps)) (drop 2 (behind_raw tag.name ps)))) tt)
+    (fails_if (λ f. ⊥) (takes_line_feed tag ps) (Ok (Start tag, behind_first ps)) (Ok (Start tag, ps)) tt tt)
 
 -- where a tag stands, it isn't off its form
 abbrev pub failed : Fault → Result (Token × List Place) Fault
@@ -209,7 +208,7 @@ mark_failing n p ps le opens mark = by_comment (begins_text (codes "!--") ps) re
     by_comment true h e = comment_failing n p ps opens h e
     by_comment false h e = off (cond (begins_folded (codes "!doctype") ps) doctype (fault p.at 3))
         (fails_if (Off p.at) (begins_folded (codes "!doctype") ps) doctype (fault p.at 3)
-          (fails_if (Off p.at) (begins 62 (behind_while (is_other 62) (drop 8 ps))) (Ok (Doctype p.at, behind_first (behind_while (is_other 62) (drop 8 ps)))) (fault p.at 3) tt refl) refl) h e
+        (fails_if (Off p.at) (begins 62 (behind_while (is_other 62) (drop 8 ps))) (Ok (Doctype p.at, behind_first (behind_while (is_other 62) (drop 8 ps)))) (fault p.at 3) tt refl) refl) h e
 
 char_failing : (p : Place) (ps : List Place) → p.character ≡ 38 → Fails (Here p ps) (char_by_meaning p.at (meaning_at ps))
 char_failing p ps amp = by_meaning' (meaning_at ps).0 (meaning_at ps).1 (meant ps)

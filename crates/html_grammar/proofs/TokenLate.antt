@@ -1,9 +1,9 @@
 -- What a tag has behind its own place.
-use Rattle.std.proofs.Common.{◌≡◌, ℕ, zero, suc, ◌+◌, ◌≤◌, ◌<◌, List, [], ◌∷◌, ◌++◌, map, drop, length, Option, Some, None, Result, Ok, Err, Bool, true, false, cond, ◌&&◌, ◌||◌, refl, sym, ap, subst, ◌∙◌, append_assoc, arith, length-append, inl, inr}
-use Rattle.std.specs.Prelude.{◌⊎◌, codes, ◌==◌, option_map, unwrap_or}
+use Rattle.std.proofs.Common.{◌≡◌, ℕ, ◌≤◌, List, [], ◌∷◌, ◌++◌, drop, length, Option, Some, None, Result, Ok, Err, Bool, true, false, cond, ◌&&◌, refl, sym, ap, subst, ◌∙◌, inl, inr}
+use Rattle.std.specs.Prelude.{codes, ◌==◌, unwrap_or}
 use Rattle.std.specs.Char.{is_ascii_alphabetic}
 use Rattle.std.proofs.lemmas.List.{append-nil}
-use Rattle.std.proofs.lemmas.Bool.{true≢false, eq-eqb, eqb-true, and_parts}
+use Rattle.std.proofs.lemmas.Bool.{true≢false, eqb-true, and_parts}
 use Rattle.html_grammar.specs.declared.place.Place.{Place}
 use Rattle.html_grammar.specs.declared.token.Fault.{Fault}
 use Rattle.html_grammar.specs.declared.token.Meaning.{Meaning}
@@ -16,15 +16,15 @@ use Rattle.html_grammar.specs.declared.token.Token.{Token}
 use Rattle.html_grammar.specs.declared.token.Token.TheVariants.{Start, Raw, End, Comment, Doctype, Char}
 use Rattle.html_grammar.specs.Names.{is_raw}
 use Rattle.html_grammar.specs.Places.{behind_first, place_or, behind_while, begins_with, begins}
-use Rattle.html_grammar.specs.Tokens.{is_space, ◌>>=◌, fault, place_of, late_of}
+use Rattle.html_grammar.specs.Tokens.{is_space, fault, place_of, late_of}
 use Rattle.html_grammar.specs.Lexing.{is_name_char, is_other, begins_text, begins_folded, meaning_at, no_attributes, attributes_from, is_doubled, tag_name, end_at, ends_raw, is_past_name, raw_codes, behind_raw, raw_piece, or_late, with_late, raw_ended, raw_at, tag_of, behind_tag, or_doubled, start_at, from_text, comment_at, doctype_at, mark_at, char_by_meaning, token_at}
 use Rattle.html_grammar.specs.Faults.{rule_of}
-use Rattle.html_grammar.specs.Spelling.{NoneBegins, IsTag, IsOnce, IsEndTag, takes_line_feed}
+use Rattle.html_grammar.specs.Spelling.{NoneBegins, IsOnce, IsEndTag, takes_line_feed}
 use Rattle.html_grammar.specs.FirstFaults.{fault_as, HasTag, IsStartOf, RawEnds, NeverEnds, IsLate}
 use Rattle.html_grammar.proofs.AttributeForms.{Gives, gives_bind}
 use Rattle.html_grammar.proofs.AttributeRead.{Listed, attributes_give}
 use Rattle.html_grammar.proofs.TokenBack.{token_answer, end_back, end_whole}
-use Rattle.html_grammar.proofs.TokenRead.{RawSpan, raw_span, Tagged, tag_form, name_shorter}
+use Rattle.html_grammar.proofs.TokenRead.{raw_span, Tagged, tag_form, name_shorter}
 use Rattle.html_grammar.proofs.TokenFaults.{Fails, marked}
 
 -- a token with a late fault begins with a tag
@@ -71,7 +71,7 @@ no_end behind f e at name one more w t =
     let whole = w ∙ end_whole at name one more t in
     let place : place_or 0 behind ≡ at = ap (place_or 0) whole ∙ t.stands in
     let g : token_answer (End at name) more ≡ failed f =
-        sym (end_back at name one more t) ∙ ap (λ (u : List Place). end_at at (drop 2 u)) (sym whole) ∙ ap (λ (u : ℕ). end_at u (drop 2 behind)) (sym place) ∙ e in
+    sym (end_back at name one more t) ∙ ap (λ (u : List Place). end_at at (drop 2 u)) (sym whole) ∙ ap (λ (u : ℕ). end_at u (drop 2 behind)) (sym place) ∙ e in
     absurd cc
 
 behind_late : (p : Place) (tag : Tag) (all ps : List Place) → Tagged p tag all ps → IsOnce tag → tag.at ≡ p.at → Gives (LateOf p all) (behind_tag tag ps)
@@ -115,7 +115,7 @@ behind_late p tag all ps t once at = by_raw (is_raw tag.name) refl
 
     by_raw : (b : Bool) → is_raw tag.name ≡ b
         → Gives (LateOf p all) (cond b (cond (begins 60 (behind_raw tag.name ps)) (raw_ended tag (raw_piece (place_or 0 ps) (raw_codes tag.name ps)) (end_at (place_or 0 (behind_raw tag.name ps)) (drop 2 (behind_raw tag.name ps)))) (Ok (Raw (with_late tag (record { at = tag.at; rule = 9 })) None, [])))
-            (cond (takes_line_feed tag ps) (Ok (Start tag, behind_first ps)) (Ok (Start tag, ps))))
+        (cond (takes_line_feed tag ps) (Ok (Start tag, behind_first ps)) (Ok (Start tag, ps))))
     by_raw true h = by_end h (begins 60 (behind_raw tag.name ps)) refl
     by_raw false h = by_feed h (takes_line_feed tag ps)
 
@@ -123,7 +123,7 @@ start_late : (n : ℕ) (p : Place) (ps : List Place) → length ps ≤ n → p.c
 unfolding start_at
 start_late n p ps le opens letter =
     gives_bind (Listed no_attributes (behind_while is_name_char ps)) (LateOf p ps) (attributes_from n n p.at no_attributes (behind_while is_name_char ps)) (or_doubled p.at (tag_name ps))
-      (attributes_give n n p.at no_attributes (behind_while is_name_char ps) (name_shorter n ps le)) (λ y h. by_doubled y h (is_doubled y.0.all) refl)
+    (attributes_give n n p.at no_attributes (behind_while is_name_char ps) (name_shorter n ps le)) (λ y h. by_doubled y h (is_doubled y.0.all) refl)
   where
     by_doubled : (y : ReadAttributes × List Place) → Listed no_attributes (behind_while is_name_char ps) y → (b : Bool) → is_doubled y.0.all ≡ b
         → Gives (LateOf p ps) (cond b (fault p.at 4) (behind_tag (tag_of p.at (tag_name ps) y.0) y.1))
@@ -150,9 +150,9 @@ mark_punctual : (at : ℕ) (ps : List Place) → Gives Punctual (mark_at at ps)
 unfolding mark_at comment_at doctype_at
 mark_punctual at ps =
     gives_cond Punctual (begins_text (codes "!--") ps) _ _
-      (gives_cond Punctual (begins 45 (from_text (codes "-->") (drop 3 ps))) (Ok (Comment at, drop 3 (from_text (codes "-->") (drop 3 ps)))) (fault at 2) refl tt)
-      (gives_cond Punctual (begins_folded (codes "!doctype") ps) _ (fault at 3)
-        (gives_cond Punctual (begins 62 (behind_while (is_other 62) (drop 8 ps))) (Ok (Doctype at, behind_first (behind_while (is_other 62) (drop 8 ps)))) (fault at 3) refl tt) tt)
+    (gives_cond Punctual (begins 45 (from_text (codes "-->") (drop 3 ps))) (Ok (Comment at, drop 3 (from_text (codes "-->") (drop 3 ps)))) (fault at 2) refl tt)
+    (gives_cond Punctual (begins_folded (codes "!doctype") ps) _ (fault at 3)
+    (gives_cond Punctual (begins 62 (behind_while (is_other 62) (drop 8 ps))) (Ok (Doctype at, behind_first (behind_while (is_other 62) (drop 8 ps)))) (fault at 3) refl tt) tt)
 
 char_punctual : (at : ℕ) (m : Meaning) (rest : List Place) → Gives Punctual (char_by_meaning at (m, rest))
 char_punctual at meanings.Plain rest = refl
@@ -169,8 +169,8 @@ token_late n p ps le = by_angle (p.character == 60) refl
     by_letter opens true h = start_late n p ps le opens h
     by_letter opens false h = not_late_one p ps (cond (begins 47 ps) (end_at p.at (behind_first ps)) (cond (begins 33 ps) (mark_at p.at ps) (cond (begins 63 ps) (fault p.at 3) (Ok (Char p.at p.character Plain, ps)))))
         (gives_cond Punctual (begins 47 ps) _ _ (end_punctual p.at (behind_first ps))
-          (gives_cond Punctual (begins 33 ps) _ _ (mark_punctual p.at ps)
-            (gives_cond Punctual (begins 63 ps) (fault p.at 3) (Ok (Char p.at p.character Plain, ps)) tt refl)))
+        (gives_cond Punctual (begins 33 ps) _ _ (mark_punctual p.at ps)
+        (gives_cond Punctual (begins 63 ps) (fault p.at 3) (Ok (Char p.at p.character Plain, ps)) tt refl)))
 
     by_angle : (b : Bool) → (p.character == 60) ≡ b
         → Gives (LateOf p ps) (cond b (marked n p ps) (cond (p.character == 38) (char_by_meaning p.at (meaning_at ps)) (Ok (Char p.at p.character Plain, ps))))

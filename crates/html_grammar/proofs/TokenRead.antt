@@ -72,8 +72,15 @@ end_gives at ps = by_letter (begins_with is_ascii_alphabetic ps) (begins 62 (beh
           token = refl;
           whole = s.whole ∙ ap (λ (x : List Place). s.front ++ x) (spaced ∙ sym (append_assoc w.front (f.place ∷ []) rest)) ∙ sym (append_assoc s.front (w.front ++ f.place ∷ []) rest);
           is = λ angle slash opens stands slashed. record {
-            angle = angle; slash = slash; named = s.front; white = w.front; last = f.place; whole = refl;
-            opens = opens; stands = stands; slashed = slashed;
+            angle = angle;
+            slash = slash;
+            named = s.front;
+            white = w.front;
+            last = f.place;
+            whole = refl;
+            opens = opens;
+            stands = stands;
+            slashed = slashed;
             name_is = tag_named s.front ps (behind_while is_name_char ps) s.whole s.passes s.codes_are s.stops letter letter_in_name;
             stops = ap (begins_with is_name_char) (sym spaced) ∙ s.stops;
             spaces = w.passes;
@@ -99,7 +106,9 @@ raw_span name (p ∷ ps) = by_end (raw_span name ps) (ends_raw name (p ∷ ps)) 
     by_end s true h =
         let e : behind_raw name (p ∷ ps) ≡ p ∷ ps = ap (λ (b : Bool). cond b (p ∷ ps) (behind_raw name ps)) h in
         record {
-          inner = []; whole = sym e; not_over = tt;
+          inner = [];
+          whole = sym e;
+          not_over = tt;
           codes_are = ap (λ (b : Bool). cond b [] (p.character ∷ raw_codes name ps)) h;
           over = λ _. ap (ends_raw name) e ∙ h;
         }
@@ -204,14 +213,24 @@ raw_gives p tag all ps raw t once = by_end (begins 60 (behind_raw tag.name ps)) 
         record {
           front = t.front ++ (s.inner ++ ending);
           whole = t.whole ∙ ap (λ (u : List Place). t.front ++ u) (inside ∙ sym (append_assoc s.inner ending x.1)) ∙ sym (append_assoc t.front (s.inner ++ ending) x.1);
-          is = (raw, record {
-            tagged = p ∷ t.front; inner = s.inner; ending = ending; at = angle.at; name = f.name; whole = refl;
-            tag_is = subst (IsTag tag (p ∷ t.front)) inside t.is;
-            not_over = subst (NoneBegins (ends_raw tag.name) s.inner) behind s.not_over;
-            over = ap (ends_raw tag.name) (sym behind) ∙ over;
-            end_is = f.is angle slash opens refl slashed;
-            text_is = ap (raw_piece (place_or 0 ps)) s.codes_are ∙ ap (λ (u : List Place). raw_piece (place_or 0 u) (codes_of s.inner)) s.whole ∙ piece_place s.inner (behind_raw tag.name ps);
-          }, once, ok);
+          is = (
+            raw,
+            record {
+              tagged = p ∷ t.front;
+              inner = s.inner;
+              ending = ending;
+              at = angle.at;
+              name = f.name;
+              whole = refl;
+              tag_is = subst (IsTag tag (p ∷ t.front)) inside t.is;
+              not_over = subst (NoneBegins (ends_raw tag.name) s.inner) behind s.not_over;
+              over = ap (ends_raw tag.name) (sym behind) ∙ over;
+              end_is = f.is angle slash opens refl slashed;
+              text_is = ap (raw_piece (place_or 0 ps)) s.codes_are ∙ ap (λ (u : List Place). raw_piece (place_or 0 u) (codes_of s.inner)) s.whole ∙ piece_place s.inner (behind_raw tag.name ps);
+            },
+            once,
+            ok,
+          );
         }
 
     by_ended : (angle slash : Place) (more : List Place) → behind_raw tag.name ps ≡ angle ∷ (slash ∷ more) → angle.character ≡ 60 → slash.character ≡ 47
@@ -267,7 +286,13 @@ tag_form p ps y opens letter l =
       front = s.front ++ l.one;
       whole = s.whole ∙ ap (λ (u : List Place). s.front ++ u) l.whole ∙ sym (append_assoc s.front l.one y.1);
       is = record {
-        angle = p; named = s.front; more = l.one; bad = l.bad; whole = refl; opens = opens; stands = refl;
+        angle = p;
+        named = s.front;
+        more = l.one;
+        bad = l.bad;
+        whole = refl;
+        opens = opens;
+        stands = refl;
         name_is = tag_named s.front ps (behind_while is_name_char ps) s.whole s.passes s.codes_are s.stops letter letter_in_name;
         stops = ap (begins_with is_name_char) (sym l.whole) ∙ s.stops;
         attributes_are = subst (λ (u : Option ℕ). IsAttributes y.0.all u l.bad l.one y.1) (sym l.unknown_is)
@@ -283,7 +308,7 @@ started_gives : (n : ℕ) (p : Place) (ps : List Place) → length ps ≤ n → 
 unfolding start_at
 started_gives n p ps le opens letter =
     gives_bind (Listed no_attributes (behind_while is_name_char ps)) (Sound p ps) (attributes_from n n p.at no_attributes (behind_while is_name_char ps)) (or_doubled p.at (tag_name ps))
-      (attributes_give n n p.at no_attributes (behind_while is_name_char ps) (name_shorter n ps le)) (λ y h. by_doubled y h (is_doubled y.0.all) refl)
+    (attributes_give n n p.at no_attributes (behind_while is_name_char ps) (name_shorter n ps le)) (λ y h. by_doubled y h (is_doubled y.0.all) refl)
   where
     by_doubled : (y : ReadAttributes × List Place) → Listed no_attributes (behind_while is_name_char ps) y → (b : Bool) → is_doubled y.0.all ≡ b
         → Gives (Sound p ps) (cond b (fault p.at 4) (behind_tag (tag_of p.at (tag_name ps) y.0) y.1))
@@ -302,7 +327,10 @@ comment_gives p ps opens marks = gives_if (Sound p ps) (begins 45 (from_text (co
       front = m.front ++ (s.inner ++ c.front);
       whole = m.whole ∙ ap (λ (u : List Place). m.front ++ u) (inside ∙ sym (append_assoc s.inner c.front rest)) ∙ sym (append_assoc m.front (s.inner ++ c.front) rest);
       is = record {
-        opening = p ∷ m.front; inner = s.inner; closing = c.front; whole = refl;
+        opening = p ∷ m.front;
+        inner = s.inner;
+        closing = c.front;
+        whole = refl;
         opens = ap (λ (u : ℕ). u ∷ codes_of m.front) opens ∙ ap (λ (u : List ℕ). 60 ∷ u) m.codes_are;
         stands = refl;
         closes = c.codes_are;
@@ -362,16 +390,19 @@ char_gives p ps amp = by_meaning' (meaning_at ps).0 (meaning_at ps).1 refl (mean
   where
     by_meaning' : (m : Meaning) (rest : List Place) → meaning_at ps ≡ (m, rest) → Meant m rest ps → Gives (Sound p ps) (char_by_meaning p.at (m, rest))
     by_meaning' meanings.Plain rest e h = λ ok. record {
-      front = []; whole = sym h;
+      front = [];
+      whole = sym h;
       is = ((p, refl, refl, amp, λ _ b. not_plain ps rest e (subst BeginsReference h b)), not_angle p 38 amp refl rest []);
     }
     by_meaning' meanings.Unknown rest e h = λ ok. record {
-      front = []; whole = sym h.0;
+      front = [];
+      whole = sym h.0;
       is = ((p, refl, refl, amp, refl, subst BeginsUnknown (sym h.0) h.1), not_angle p 38 amp refl rest []);
     }
     by_meaning' meanings.Bad rest e h = tt
     by_meaning' (meanings.Character c) rest e h = λ ok. record {
-      front = h.0; whole = h.1;
+      front = h.0;
+      whole = h.1;
       is = ((p, h.0, refl, refl, amp, h.2), not_angle p 38 amp refl rest h.0);
     }
 
@@ -383,7 +414,7 @@ token_gives n p ps le = by_angle (p.character == 60) refl
     by_question : p.character ≡ 60 → begins_with is_ascii_alphabetic ps ≡ false → begins 47 ps ≡ false → begins 33 ps ≡ false → (b : Bool) → begins 63 ps ≡ b → Gives (Sound p ps) (cond b (fault p.at 3) (Ok (Char p.at p.character Plain, ps)))
     by_question opens a c d true h = tt
     by_question opens a c d false h = λ ok. plain_gives p ps (λ e. absurd (true≢false (sym (eq-eqb p.character 38 e) ∙ ap (λ (u : ℕ). eqb u 38) opens)))
-      (λ _. ap (λ (u : Bool). u || (begins 47 ps || (begins 33 ps || begins 63 ps))) a ∙ ap (λ (u : Bool). u || (begins 33 ps || begins 63 ps)) c ∙ ap (λ (u : Bool). u || begins 63 ps) d ∙ h)
+        (λ _. ap (λ (u : Bool). u || (begins 47 ps || (begins 33 ps || begins 63 ps))) a ∙ ap (λ (u : Bool). u || (begins 33 ps || begins 63 ps)) c ∙ ap (λ (u : Bool). u || begins 63 ps) d ∙ h)
 
     by_mark : p.character ≡ 60 → begins_with is_ascii_alphabetic ps ≡ false → begins 47 ps ≡ false → (b : Bool) → begins 33 ps ≡ b → Gives (Sound p ps) (cond b (mark_at p.at ps) (cond (begins 63 ps) (fault p.at 3) (Ok (Char p.at p.character Plain, ps))))
     by_mark opens a c true h = mark_gives p ps opens
@@ -404,6 +435,6 @@ token_gives n p ps le = by_angle (p.character == 60) refl
 
     by_angle : (b : Bool) → (p.character == 60) ≡ b
         → Gives (Sound p ps) (cond b (cond (begins_with is_ascii_alphabetic ps) (start_at n p.at ps) (cond (begins 47 ps) (end_at p.at (behind_first ps)) (cond (begins 33 ps) (mark_at p.at ps) (cond (begins 63 ps) (fault p.at 3) (Ok (Char p.at p.character Plain, ps))))))
-          (cond (p.character == 38) (char_by_meaning p.at (meaning_at ps)) (Ok (Char p.at p.character Plain, ps))))
+        (cond (p.character == 38) (char_by_meaning p.at (meaning_at ps)) (Ok (Char p.at p.character Plain, ps))))
     by_angle true h = by_letter (eqb-true p.character 60 h) (begins_with is_ascii_alphabetic ps) refl
     by_angle false h = by_amp h (p.character == 38) refl

@@ -107,23 +107,29 @@ character_back at c Plain here tail h = record { place = h.0; front = []; whole 
         ap (by_meaning v h.0.at) (plain_back tail (h.4 (sym h.3 ∙ e))) ∙ ap (λ (x : Value). (x, tail)) (plain_token v at c 38 (sym e ∙ h.3))
     by_amp v false is = ap (λ (x : Value). (x, tail)) (plain_token v at c h.0.character h.3)
 character_back at c Reference here tail h = record {
-  place = h.0; front = h.1; whole = h.2;
+  place = h.0;
+  front = h.1;
+  whole = h.2;
   adds = λ v. amp v h.0 (h.1 ++ tail) h.4 ∙ ap (by_meaning v h.0.at) (reference_back c h.1 tail h.5) ∙ ap (λ (x : Value). (x, tail)) (plain_token v at c c refl);
 }
 character_back at c Unknown here tail h = record {
-  place = h.0; front = []; whole = h.1;
+  place = h.0;
+  front = [];
+  whole = h.1;
   adds = λ v. amp v h.0 tail h.3
-    ∙ ap (by_meaning v h.0.at) (ap meaning_at h.5.2 ∙ unknown_back h.5.0 h.5.1 h.5.3 ∙ ap (λ (x : List Place). (meanings.Unknown, x)) (sym h.5.2))
-    ∙ ap (λ (x : Value). (x, tail)) (ap (λ (x : ℕ). value_as (v.text ++ encode_utf8 38) (first_of v.unknown x) v.bad) h.2 ∙ unknown_token v at c h.4);
+      ∙ ap (by_meaning v h.0.at) (ap meaning_at h.5.2 ∙ unknown_back h.5.0 h.5.1 h.5.3 ∙ ap (λ (x : List Place). (meanings.Unknown, x)) (sym h.5.2))
+      ∙ ap (λ (x : Value). (x, tail)) (ap (λ (x : ℕ). value_as (v.text ++ encode_utf8 38) (first_of v.unknown x) v.bad) h.2 ∙ unknown_token v at c h.4);
 }
 
 pub piece_back : (at c : ℕ) (s : Spelled) (bad : Option ℕ) (here tail : List Place) → IsPiece at c s bad here tail → Begins at c s bad here tail
 piece_back at c s None here tail h = character_back at c s here tail h
 piece_back at c s (Some bad) here tail h = record {
-  place = h.0; front = []; whole = h.1;
+  place = h.0;
+  front = [];
+  whole = h.1;
   adds = λ v. amp v h.0 tail h.3
-    ∙ ap (by_meaning v h.0.at) (ap meaning_at h.7.2 ∙ bad_back h.7.0 h.7.1 h.7.3 ∙ ap (λ (x : List Place). (meanings.Bad, x)) (sym h.7.2))
-    ∙ ap (λ (x : Value). (x, tail)) (ap (λ (x : ℕ). value_as (v.text ++ encode_utf8 38) v.unknown (first_of v.bad x)) h.2 ∙ bad_token v at c bad h.4 h.6 ∙ ap (λ (x : Spelled). with_token v at c x (Some bad)) (sym h.5));
+      ∙ ap (by_meaning v h.0.at) (ap meaning_at h.7.2 ∙ bad_back h.7.0 h.7.1 h.7.3 ∙ ap (λ (x : List Place). (meanings.Bad, x)) (sym h.7.2))
+      ∙ ap (λ (x : Value). (x, tail)) (ap (λ (x : ℕ). value_as (v.text ++ encode_utf8 38) v.unknown (first_of v.bad x)) h.2 ∙ bad_token v at c bad h.4 h.6 ∙ ap (λ (x : Spelled). with_token v at c x (Some bad)) (sym h.5));
 }
 
 ends_at_once : (n : ℕ) (test : ℕ → Bool) (v : Value) (rest : List Place) → begins_with test rest ≡ false → value_from n test v rest ≡ (v, rest)
@@ -183,25 +189,41 @@ character_read v p ps = by_amp (p.character == 38) refl
   where
     by_case : (m : Meaning) (rest : List Place) → meaning_at ps ≡ as_meant m rest → p.character ≡ 38 → Meant m rest ps → Adds v p ps (by_meaning v p.at (m, rest))
     by_case meanings.Plain rest e is h = record {
-      at = p.at; code = 38; spelled = Plain; now = None; front = [];
+      at = p.at;
+      code = 38;
+      spelled = Plain;
+      now = None;
+      front = [];
       whole = ap (λ (x : List Place). p ∷ x) (sym h);
       is = (p, refl, refl, is, λ _ b. not_plain ps rest e (subst BeginsReference h b));
       value = plain_token v p.at 38 38 refl;
     }
     by_case meanings.Unknown rest e is h = record {
-      at = p.at; code = 38; spelled = Unknown; now = None; front = [];
+      at = p.at;
+      code = 38;
+      spelled = Unknown;
+      now = None;
+      front = [];
       whole = ap (λ (x : List Place). p ∷ x) (sym h.0);
       is = (p, refl, refl, is, refl, subst BeginsUnknown (sym h.0) h.1);
       value = unknown_token v p.at 38 refl;
     }
     by_case meanings.Bad rest e is h = record {
-      at = p.at; code = 38; spelled = Plain; now = Some p.at; front = [];
+      at = p.at;
+      code = 38;
+      spelled = Plain;
+      now = Some p.at;
+      front = [];
       whole = ap (λ (x : List Place). p ∷ x) (sym h.0);
       is = (p, refl, refl, is, refl, refl, refl, subst BeginsBad (sym h.0) h.1);
       value = bad_token v p.at 38 p.at refl refl;
     }
     by_case (meanings.Character c) rest e is h = record {
-      at = p.at; code = c; spelled = Reference; now = None; front = h.0;
+      at = p.at;
+      code = c;
+      spelled = Reference;
+      now = None;
+      front = h.0;
       whole = ap (λ (x : List Place). p ∷ x) h.1;
       is = (p, h.0, refl, refl, is, h.2);
       value = plain_token v p.at c c refl;
@@ -210,7 +232,11 @@ character_read v p ps = by_amp (p.character == 38) refl
     by_amp : (b : Bool) → (p.character == 38) ≡ b → Adds v p ps (cond b (by_meaning v p.at (meaning_at ps)) (with_char v p.character, ps))
     by_amp true is = by_case (meaning_at ps).0 (meaning_at ps).1 refl (eqb-true p.character 38 is) (meant ps)
     by_amp false is = record {
-      at = p.at; code = p.character; spelled = Plain; now = None; front = [];
+      at = p.at;
+      code = p.character;
+      spelled = Plain;
+      now = None;
+      front = [];
       whole = refl;
       is = (p, refl, refl, refl, λ e _. true≢false (sym (eq-eqb p.character 38 e) ∙ is));
       value = plain_token v p.at p.character p.character refl;

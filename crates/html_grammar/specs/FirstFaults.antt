@@ -3,22 +3,26 @@
 -- comes first: what a token's form breaks (2, 3), a name that stands twice (4), a reference in text (5), an end tag that
 -- closes nothing (6) or anything else out of its place (8), raw text without its end (9). What a tag has behind its own
 -- place comes last.
-use Rattle.std.specs.Prelude.{◌≡◌, ◌<◌, ◌⊎◌, ℕ, List, [], ◌∷◌, ◌++◌, drop, length, chars, IsUtf8, Bool, true, false, Option, Some, None, Ok, Err, codes}
+use Rattle.std.specs.Prelude.{◌≡◌, ◌<◌, ◌≤◌, ◌⊎◌, ℕ, List, [], ◌∷◌, ◌++◌, drop, length, chars, IsUtf8, true, false, Option, Some, None, Err, codes}
 use Rattle.std.specs.Char.{is_ascii_alphabetic}
+use Rattle.mc_base.specs.declared.refusal.Found.{Found}
+use Rattle.mc_base.specs.declared.refusal.Refusal.{Refusal}
+use Rattle.mc_base.specs.declared.refusal.Refusal.TheVariants as refusals
+use Rattle.mc_base.specs.declared.refusal.LimitName.TheVariants as limits
 use Rattle.html_grammar.specs.declared.place.Place.{Place}
 use Rattle.html_grammar.specs.declared.token.Fault.{Fault}
 use Rattle.html_grammar.specs.declared.token.Tag.{Tag}
 use Rattle.html_grammar.specs.declared.token.Token.{Token}
 use Rattle.html_grammar.specs.declared.token.Token.TheVariants.{Start, Raw, End, Comment, Doctype, Char}
-use Rattle.html_grammar.specs.Names.{same, is_raw}
+use Rattle.html_grammar.specs.Names.{is_raw}
 use Rattle.html_grammar.specs.Places.{place_or, places_of, begins_with, begins}
-use Rattle.html_grammar.specs.Tree.{Forest}
-use Rattle.html_grammar.specs.Grammar.{IsDocument}
+use Rattle.html_grammar.specs.Tree.{Forest, nodes_from}
+use Rattle.html_grammar.specs.Grammar.{IsDocument, depth_of}
 use Rattle.html_grammar.specs.Faults.{IsFront, rule_of}
 use Rattle.html_grammar.specs.Lexing.{begins_text, is_doubled, ends_raw}
 use Rattle.html_grammar.specs.Spelling.{NoneBegins, BeginsBad, IsTag, IsOnce, IsEndTag, IsDoctype, IsToken}
-use Rattle.html_grammar.specs.Whole.{first_bad_byte, read_text}
-use Rattle.html_grammar.specs.Documents.{NoZero}
+use Rattle.html_grammar.specs.Whole.{first_bad_byte, read_text, count_elements, grammar_refusal, dom_of}
+use Rattle.html_grammar.specs.Documents.{NoZero, IsText}
 
 abbrev pub fault_as : ℕ → ℕ → Fault
 fault_as at rule = record { at = at; rule = rule }
@@ -97,7 +101,7 @@ IsLate p tag rest f =
     ((is_raw tag.name ≡ true) × NeverEnds tag.name rest × (f ≡ fault_as p.at 9))
     ⊎ (((is_raw tag.name ≡ true → RawEnds tag.name rest) × (tag.late ≡ Some f))
     ⊎ ((is_raw tag.name ≡ true) × (tag.late ≡ None) × (ends : RawEnds tag.name rest)
-      × ((at : ℕ) (name : List ℕ) (one more : List Place) → ends.behind ≡ one ++ more → IsEndTag at name one more → ⊥) × (f ≡ fault_as (place_or 0 ends.behind) 3)))
+    × ((at : ℕ) (name : List ℕ) (one more : List Place) → ends.behind ≡ one ++ more → IsEndTag at name one more → ⊥) × (f ≡ fault_as (place_or 0 ends.behind) 3)))
 
 abbrev pub IsLateHere : ℕ → List Token → Place → List Place → Fault → Type 0
 IsLateHere size front p ps f = (tag : Tag) × (has : HasTag tag (p ∷ ps)) × IsOnce tag × Allowed size front tag.name × IsLate p tag has.rest f
@@ -129,3 +133,15 @@ IsFirstFaultOf bytes f =
 -- the fault of a text that is reported is the first
 abbrev pub TheFaultOfATextIsTheFirst : Type 0
 TheFaultOfATextIsTheFirst = (bytes : List ℕ) (f : Fault) → read_text bytes ≡ Err f → IsFirstFaultOf bytes f
+
+-- Why a text is refused: its first fault; or it is a document with more than 20,000 elements, or with more than 64 of
+-- them one inside another.
+abbrev pub IsRefusalOf : List ℕ → Refusal → Type 0
+IsRefusalOf bytes e =
+    ((f : Fault) × IsFirstFaultOf bytes f × (e ≡ grammar_refusal f))
+    ⊎ (((tree : Forest) × (construct : Option Found) × IsText bytes tree construct × (20000 < count_elements (nodes_from None 0 tree)) × (e ≡ refusals.Limit limits.Elements 20001 20000))
+    ⊎ ((tree : Forest) × (construct : Option Found) × IsText bytes tree construct × (count_elements (nodes_from None 0 tree) ≤ 20000) × (64 < depth_of tree) × (e ≡ refusals.Limit limits.Depth 65 64)))
+
+-- every refusal has such a reason
+abbrev pub RefusalsHaveReasons : Type 0
+RefusalsHaveReasons = (bytes : List ℕ) (e : Refusal) → dom_of bytes ≡ Err e → IsRefusalOf bytes e

@@ -144,7 +144,7 @@ abbrev pub IsAssigned : ℕ → Attribute → Option ℕ → Option ℕ → List
 IsAssigned at a unknown bad tail rest =
     ((tail ≡ []) × (begins 61 rest ≡ false) × (a.value ≡ []) × (a.offset ≡ at) × (unknown ≡ None) × (bad ≡ None))
     ⊎ ((equals : Place) × (form : List Place) × (toks : List Token) × (tail ≡ equals ∷ form) × (equals.character ≡ 61) × IsValue toks bad a.offset form rest
-      × (a.value ≡ run_text toks) × (unknown ≡ first_unknown toks))
+    × (a.value ≡ run_text toks) × (unknown ≡ first_unknown toks))
 
 pub record IsAttribute (a : Attribute) (unknown bad : Option ℕ) (one rest : List Place) : Type 0 where
   pub first : Place
