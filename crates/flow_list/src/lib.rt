@@ -1,9 +1,25 @@
 //! Flows as lists: the data of a layout, sealed once it is sound, and the definitions of columns and heights.
 //!
 //! It stands on mc_base. The files of `specs/` say what the layout is: strips, columns, heights that fit, row heights.
-//! Each public call promises which part of the data it answers.
+//! A flow file is read as sealed flows. All that is sealed is sound: numbers are in range, boxes are well nested, and
+//! sums stay below 2^60. Each look promises which part of the data it answers, and a look at an item is counted.
 #![tactic(auto)]
 
 mod data;
+mod flows;
+mod plain;
+mod read;
+mod tally;
 
-pub use data::{AtomKind, Bound, BoxInfo, Edge, Flow, FlowsData, Item, RowInfo, Seam, Stack};
+pub use data::{
+    AtomKind, Bound, BoxInfo, Edge, FlatRow, Flow, FlowsData, Item, RowInfo, Seam, Stack,
+};
+pub use flows::{
+    FlowCounts, Flows, box_at, flow_counts, item_at, item_count, opened_in, row_at, seam_at,
+    stack_at,
+};
+pub use read::read_flow;
+pub use tally::{Counts, Tally};
+
+#[cfg(test)]
+mod tests;
