@@ -1,0 +1,9 @@
+//! Documents of a profile of HTML: the tree of a text, or its first fault.
+//!
+//! It stands on mc_base and html_grammar.
+#![tactic(auto)]
+
+mod characters;
+mod cursor;
+mod fault;
+mod names;
