@@ -1,6 +1,6 @@
 //! Kinds of characters, and runs of them.
 
-ghost use Rattle.std.specs.Prelude.{◌≡◌, ◌++◌, true, IfOk, OnOk, encode_utf8};
+ghost use Rattle.std.specs.Prelude.{◌≡◌, ◌++◌, drop, true, IfOk, OnOk, encode_utf8};
 ghost use Rattle.std.specs.Char.{to_ascii_lowercase, is_ascii_alphanumeric, is_ascii_alphabetic};
 ghost use Rattle.html_grammar.specs.Places as places;
 ghost use Rattle.html_grammar.specs.Tokens as tokens;
@@ -200,4 +200,49 @@ pub fn word(alloc: Global, cursor: &mut Cursor) -> Result<Text, AllocError>
         cursor.bump();
     }
     Ok(text)
+}
+
+/// Whether these characters come next.
+pub fn begins_text(cursor: &Cursor, wanted: &[u8]) -> bool
+    ensures { result ≡ lex.begins_text wanted.now cursor.now }
+{
+    let mut ahead = cursor.fork();
+    for code in wanted {
+        let Some(place) = ahead.peek() else {
+            return false;
+        };
+        if place.character as u32 != u32::from(*code) {
+            return false;
+        }
+        ahead.bump();
+    }
+    true
+}
+
+/// Whether these characters come next, in any case. These are in lower case.
+pub fn begins_folded(cursor: &Cursor, wanted: &[u8]) -> bool
+    ensures { result ≡ lex.begins_folded wanted.now cursor.now }
+{
+    let mut ahead = cursor.fork();
+    for code in wanted {
+        let Some(place) = ahead.peek() else {
+            return false;
+        };
+        if place.character.to_ascii_lowercase() as u32 != u32::from(*code) {
+            return false;
+        }
+        ahead.bump();
+    }
+    true
+}
+
+/// What stands behind the next characters, so many of them.
+pub fn past<'a>(cursor: &Cursor<'a>, count: usize) -> Cursor<'a>
+    ensures { result ≡ drop count cursor.now }
+{
+    let mut ahead = cursor.fork();
+    for _ in 0..count {
+        ahead.bump();
+    }
+    ahead
 }

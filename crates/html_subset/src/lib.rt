@@ -7,3 +7,5 @@ mod characters;
 mod cursor;
 mod fault;
 mod names;
+mod references;
+mod values;
