@@ -1,2 +1,6 @@
 pub mod PlaceLemmas
 pub mod TextLemmas
+pub mod ValueLoop
+pub mod AttributeLoop
+pub mod PieceLemmas
+pub mod StackLemmas

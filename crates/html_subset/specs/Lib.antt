@@ -1,2 +1,4 @@
 pub mod Classes
 pub mod Gives
+pub mod Stack
+pub mod Building
