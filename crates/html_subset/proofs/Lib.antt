@@ -4,3 +4,4 @@ pub mod ValueLoop
 pub mod AttributeLoop
 pub mod PieceLemmas
 pub mod StackLemmas
+pub mod ReadLoop

@@ -1,9 +1,12 @@
 -- A stack, its innermost element and the rest.
-use Rattle.std.proofs.Common.{◌≡◌, ℕ, suc, ◌+◌, ◌-◌, ◌≤◌, ◌<◌, List, [], ◌∷◌, ◌++◌, length, take, get_or, Option, Some, None, Bool, true, false, Result, Ok, Err, refl, sym, ap, ◌∙◌, arith}
-use Rattle.std.specs.Prelude.{reverse, IsSome, codes}
+use Rattle.std.proofs.Common.{◌≡◌, ℕ, suc, ◌+◌, ◌-◌, ◌≤◌, ◌<◌, List, [], ◌∷◌, ◌++◌, length, take, get_or, Option, Some, None, Bool, true, false, Result, Ok, Err, refl, sym, ap, subst, ◌∙◌, arith}
+use Rattle.std.specs.Prelude.{reverse, IsSome}
 use Rattle.std.specs.Option.{option_to_list}
 use Rattle.std.proofs.lemmas.List.{take_more, take_all, reverse-append, length-reverse}
 use Rattle.html_grammar.specs.declared.stage.Open.{Open}
+use Rattle.html_grammar.specs.declared.token.Fault.{Fault}
+use Rattle.html_subset.specs.declared.fault.ReadError.{ReadError}
+use Rattle.html_subset.specs.Gives.{Gives}
 use Rattle.html_grammar.specs.Names.{same, omits, closes}
 use Rattle.html_grammar.specs.Tokens.{fault}
 use Rattle.html_grammar.specs.Machine.{without, drop_closed, all_omit, innermost}
@@ -39,14 +42,11 @@ pub passed_on_top : (at : ℕ) (m : List ℕ) (html : Bool) (xs ys : List Open) 
 passed_on_top at m html xs ys o top is may = rw (top, is, may) refl
 
 -- at the bottom stands html
-pub html_at_bottom : (at : ℕ) (m : List ℕ) (html : Bool) (xs ys : List Open) → length xs ≡ 0 → length ys ≡ 0 → html ≡ true → same m (codes "html") ≡ true → without at m html (stack_of xs) ≡ Ok (stack_of ys, false)
-html_at_bottom at m html xs ys h k open is = rw (stack_none xs h, stack_none ys k, open, is) refl
-
-pub closed_at_bottom : (at : ℕ) (m : List ℕ) (html : Bool) (xs : List Open) → length xs ≡ 0 → html ≡ false → without at m html (stack_of xs) ≡ fault at 6
-closed_at_bottom at m html xs h shut = rw (stack_none xs h, shut) refl
-
-pub other_at_bottom : (at : ℕ) (m : List ℕ) (html : Bool) (xs : List Open) → length xs ≡ 0 → html ≡ true → same m (codes "html") ≡ false → without at m html (stack_of xs) ≡ fault at 6
-other_at_bottom at m html xs h open isnt = rw (stack_none xs h, open, isnt) refl
+pub at_bottom_gives : (r : Result Bool ReadError) (at : ℕ) (m : List ℕ) (html : Bool) (xs ys : List Open) (total : Result (List Open × Bool) Fault) → length xs ≡ 0 → length ys ≡ 0
+    → without at m html (stack_of xs) ≡ total → Gives (λ left. ([], left)) r (without at m html []) → Gives (λ left. (stack_of ys, left)) r total
+at_bottom_gives r at m html xs ys total h k so_far gives =
+    let e : without at m html [] ≡ total = ap (without at m html) (sym (stack_none xs h)) ∙ so_far in
+    subst (λ (os : List Open). Gives (λ left. (os, left)) r total) (sym (stack_none ys k)) (subst (λ (f : Result (List Open × Bool) Fault). Gives (λ left. ([], left)) r f) e gives)
 
 -- a stack on whose top something is closed is not empty, and the closing goes on below it
 abbrev Drops : List ℕ → List Open → List Open → Type 0

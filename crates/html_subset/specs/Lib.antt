@@ -2,3 +2,4 @@ pub mod Classes
 pub mod Gives
 pub mod Stack
 pub mod Building
+pub mod Turn

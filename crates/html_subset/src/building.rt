@@ -104,8 +104,7 @@ impl Builder {
                 rule: 8,
             }));
         }
-        let depth = self.opens.len() + 2;
-        self.deepest = self.deepest.max(depth);
+        self.deepest = self.deepest.max(self.opens.depth());
         let number = self.nodes.len() as u32;
         self.opens.open(alloc, number, tag.name.as_slice())?;
         push_tag(&mut self.nodes, Some(parent), tag)?;
@@ -127,8 +126,7 @@ impl Builder {
                 rule: 8,
             }));
         };
-        let depth = self.opens.len() + 2;
-        self.deepest = self.deepest.max(depth);
+        self.deepest = self.deepest.max(self.opens.depth());
         push_raw(&mut self.nodes, Some(parent), tag, text)?;
         Ok(())
     }

@@ -15,3 +15,7 @@ mod stack;
 mod building;
 mod facts;
 mod nodes;
+mod reading;
+
+pub use html_grammar::{Attribute, Dom, DomNode, NodeId, NodeKind};
+pub use reading::parse;

@@ -1,6 +1,6 @@
 //! The elements whose end is still to come.
 
-ghost use Rattle.std.specs.Prelude.{◌≡◌, OnOk};
+ghost use Rattle.std.specs.Prelude.{◌≡◌, ◌+◌, [], length};
 ghost use Rattle.html_grammar.specs.Machine as machine;
 ghost use Rattle.html_subset.specs.Gives.{Gives};
 ghost use Rattle.html_subset.specs.Stack.{stack_of, closed_on_top};
@@ -49,12 +49,32 @@ fn number_of_last(opens: &[Open]) -> Option<u32>
     Some(opens[count - 1].number)
 }
 
+/// How deep an element in the innermost stands, where the body stands in `html`.
+fn depth_in(opens: &[Open]) -> usize
+    ensures { result ≡ length (stack_of opens.now) + 2 }
+{
+    opens.len() + 2
+}
+
 fn close_closed(opens: &mut Vec<Open>, name: &[u8])
     ensures { stack_of opens.new.items ≡ machine.drop_closed name.now (stack_of opens.old.items) }
 {
     while is_closed_by(opens, name) {
         let _ = opens.pop();
     }
+}
+
+/// Closes `html` where it is the outermost that is open.
+fn at_bottom(at: u64, name: &[u8], html: bool) -> Result<bool, ReadError>
+    ensures { Gives (λ left. ([], left)) result (machine.without at name.now html []) }
+{
+    if !html {
+        return Err(ReadError::Fault(Fault { at, rule: 6 }));
+    }
+    if !names::same(name, b"html") {
+        return Err(ReadError::Fault(Fault { at, rule: 6 }));
+    }
+    Ok(false)
 }
 
 /// Closes up to the innermost element of this name, `html` as the outermost. Answers whether `html` stays open.
@@ -74,10 +94,7 @@ fn close_up_to(
             return Err(ReadError::Fault(Fault { at, rule: 6 }));
         }
     }
-    if html && names::same(name, b"html") {
-        return Ok(false);
-    }
-    Err(ReadError::Fault(Fault { at, rule: 6 }))
+    at_bottom(at, name, html)
 }
 
 /// Whether each may end where the text ends.
@@ -93,7 +110,7 @@ fn all_may_end(opens: &mut Vec<Open>) -> bool
 }
 
 impl Stack {
-    ghost use Rattle.std.specs.Prelude.{◌≡◌, ◌<◌, ◌^◌, ◌∷◌, [], length, codes, IfOk, OnOk, if◌then◌else◌};
+    ghost use Rattle.std.specs.Prelude.{◌≡◌, ◌+◌, ◌∷◌, [], length, codes, IfOk, OnOk, if◌then◌else◌};
     ghost use Rattle.html_grammar.specs.Names as names;
     ghost use Rattle.html_grammar.specs.Machine as machine;
     ghost use Rattle.html_subset.specs.Gives.{Gives};
@@ -107,12 +124,11 @@ impl Stack {
         }
     }
 
-    /// How many elements are open.
-    pub fn len(&self) -> usize
-        ensures count { result ≡ length self.now }
-        ensures bound { result < 2 ^ 60 }
+    /// How deep an element in the innermost stands, where the body stands in `html`.
+    pub fn depth(&self) -> usize
+        ensures { result ≡ length self.now + 2 }
     {
-        self.opens.len()
+        depth_in(&self.opens)
     }
 
     /// Opens an element.

@@ -7,4 +7,4 @@ pub returns-then-count-eq0 : goal.returns-then-count-eq0
 returns-then-count-eq0 c = rw (stack_none c.args.opens.now c.if-count-eq0.true) refl
 
 pub returns : goal.returns
-returns c = rw (stack_top c.args.opens.now (length c.args.opens.now) c.index-opens-count.result refl (omega arith)) (c.closes.ensures ∙ rw c.deref.ensures.value refl)
+returns c = rw (stack_top c.args.opens.now (length c.args.opens.now) c.index-opens-count.result refl (omega arith)) c.closes.ensures
