@@ -5,3 +5,4 @@ pub mod AttributeLoop
 pub mod PieceLemmas
 pub mod StackLemmas
 pub mod ReadLoop
+pub mod ByteLemmas

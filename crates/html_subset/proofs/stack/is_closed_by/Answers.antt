@@ -1,4 +1,6 @@
 use Rattle.std.proofs.Common.{◌≡◌, ◌∷◌, [], refl, sym, ap, ◌∙◌, arith, Option, Some, None, length, vec_len, ◌-◌, take}
+use Rattle.html_grammar.specs.declared.stage.Open.{Open}
+use Rattle.html_grammar.specs.Names.{closes}
 use Rattle.html_subset.specs.Stack.{stack_of, closed_on_top}
 use Rattle.html_subset.proofs.StackLemmas.{stack_push, stack_top, stack_none}
 use Rattle.html_subset.proofs.stack.is_closed_by.Goals as goal
@@ -7,4 +9,7 @@ pub returns-then-count-eq0 : goal.returns-then-count-eq0
 returns-then-count-eq0 c = rw (stack_none c.args.opens.now c.if-count-eq0.true) refl
 
 pub returns : goal.returns
-returns c = rw (stack_top c.args.opens.now (length c.args.opens.now) c.index-opens-count.result refl (omega arith)) c.closes.ensures
+returns c =
+    let below = stack_of (take (length c.args.opens.now - 1) c.args.opens.now) in
+    let top : stack_of c.args.opens.now ≡ c.index-opens-count.result ∷ below = stack_top c.args.opens.now (length c.args.opens.now) c.index-opens-count.result refl (omega arith) ∙ ap (λ (o : Open). o ∷ below) (sym c.index-opens-count.is) in
+    rw top (c.closes.ensures ∙ ap (closes c.args.name.now) c.as_slice.ensures)
