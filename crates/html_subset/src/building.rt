@@ -4,8 +4,10 @@ ghost use Rattle.std.specs.Prelude.{◌≡◌, IfOk};
 ghost use Rattle.html_grammar.specs.Machine as machine;
 
 use crate::characters::push;
+use crate::facts::{
+    attributes_of, is_blank, is_doctype, is_end, is_head_element, is_start, is_white, place_of,
+};
 use crate::fault::ReadError;
-use crate::facts::{attributes_of, is_blank, is_doctype, is_end, is_head_element, is_start, is_white, place_of};
 use crate::names;
 use crate::nodes::{push_head_element, push_outer, push_raw, push_tag, push_words};
 use crate::stack::Stack;
@@ -33,7 +35,12 @@ pub struct Finished {
 }
 
 /// The text that goes on with one more character.
-fn spoken(alloc: Global, words: Option<Piece>, at: u64, character: char) -> Result<Piece, AllocError>
+fn spoken(
+    alloc: Global,
+    words: Option<Piece>,
+    at: u64,
+    character: char,
+) -> Result<Piece, AllocError>
     ensures { IfOk result (λ p. p ≡ machine.spoken words at character) }
 {
     match words {
@@ -189,7 +196,12 @@ impl Builder {
         }
     }
 
-    fn begin_html(&mut self, alloc: Global, at: u64, attributes: List<Attribute>) -> Result<(), AllocError>
+    fn begin_html(
+        &mut self,
+        alloc: Global,
+        at: u64,
+        attributes: List<Attribute>,
+    ) -> Result<(), AllocError>
         ensures state { OnOk result (state_of self.new ≡ machine.begin_html (state_of self.old) at attributes) }
         ensures few { OnOk result (length self.new.nodes.items ≤ length self.old.nodes.items + 1) }
     {
@@ -200,7 +212,12 @@ impl Builder {
         Ok(())
     }
 
-    fn begin_head(&mut self, alloc: Global, at: u64, attributes: List<Attribute>) -> Result<(), AllocError>
+    fn begin_head(
+        &mut self,
+        alloc: Global,
+        at: u64,
+        attributes: List<Attribute>,
+    ) -> Result<(), AllocError>
         ensures state { OnOk result (state_of self.new ≡ machine.begin_head (state_of self.old) at attributes) }
         ensures few { OnOk result (length self.new.nodes.items ≤ length self.old.nodes.items + 1) }
     {
@@ -218,7 +235,12 @@ impl Builder {
         self.stage = Stage::BehindHead;
     }
 
-    fn begin_body(&mut self, alloc: Global, at: u64, attributes: List<Attribute>) -> Result<(), AllocError>
+    fn begin_body(
+        &mut self,
+        alloc: Global,
+        at: u64,
+        attributes: List<Attribute>,
+    ) -> Result<(), AllocError>
         requires { length self.old.nodes.items < 2 ^ 32 }
         ensures state { OnOk result (state_of self.new ≡ machine.begin_body (state_of self.old) at attributes) }
         ensures few { OnOk result (length self.new.nodes.items ≤ length self.old.nodes.items + 1) }

@@ -131,8 +131,7 @@ pub fn closes(tag: &[u8], name: &[u8]) -> bool
     ensures { result ≡ grammar.closes tag.now name.now }
 {
     (same(name, b"p") && (is_block(tag) || is_list_part(tag)))
-        || ((same(name, b"li") && same(tag, b"li"))
-            || (is_definition(name) && is_definition(tag)))
+        || ((same(name, b"li") && same(tag, b"li")) || (is_definition(name) && is_definition(tag)))
 }
 
 /// Elements that this profile names and doesn't lay out.

@@ -164,11 +164,7 @@ fn raw_ended<'a>(
 
 /// The content and the end tag of a raw element behind its start tag.
 #[tactic(auto, unfolding(html_grammar::specs::Lexing::raw_at))]
-fn raw_at<'a>(
-    alloc: Global,
-    tag: Tag,
-    rest: Cursor<'a>,
-) -> Result<(Token, Cursor<'a>), ReadError>
+fn raw_at<'a>(alloc: Global, tag: Tag, rest: Cursor<'a>) -> Result<(Token, Cursor<'a>), ReadError>
     ensures { Gives (λ x. (x.0, x.1)) result (lex.raw_at tag rest.entry) }
 {
     let mut rest = rest;

@@ -52,7 +52,11 @@ fn by_meaning(value: Value, at: u64, meaning: Meaning) -> Result<Value, AllocErr
         Meaning::Plain => with_char(value, '&'),
         Meaning::Unknown => {
             let unknown = first_of(value.unknown, at);
-            let Value { text, unknown: _, bad } = with_char(value, '&')?;
+            let Value {
+                text,
+                unknown: _,
+                bad,
+            } = with_char(value, '&')?;
             Ok(Value { text, unknown, bad })
         }
         Meaning::Bad => {
