@@ -5,11 +5,13 @@
 #![tactic(auto)]
 
 mod dom;
+mod laws;
 mod place;
 mod stage;
 mod token;
 
 pub use dom::{Attribute, Dom, DomNode, NodeId, NodeKind};
+pub use laws::{documents_are_read, one_tree, the_fault_is_the_first, what_is_read_is_a_document};
 pub use place::Place;
 pub use stage::{Open, Stage};
 pub use token::{Fault, Meaning, Piece, ReadAttribute, ReadAttributes, Spelled, Tag, Token, Value};

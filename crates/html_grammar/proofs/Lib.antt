@@ -1,0 +1,16 @@
+mod Steps
+mod Complete
+mod Stages
+mod Heads
+mod Whole
+mod Unique
+mod Sound
+mod First
+mod Spans
+mod ReferenceForms
+mod ValueForms
+mod AttributeForms
+mod AttributeRead
+mod TokenBack
+mod TokenRead
+mod Lexed

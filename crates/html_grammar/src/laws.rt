@@ -1,0 +1,28 @@
+ghost use Rattle.html_grammar.specs.Laws as laws;
+
+/// Every document is read, and gives the nodes of its tree in preorder and its depth.
+pub fn documents_are_read()
+    ensures { laws.DocumentsAreRead }
+{
+}
+
+/// Whatever is read is a document, and what it gives is its tree.
+#[tactic(auto, using(crate::proofs::Sound::tree_of))]
+pub fn what_is_read_is_a_document()
+    ensures { laws.WhatIsReadIsADocument }
+{
+}
+
+/// Tokens have at most one tree.
+pub fn one_tree()
+    ensures { laws.OneTree }
+{
+}
+
+/// The fault that is reported is the first: at a token that no document has behind those before it, or at the end of
+/// a text that some document begins with and that isn't one.
+#[tactic(auto, using(crate::proofs::First::first_fault))]
+pub fn the_fault_is_the_first()
+    ensures { laws.TheFaultIsTheFirst }
+{
+}
