@@ -6,3 +6,4 @@ pub mod PieceLemmas
 pub mod StackLemmas
 pub mod ReadLoop
 pub mod ByteLemmas
+pub mod DoubledLemmas

@@ -7,11 +7,11 @@ ghost use Rattle.html_subset.specs.Gives.{Gives};
 use crate::characters::{Class, begins, begins_with, key, offset, skip, tag_name};
 use crate::cursor::Cursor;
 use crate::fault::ReadError;
-use crate::names::same;
 use crate::values::assigned_at;
 use html_grammar::{Attribute, Fault, ReadAttribute, ReadAttributes, Token};
 use mc_base::List;
 use std::alloc::{AllocError, Global};
+use std::collections::BTreeMap;
 
 /// An attribute, in a tag that begins at a byte.
 #[tactic(auto, unfolding(html_grammar::specs::Lexing::attribute_at))]
@@ -121,29 +121,18 @@ pub fn attributes<'a>(
     Err(ReadError::Fault(Fault { at: tag, rule: 3 }))
 }
 
-fn is_named(attributes: &[Attribute], name: &[u8]) -> bool
-    ensures { result ≡ lex.is_named name.now attributes.now }
-{
-    for attribute in attributes {
-        if same(name, attribute.name.as_slice()) {
-            return true;
-        }
-    }
-    false
-}
-
 /// Whether a name stands twice.
-pub fn is_doubled(attributes: &[Attribute]) -> bool
-    ensures { result ≡ lex.is_doubled attributes.now }
+pub fn is_doubled(alloc: Global, attributes: &[Attribute]) -> Result<bool, AllocError>
+    ensures { IfOk result (λ twice. twice ≡ lex.is_doubled attributes.now) }
 {
-    let mut rest = attributes;
-    while let [first, others @ ..] = rest {
-        if is_named(others, first.name.as_slice()) {
-            return true;
+    let mut seen: BTreeMap<&[u8], ()> = BTreeMap::new(alloc);
+    for attribute in attributes {
+        let before = seen.insert(attribute.name.as_slice(), ())?;
+        if before.is_some() {
+            return Ok(true);
         }
-        rest = others;
     }
-    false
+    Ok(false)
 }
 
 /// An end tag behind its `</`.

@@ -226,7 +226,7 @@ fn start_at<'a>(
     let mut rest = rest;
     let name = tag_name(alloc, &mut rest)?;
     let (read, behind) = attributes(alloc, size, at, rest)?;
-    if is_doubled(read.all.as_slice()) {
+    if is_doubled(alloc, read.all.as_slice())? {
         return Err(ReadError::Fault(Fault { at, rule: 4 }));
     }
     let ReadAttributes { all, unknown, bad } = read;
