@@ -1,0 +1,12 @@
+pub mod Atoms
+pub mod ClonedEdges
+pub mod Column
+pub mod Counts
+pub mod Flows
+pub mod RowHeights
+pub mod Rows
+pub mod Plain
+pub mod Reading
+pub mod Soundness
+pub mod Strip
+pub mod Tokens

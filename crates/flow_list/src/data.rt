@@ -118,3 +118,11 @@ pub enum Bound {
     Each(Units),
     Left(Units),
 }
+
+/// A row that was laid out: its height and the items at which its columns end, in order.
+#[derive(Drop)]
+pub struct FlatRow {
+    pub row: u32,
+    pub height: Units,
+    pub ends: List<u32>,
+}

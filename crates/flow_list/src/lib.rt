@@ -5,5 +5,17 @@
 #![tactic(auto)]
 
 mod data;
+mod flows;
+mod plain;
+mod read;
+mod tally;
 
-pub use data::{AtomKind, Bound, BoxInfo, Edge, Flow, FlowsData, Item, RowInfo, Seam, Stack};
+pub use data::{
+    AtomKind, Bound, BoxInfo, Edge, FlatRow, Flow, FlowsData, Item, RowInfo, Seam, Stack,
+};
+pub use flows::{
+    FlowCounts, Flows, box_at, flow_counts, item_at, item_count, opened_in, row_at, seam_at,
+    stack_at,
+};
+pub use read::read_flow;
+pub use tally::{Counts, Tally};

@@ -1,1 +1,3 @@
 pub mod PlainTree
+pub mod Outside
+pub mod Memory

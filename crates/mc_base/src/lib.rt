@@ -4,14 +4,21 @@
 //! its bytes, and that reading and writing answer a fault only where a count of faults rose.
 #![tactic(auto)]
 
+mod disk;
 mod level;
 mod list;
+mod memory;
+mod noted;
+mod outside;
 mod refusal;
 mod text;
 mod units;
 
+pub use disk::{DiskFiles, StdSink};
 pub use level::Level;
 pub use list::List;
+pub use memory::{HeldFile, MemoryFiles, MemorySink, SinkFail};
+pub use outside::{FileFault, Files, Sink, SinkFailed};
 pub use refusal::{ConstructName, Found, Input, LimitName, NoMemory, Refusal, Rule};
 pub use text::Text;
 pub use units::{Rect, Units};

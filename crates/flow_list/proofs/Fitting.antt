@@ -1,0 +1,270 @@
+-- A height that fits exists: at the whole reach of a flow only forced breaks remain. So the size is the least height that
+-- fits.
+use Rattle.std.proofs.Common.{◌≡◌, ℕ, zero, suc, ◌+◌, ◌-◌, ◌<◌, ◌≤◌, Bool, true, false, cond, not, ◌||◌, List, [], ◌∷◌, ◌++◌, length, take, drop, get_or, None, refl, sym, ◌∙◌, ap, arith, sum_by, add-one, ◌⊎◌, inl, inr}
+use Rattle.std.specs.Prelude.{filter, count_by, ◌==◌}
+use Rattle.std.specs.List.{flat_map}
+use Rattle.std.proofs.lemmas.Bool.{le-ltb, cases_lt}
+use Rattle.std.proofs.lemmas.Bool.Decides.{nat_tests}
+use Rattle.std.proofs.lemmas.List.{drop-drop, get_or-drop}
+use Rattle.std.proofs.lemmas.List.Sums.{sum_by-cons, sum_by-append}
+use Rattle.std.proofs.lemmas.List.Filters.{sum_by-filter_both}
+use Rattle.flow_list.specs.declared.data.Item.{Item}
+use Rattle.flow_list.specs.declared.data.Seam.{Seam}
+use Rattle.flow_list.specs.declared.data.Flow.{Flow}
+use Rattle.flow_list.specs.declared.data.FlowsData.{FlowsData}
+use Rattle.flow_list.specs.Flows.{item_of, seam_of, box_of, row_of, flow_in, no_item, no_seam, amount, started, starts_in, ended, is_among, ends_in, open_at, boxes_in}
+use Rattle.flow_list.specs.Strip.{Strip, strip_at, put, lay_all}
+use Rattle.flow_list.specs.Tokens.{Token, row_start, item_number, within, is_end}
+use Rattle.flow_list.specs.ClonedEdges.{open_across, tops, bottoms}
+use Rattle.flow_list.specs.Column.{is_forced, Column, Inner, Step, Place, cut, step_at, steps, strip_behind, start_strip, steps_from, height_of, last_place, no_place, unstopped, column, column_over, column_to, avoids_at, endless_column}
+use Rattle.flow_list.specs.Rows.{columns_by, columns, fails, reach_end, forced_above, most_columns, fits, heights_from, amounts_in, reach, size_in}
+use Rattle.flow_list.proofs.StripBounds.{put_le, lay_all_le}
+use Rattle.flow_list.proofs.Walk.{behind}
+use Rattle.flow_list.proofs.LeastHeight.{IsLeast, least-is}
+
+-- ---- what is open in a flow has no more cloned edges than all its boxes
+
+filter-le : (g : ℕ → ℕ) (p : ℕ → Bool) (xs : List ℕ) → sum_by g (filter p xs) ≤ sum_by g xs
+filter-le g p xs = omega (arith, sum_by-filter_both p (λ x. not (p x)) (λ x. refl) g xs)
+
+pub starts-take : (g : ℕ → ℕ) (n : ℕ) (seams : List Seam) → sum_by g (starts_in (take n seams)) ≤ sum_by g (starts_in seams)
+starts-take g zero seams = omega arith
+starts-take g (suc n) [] = omega arith
+starts-take g (suc n) (s ∷ ss) = omega (arith, starts-take g n ss, sum_by-append g (flat_map started s.head) (starts_in (take n ss)), sum_by-append g (flat_map started s.head) (starts_in ss))
+
+open_at-le : (g : ℕ → ℕ) (f : Flow) (k : ℕ) → sum_by g (open_at f k) ≤ sum_by g (boxes_in f)
+open_at-le g f k =
+    let seams : List Seam = take (k + 1) f.seams in
+    omega (arith, filter-le g (λ b. not (is_among (ends_in seams) b)) (f.opened ++ starts_in seams), starts-take g (k + 1) f.seams, sum_by-append g f.opened (starts_in seams), sum_by-append g f.opened (starts_in f.seams))
+
+open_across-le : (g : ℕ → ℕ) (f : Flow) (k : ℕ) → sum_by g (open_across f k) ≤ sum_by g (boxes_in f)
+open_across-le g f zero = omega (arith, sum_by-append g f.opened (starts_in f.seams))
+open_across-le g f (suc k) = omega (arith, filter-le g (λ b. not (is_among (flat_map ended (seam_of f (suc k)).tail) b)) (open_at f k), open_at-le g f k)
+
+-- ---- the reach
+
+-- each of these items needs no more than this
+pub AllNeed : ℕ → List Step → Type 0
+AllNeed h [] = Unit {0}
+AllNeed h (s ∷ ss) = (s.need ≤ h) × AllNeed h ss
+
+pub first-height : (inner : Inner) (q : Token) (items : List Item) (k : ℕ) → heights_from inner q (drop k items) ≡ height_of inner (get_or items k no_item) q + heights_from inner row_start (drop (k + 1) items)
+first-height inner q [] k = nil k
+  where
+    nil : (k : ℕ) → heights_from inner q (drop k []) ≡ height_of inner (get_or [] k no_item) q + heights_from inner row_start (drop (k + 1) [])
+    nil zero = refl
+    nil (suc k) = rw add-one refl
+first-height inner q (x ∷ xs) zero = refl
+first-height inner q (x ∷ xs) (suc k) = rw add-one (rw add-one at (first-height inner q xs k))
+
+seam_total : Seam → ℕ
+seam_total s = sum_by amount s.tail + sum_by amount s.head
+
+pub first-amounts : (seams : List Seam) (k : ℕ) → amounts_in (drop k seams) ≡ sum_by amount (get_or seams k no_seam).tail + sum_by amount (get_or seams k no_seam).head + amounts_in (drop (k + 1) seams)
+first-amounts [] k = nil k
+  where
+    nil : (k : ℕ) → amounts_in (drop k []) ≡ sum_by amount (get_or [] k no_seam).tail + sum_by amount (get_or [] k no_seam).head + amounts_in (drop (k + 1) [])
+    nil zero = refl
+    nil (suc k) = rw add-one refl
+first-amounts (s ∷ ss) zero = sum_by-cons (λ (s : Seam). sum_by amount s.tail + sum_by amount s.head) s ss
+first-amounts (s ∷ ss) (suc k) = rw add-one (rw add-one at (first-amounts ss k))
+
+amounts-drop : (seams : List Seam) (k : ℕ) → amounts_in (drop k seams) ≤ amounts_in seams
+amounts-drop seams zero = omega arith
+amounts-drop [] (suc k) = omega arith
+amounts-drop (s ∷ ss) (suc k) = omega (arith, amounts-drop ss k, sum_by-cons (λ (s : Seam). sum_by amount s.tail + sum_by amount s.head) s ss)
+
+pub steps-need : (inner : Inner) (d : FlowsData) (f : Flow) (s : Strip) (k : ℕ) (q : Token) (n h : ℕ) →
+    s.y + s.pending + heights_from inner q (drop k f.items) + amounts_in (drop (k + 1) f.seams) + bottoms d (boxes_in f) ≤ h → AllNeed h (steps inner d f s k q n)
+unfolding steps AllNeed
+steps-need inner d f s k q zero h b = tt
+steps-need inner d f s k q (suc n) h b =
+    let i = first-height inner q f.items k in
+    let e = first-amounts f.seams (k + 1) in
+    let a = put_le s (height_of inner (item_of f k) q) in
+    let c = lay_all_le (put s (height_of inner (item_of f k) q)) (seam_of f (k + 1)).tail in
+    let m = lay_all_le (strip_behind inner f s k q) (seam_of f (k + 1)).head in
+    let t = open_across-le (λ b. (box_of d b).bottom) f (k + 1) in
+    (omega arith, go (is_forced (seam_of f (k + 1)).level) (steps-need inner d f (lay_all (strip_behind inner f s k q) (seam_of f (k + 1)).head) (k + 1) row_start n h (omega arith)))
+  where
+    more : List Step
+    more = steps inner d f (lay_all (strip_behind inner f s k q) (seam_of f (k + 1)).head) (k + 1) row_start n
+
+    go : (x : Bool) → AllNeed h more → AllNeed h (elim x [ true ↦ [] | false ↦ more ])
+    go true r = tt
+    go false r = r
+
+no-stop : (h : ℕ) (ss : List Step) → AllNeed h ss → cut h ss ≡ record { before = ss; stop = None }
+unfolding AllNeed
+no-stop h [] a = refl
+no-stop h (s ∷ ss) a = rw (le-ltb h s.need a.0, no-stop h ss a.1) refl
+
+column_over-ends : (inner : Inner) (avoids : ℕ → Bool) (h : ℕ) (ss : List Step) → AllNeed h ss → column_over inner avoids h ss ≡ unstopped ss
+column_over-ends inner avoids h ss a = rw (no-stop h ss a) refl
+
+strip-start : (d : FlowsData) (f : Flow) (t : Token) → (start_strip d f t).y + (start_strip d f t).pending ≤ tops d (boxes_in f) + sum_by amount (seam_of f (item_number t)).head
+strip-start d f [] = omega arith
+strip-start d f (i ∷ []) = omega (arith, lay_all_le (strip_at (tops d (open_across f i)) (not (i == 0 || is_forced (seam_of f i).level))) (seam_of f i).head, open_across-le (λ b. (box_of d b).top) f i)
+strip-start d f (i ∷ (j ∷ rest)) = omega (arith, open_at-le (λ b. (box_of d b).top) f i)
+
+pub all-need : (inner : Inner) (d : FlowsData) (f : Flow) (t : Token) (h : ℕ) → reach inner d f t ≤ h → AllNeed h (steps_from inner d f t)
+all-need inner d f t h b =
+    let a = strip-start d f t in
+    let e = first-amounts f.seams (item_number t) in
+    let g = amounts-drop f.seams (item_number t) in
+    steps-need inner d f (start_strip d f t) (item_number t) (within t) (length f.items - item_number t) h (omega arith)
+
+-- a column with room for the whole reach is the one without end
+pub reach-endless : (inner : Inner) (d : FlowsData) (f : Flow) (t : Token) (h : ℕ) → reach inner d f t ≤ h → column inner d f t h ≡ endless_column inner d f t
+unfolding column endless_column
+reach-endless inner d f t h b = column_over-ends inner (avoids_at d f) h (steps_from inner d f t) (all-need inner d f t h b)
+
+-- ---- where such a column ends
+
+abbrev is_forced_seam : Seam → Bool
+is_forced_seam s = is_forced s.level
+
+abbrev forced_in : ℕ → List Seam → ℕ
+forced_in n seams = count_by is_forced_seam (take n seams)
+
+forced_in-yes : (n : ℕ) (seams : List Seam) → is_forced (get_or seams 0 no_seam).level ≡ true → forced_in (suc n) seams ≡ 1 + forced_in n (drop 1 seams)
+forced_in-yes n [] h = cc
+forced_in-yes n (s ∷ ss) h = sum_by-cons (λ x. cond (is_forced_seam x) 1 0) s (take n ss) ∙ rw h refl
+
+forced_in-drop : (n : ℕ) (seams : List Seam) → forced_in n (drop 1 seams) ≤ forced_in (suc n) seams
+forced_in-drop zero [] = omega arith
+forced_in-drop (suc n) [] = omega arith
+forced_in-drop n (s ∷ ss) = omega (arith, sum_by-cons (λ x. cond (is_forced_seam x) 1 0) s (take n ss))
+
+drop-one : (k : ℕ) (seams : List Seam) → drop 1 (drop (k + 1) seams) ≡ drop (k + 1 + 1) seams
+drop-one k seams = drop-drop 1 (k + 1) seams
+
+first-drop : (k : ℕ) (seams : List Seam) → get_or (drop k seams) 0 no_seam ≡ get_or seams k no_seam
+first-drop k seams = get_or-drop k seams 0 no_seam ∙ ap (λ i. get_or seams i no_seam) (omega arith)
+
+pub forced_above-one : (f : Flow) (k : ℕ) → k + 1 < length f.items → is_forced (seam_of f (k + 1)).level ≡ true → forced_above f k ≡ 1 + forced_above f (k + 1)
+forced_above-one f k lt h =
+    let n : length f.items - k - 1 ≡ suc (length f.items - (k + 1) - 1) = omega arith in
+    ap (λ m. forced_in m (drop (k + 1) f.seams)) n ∙ forced_in-yes (length f.items - (k + 1) - 1) (drop (k + 1) f.seams) (rw (first-drop (k + 1) f.seams) h)
+    ∙ ap (λ seams. 1 + forced_in (length f.items - (k + 1) - 1) seams) (drop-one k f.seams)
+
+pub forced_above-falls : (f : Flow) (k : ℕ) → forced_above f (k + 1) ≤ forced_above f k
+forced_above-falls f k = go (cases_lt (k + 1) (length f.items))
+  where
+    go : (k + 1 < length f.items) ⊎ (length f.items ≤ k + 1) → forced_above f (k + 1) ≤ forced_above f k
+    go (inl lt) =
+        let n : length f.items - k - 1 ≡ suc (length f.items - (k + 1) - 1) = omega arith in
+        rw n (rw (drop-one k f.seams) at (forced_in-drop (length f.items - (k + 1) - 1) (drop (k + 1) f.seams)))
+    go (inr le) = let n : length f.items - (k + 1) - 1 ≡ 0 = omega arith in rw n (omega arith)
+
+abbrev place_to : ℕ → ℕ → Place
+place_to e extent = record { level = 0; end = e ∷ []; extent = extent; overflow = false }
+
+-- these items from item k on end behind item e - 1, at the end or at a forced seam
+record Ends (f : Flow) (k e : ℕ) (ss : List Step) : Type 0 where
+  place : (p : Place) → last_place p ss ≡ place_to e (last_place p ss).extent
+  later : k < e
+  inside : e ≤ length f.items
+  rest : (e ≡ length f.items) ⊎ (forced_above f e < forced_above f k)
+
+steps-end : (inner : Inner) (d : FlowsData) (f : Flow) (s : Strip) (k : ℕ) (q : Token) (n : ℕ) → k + suc n ≡ length f.items → (e : ℕ) × Ends f k e (steps inner d f s k q (suc n))
+unfolding steps
+steps-end inner d f s k q zero is = go (is_forced (seam_of f (k + 1)).level)
+  where
+    go : (b : Bool) → (e : ℕ) × Ends f k e (step_at inner d f s k q ∷ elim b [ true ↦ [] | false ↦ [] ])
+    go true = (k + 1, record { place = λ p. refl; later = omega arith; inside = omega arith; rest = inl (omega arith) })
+    go false = (k + 1, record { place = λ p. refl; later = omega arith; inside = omega arith; rest = inl (omega arith) })
+steps-end inner d f s k q (suc n) is = go (is_forced (seam_of f (k + 1)).level) refl (steps-end inner d f (lay_all (strip_behind inner f s k q) (seam_of f (k + 1)).head) (k + 1) row_start n (omega arith))
+  where
+    more : List Step
+    more = steps inner d f (lay_all (strip_behind inner f s k q) (seam_of f (k + 1)).head) (k + 1) row_start (suc n)
+
+    go : (b : Bool) → is_forced (seam_of f (k + 1)).level ≡ b → ((e : ℕ) × Ends f (k + 1) e more) → (e : ℕ) × Ends f k e (step_at inner d f s k q ∷ elim b [ true ↦ [] | false ↦ more ])
+    go true h r = let one = forced_above-one f k (omega arith) h in (k + 1, record { place = λ p. refl; later = omega arith; inside = omega arith; rest = inr (omega arith) })
+    go false h (e, r) = (e, record { place = λ p. r.place (behind (step_at inner d f s k q)); later = let l = r.later in omega arith; inside = r.inside; rest = next r.rest })
+      where
+        next : (e ≡ length f.items) ⊎ (forced_above f e < forced_above f (k + 1)) → (e ≡ length f.items) ⊎ (forced_above f e < forced_above f k)
+        next (inl x) = inl x
+        next (inr x) = let m = forced_above-falls f k in inr (omega arith)
+
+-- ---- columns, one at a time
+
+pub reach_end-past : (make : Token → Column) (f : Flow) (n : ℕ) (t : Token) → is_end f t ≡ true → reach_end f t (columns_by make f n t) ≡ true
+unfolding columns_by
+reach_end-past make f zero t e = rw e refl
+reach_end-past make f (suc n) t e = go (is_end f t) e refl
+  where
+    go : (b : Bool) → b ≡ true → is_end f t ≡ b → reach_end f t (elim b [ true ↦ [] | false ↦ let c = make t in c ∷ columns_by make f n c.end ]) ≡ true
+    go true x is = rw is refl
+    go false x is = cc
+
+pub columns_by-step : (make : Token → Column) (f : Flow) (n : ℕ) (t : Token) → is_end f t ≡ false → columns_by make f (suc n) t ≡ make t ∷ columns_by make f n (make t).end
+unfolding columns_by
+columns_by-step make f n t e = go (is_end f t) e
+  where
+    go : (b : Bool) → b ≡ false → (elim b as (λ _. List Column) [ true ↦ [] | false ↦ let c = make t in c ∷ columns_by make f n c.end ]) ≡ make t ∷ columns_by make f n (make t).end
+    go true x = cc
+    go false x = refl
+
+pub columns_by-past : (make : Token → Column) (f : Flow) (n : ℕ) (t : Token) → is_end f t ≡ true → columns_by make f n t ≡ []
+unfolding columns_by
+columns_by-past make f zero t e = refl
+columns_by-past make f (suc n) t e = go (is_end f t) e
+  where
+    go : (b : Bool) → b ≡ true → (elim b as (λ _. List Column) [ true ↦ [] | false ↦ let c = make t in c ∷ columns_by make f n c.end ]) ≡ []
+    go true x = refl
+    go false x = cc
+
+reach_end-step : (make : Token → Column) (f : Flow) (n : ℕ) (t : Token) (c : Column) → make t ≡ c → is_end f t ≡ false → fails c ≡ false → reach_end f c.end (columns_by make f n c.end) ≡ true → reach_end f t (columns_by make f (suc n) t) ≡ true
+reach_end-step make f n t c is e ok r = rw (columns_by-step make f n t e, is, ok) r
+
+heights-later : (inner : Inner) (q : Token) (items : List Item) (j : ℕ) → heights_from inner row_start (drop (suc j) items) ≤ heights_from inner q items
+heights-later inner q [] j = omega arith
+heights-later inner q (x ∷ xs) zero = omega arith
+heights-later inner q (x ∷ xs) (suc j) = let e = heights-later inner row_start xs j in omega arith
+
+reach-later : (inner : Inner) (d : FlowsData) (f : Flow) (t : Token) (e : ℕ) → item_number t < e → reach inner d f (e ∷ []) ≤ reach inner d f t
+reach-later inner d f t e lt =
+    let i = item_number t in
+    let s : drop e f.items ≡ drop (suc (e - i - 1)) (drop i f.items) = ap (λ m. drop m f.items) (omega arith) ∙ sym (drop-drop (suc (e - i - 1)) i f.items) in
+    let m = heights-later inner (within t) (drop i f.items) (e - i - 1) in
+    rw s (omega arith)
+
+flow-steps-end : (inner : Inner) (d : FlowsData) (f : Flow) (t : Token) → item_number t < length f.items → (e : ℕ) × Ends f (item_number t) e (steps_from inner d f t)
+flow-steps-end inner d f t lt =
+    let n : length f.items - item_number t ≡ suc (length f.items - item_number t - 1) = omega arith in
+    rw n (steps-end inner d f (start_strip d f t) (item_number t) (within t) (length f.items - item_number t - 1) (omega arith))
+
+endless-ends : (inner : Inner) (d : FlowsData) (f : Flow) (t : Token) (e : ℕ) → Ends f (item_number t) e (steps_from inner d f t) →
+    endless_column inner d f t ≡ column_to (place_to e (last_place no_place (steps_from inner d f t)).extent) None [] [] (unstopped (steps_from inner d f t)).uses
+unfolding endless_column
+endless-ends inner d f t e r = ap (λ p. column_to p None [] [] (unstopped (steps_from inner d f t)).uses) (r.place no_place)
+
+pub fits-at-reach : (inner : Inner) (d : FlowsData) (f : Flow) (h n : ℕ) (t : Token) → item_number t < length f.items → reach inner d f t ≤ h → forced_above f (item_number t) < n →
+    reach_end f t (columns inner d f n t h) ≡ true
+fits-at-reach inner d f h zero t lt b c = absurd (omega arith)
+fits-at-reach inner d f h (suc n) t lt b c = go (λ e l x y. fits-at-reach inner d f h n (e ∷ []) l x y) (flow-steps-end inner d f t lt)
+  where
+    make : Token → Column
+    make = λ q. column inner d f q h
+
+    go : ((e : ℕ) → e < length f.items → reach inner d f (e ∷ []) ≤ h → forced_above f e < n → reach_end f (e ∷ []) (columns inner d f n (e ∷ []) h) ≡ true) →
+        ((e : ℕ) × Ends f (item_number t) e (steps_from inner d f t)) → reach_end f t (columns inner d f (suc n) t h) ≡ true
+    go again (e, r) =
+        reach_end-step (λ q. column inner d f q h) f n t (column_to (place_to e (last_place no_place (steps_from inner d f t)).extent) None [] [] (unstopped (steps_from inner d f t)).uses)
+        (reach-endless inner d f t h b ∙ endless-ends inner d f t e r) (grind (arith, nat_tests)) refl (next (cases_lt e (length f.items)))
+      where
+        next : (e < length f.items) ⊎ (length f.items ≤ e) → reach_end f (e ∷ []) (columns inner d f n (e ∷ []) h) ≡ true
+        next (inr x) = reach_end-past (λ q. column inner d f q h) f n (e ∷ []) (grind (arith, nat_tests))
+        next (inl x) = again e x (let m = reach-later inner d f t e r.later in omega arith) (fewer r.rest)
+          where
+            fewer : (e ≡ length f.items) ⊎ (forced_above f e < forced_above f (item_number t)) → forced_above f e < n
+            fewer (inl y) = absurd (omega arith)
+            fewer (inr y) = omega arith
+
+-- the size of a row from a place before its end is the least height that fits
+pub size-is : (inner : Inner) (d : FlowsData) (r : ℕ) (q : Token) → item_number q < length (flow_in d r).items → IsLeast (fits inner d r q) (size_in inner d r q)
+unfolding size_in fits
+size-is inner d r q lt =
+    least-is (fits inner d r q) (reach inner d (flow_in d r) q) 0 (reach inner d (flow_in d r) q) (λ k l. absurd (omega arith)) (omega arith) (omega arith)
+    (fits-at-reach inner d (flow_in d r) (reach inner d (flow_in d r) q) (most_columns (row_of d r).n (flow_in d r) q) q lt (omega arith) (omega arith))
