@@ -1,9 +1,9 @@
 -- Attributes, as they are read and by their forms.
-use Rattle.std.proofs.Common.{◌≡◌, ℕ, zero, suc, ◌+◌, ◌≤◌, ◌<◌, List, [], ◌∷◌, ◌++◌, map, length, Option, Some, None, Result, Ok, Err, Bool, true, false, cond, not, ◌||◌, refl, sym, ap, subst, ◌∙◌, append_assoc, arith, length-append, inl, inr}
+use Rattle.std.proofs.Common.{◌≡◌, ℕ, zero, suc, ◌+◌, ◌≤◌, List, [], ◌∷◌, ◌++◌, map, length, Option, Some, None, Result, Ok, Err, Bool, true, false, cond, not, ◌||◌, refl, sym, ap, ◌∙◌, append_assoc, arith, length-append, inl, inr}
 use Rattle.std.specs.Prelude.{◌⊎◌, encode_utf8_all}
 use Rattle.std.specs.Char.{to_ascii_lowercase}
 use Rattle.std.proofs.lemmas.List.{append-nil}
-use Rattle.std.proofs.lemmas.Bool.{true≢false, eq-eqb, eqb-true}
+use Rattle.std.proofs.lemmas.Bool.{eq-eqb}
 use lib.Dec.{eqb}
 use Rattle.html_grammar.specs.declared.dom.Attribute.{Attribute}
 use Rattle.html_grammar.specs.declared.place.Place.{Place}
@@ -12,13 +12,12 @@ use Rattle.html_grammar.specs.declared.token.ReadAttribute.{ReadAttribute}
 use Rattle.html_grammar.specs.declared.token.ReadAttributes.{ReadAttributes}
 use Rattle.html_grammar.specs.declared.token.Token.{Token}
 use Rattle.html_grammar.specs.declared.token.Value.{Value}
-use Rattle.html_grammar.specs.Places.{behind_first, place_or, codes_while, behind_while, begins_with, begins}
+use Rattle.html_grammar.specs.Places.{behind_first, place_or, behind_while, begins_with, begins}
 use Rattle.html_grammar.specs.Tokens.{is_space, ◌>>=◌, fault}
-use Rattle.html_grammar.specs.Grammar.{run_text}
 use Rattle.html_grammar.specs.Lexing.{is_key_char, is_bare_char, is_other, empty_value, value_from, read_as, quoted_at, bare_at, value_at, assigned_at, key, attribute_at, some_attribute, piece_at, or_first, with_attribute, continued, attributes_from}
-use Rattle.html_grammar.specs.Spelling.{codes_of, Passes, SomePass, IsText, first_unknown, IsQuoted, IsBare, IsValue, IsAssigned, IsAttribute, IsTagEnd, IsAttributes}
-use Rattle.html_grammar.proofs.Spans.{First, begins_first, begins_back, begins_other, begins_fails, begins_some, some_pass, all_pass, other_char, Span, span, codes_back, behind_back}
-use Rattle.html_grammar.proofs.ValueForms.{value_as, with_text, text_back, Valued, value_read}
+use Rattle.html_grammar.specs.Spelling.{SomePass, first_unknown, IsQuoted, IsValue, IsAssigned, IsAttribute, IsTagEnd, IsAttributes}
+use Rattle.html_grammar.proofs.Spans.{begins_back, begins_other, begins_some, all_pass, codes_back, behind_back}
+use Rattle.html_grammar.proofs.ValueForms.{value_as, with_text, text_back}
 
 -- what holds of an answer, if there is one
 abbrev pub Gives : {A : Type 0} → (A → Type 0) → Result A Fault → Type 0

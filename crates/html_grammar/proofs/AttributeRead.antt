@@ -1,6 +1,6 @@
 -- Attributes that are read are spelled so.
-use Rattle.std.proofs.Common.{◌≡◌, ℕ, zero, suc, ◌+◌, ◌≤◌, ◌<◌, List, [], ◌∷◌, ◌++◌, map, length, Option, Some, None, Result, Ok, Err, Bool, true, false, cond, refl, sym, ap, subst, ◌∙◌, append_assoc, arith, length-append, inl, inr}
-use Rattle.std.specs.Prelude.{◌⊎◌, encode_utf8_all}
+use Rattle.std.proofs.Common.{◌≡◌, ℕ, zero, suc, ◌+◌, ◌≤◌, List, [], ◌∷◌, ◌++◌, map, length, Option, Some, None, Result, Ok, Err, Bool, true, false, cond, refl, sym, ap, subst, ◌∙◌, append_assoc, arith, length-append, inl, inr}
+use Rattle.std.specs.Prelude.{encode_utf8_all}
 use Rattle.std.specs.Char.{to_ascii_lowercase}
 use Rattle.std.proofs.lemmas.List.{append-nil}
 use Rattle.html_grammar.specs.declared.dom.Attribute.{Attribute}
@@ -10,14 +10,13 @@ use Rattle.html_grammar.specs.declared.token.ReadAttribute.{ReadAttribute}
 use Rattle.html_grammar.specs.declared.token.ReadAttributes.{ReadAttributes}
 use Rattle.html_grammar.specs.declared.token.Token.{Token}
 use Rattle.html_grammar.specs.declared.token.Value.{Value}
-use Rattle.html_grammar.specs.Places.{behind_first, place_or, codes_while, behind_while, begins_with, begins}
+use Rattle.html_grammar.specs.Places.{behind_first, place_or, behind_while, begins_with, begins}
 use Rattle.html_grammar.specs.Tokens.{is_space, ◌>>=◌, fault}
-use Rattle.html_grammar.specs.Grammar.{run_text}
-use Rattle.html_grammar.specs.Lexing.{is_key_char, is_bare_char, is_other, empty_value, value_from, read_as, quoted_at, bare_at, value_at, assigned_at, key, attribute_at, some_attribute, piece_at, or_first, with_attribute, no_attributes, continued, attributes_from}
-use Rattle.html_grammar.specs.Spelling.{codes_of, Passes, SomePass, IsText, first_unknown, IsQuoted, IsBare, IsValue, IsAssigned, IsAttribute, IsTagEnd, IsAttributes}
-use Rattle.html_grammar.proofs.Spans.{First, begins_first, begins_back, some_pass, Span, span}
-use Rattle.html_grammar.proofs.ValueForms.{value_as, with_text, Valued, value_read}
-use Rattle.html_grammar.proofs.AttributeForms.{Gives, gives_bind, gives_if, same_length, attributes_as}
+use Rattle.html_grammar.specs.Lexing.{is_key_char, is_bare_char, is_other, empty_value, value_from, read_as, quoted_at, bare_at, value_at, assigned_at, key, attribute_at, some_attribute, piece_at, or_first, with_attribute, continued, attributes_from}
+use Rattle.html_grammar.specs.Spelling.{codes_of, Passes, SomePass, IsText, IsQuoted, IsValue, IsAssigned, IsAttribute, IsTagEnd, IsAttributes}
+use Rattle.html_grammar.proofs.Spans.{begins_first, some_pass, Span, span}
+use Rattle.html_grammar.proofs.ValueForms.{with_text, value_read}
+use Rattle.html_grammar.proofs.AttributeForms.{Gives, gives_bind, gives_if, same_length}
 
 -- a value as it is read, and its form
 pub record Form (name : List ℕ) (ps : List Place) (x : ReadAttribute × List Place) : Type 0 where

@@ -1,15 +1,14 @@
 -- Reading a whole text, as a list of tokens.
-use Rattle.std.proofs.Common.{◌≡◌, ℕ, zero, suc, ◌+◌, ◌≤◌, ◌<◌, List, [], ◌∷◌, ◌++◌, length, Option, Some, None, Result, Ok, Err, Bool, true, false, cond, refl, sym, ap, subst, ◌∙◌, append_assoc, arith, length-append, inl, inr}
+use Rattle.std.proofs.Common.{◌≡◌, ℕ, zero, suc, ◌+◌, ◌≤◌, List, [], ◌∷◌, ◌++◌, length, Option, Some, None, Result, Ok, Err, refl, sym, ap, subst, ◌∙◌, arith, length-append, inl, inr}
 use Rattle.mc_base.specs.declared.refusal.Found.{Found}
 use Rattle.html_grammar.specs.declared.place.Place.{Place}
 use Rattle.html_grammar.specs.declared.token.Fault.{Fault}
 use Rattle.html_grammar.specs.declared.token.Token.{Token}
 use Rattle.html_grammar.specs.declared.token.Token.TheVariants.{Start, Raw, End, Comment, Doctype, Char}
-use Rattle.html_grammar.specs.declared.token.Tag.{Tag}
 use Rattle.html_grammar.specs.Tokens.{◌>>=◌, fault, late_of, construct_of}
-use Rattle.html_grammar.specs.Machine.{State, Built, take_token, read_all, conclude}
+use Rattle.html_grammar.specs.Machine.{State, take_token, read_all}
 use Rattle.html_grammar.specs.Lexing.{token_at}
-use Rattle.html_grammar.specs.Spelling.{IsTag, IsStart, IsToken, IsLexed}
+use Rattle.html_grammar.specs.Spelling.{IsStart, IsToken, IsLexed}
 use Rattle.html_grammar.specs.Whole.{Reading, or_found, not_late, concluded, read_from}
 use Rattle.html_grammar.specs.Documents.{first_construct}
 use Rattle.html_grammar.proofs.AttributeForms.{Gives}

@@ -2,10 +2,10 @@ mod Steps
 mod Complete
 mod Stages
 mod Heads
-mod Whole
+pub mod Whole
 mod Unique
 mod Sound
-mod First
+pub mod First
 mod Spans
 mod ReferenceForms
 mod ValueForms
@@ -14,3 +14,4 @@ mod AttributeRead
 mod TokenBack
 mod TokenRead
 mod Lexed
+pub mod Texts

@@ -2,15 +2,15 @@
 use Rattle.std.proofs.Common.{◌≡◌, ℕ, List, [], ◌∷◌, ◌++◌, Option, Some, None, Bool, true, false, cond, ◌&&◌, refl, sym, ap, subst, ◌∙◌, append_assoc, inl, inr}
 use Rattle.std.specs.Prelude.{◌⊎◌}
 use Rattle.std.specs.Char.{is_ascii_alphanumeric}
-use Rattle.std.proofs.lemmas.Bool.{true≢false, and_parts}
+use Rattle.std.proofs.lemmas.Bool.{true≢false}
 use Rattle.html_grammar.specs.declared.place.Place.{Place}
 use Rattle.html_grammar.specs.declared.token.Meaning.{Meaning}
 use Rattle.html_grammar.specs.declared.token.Meaning.TheVariants as meanings
 use Rattle.html_grammar.specs.References.{named_character}
 use Rattle.html_grammar.specs.Places.{behind_first, codes_while, behind_while, begins_with, begins}
 use Rattle.html_grammar.specs.Lexing.{number_from, is_character, is_radix_digit, numbered, number_at, found_or_unknown, name_at, meaning_at}
-use Rattle.html_grammar.specs.Spelling.{codes_of, SomePass, IsNumeral, IsNumberReference, IsNameReference, IsReference, IsBadReference, IsUnknownReference, BeginsReference, BeginsUnknown}
-use Rattle.html_grammar.proofs.Spans.{First, begins_first, begins_back, begins_other, begins_some, Run, run_found, RunBack, run_back}
+use Rattle.html_grammar.specs.Spelling.{codes_of, IsNumeral, IsNumberReference, IsNameReference, IsReference, IsBadReference, IsUnknownReference, BeginsReference, BeginsUnknown}
+use Rattle.html_grammar.proofs.Spans.{begins_first, begins_back, begins_other, begins_some, run_found, run_back}
 
 both : (a b : Bool) → a ≡ true → b ≡ true → a && b ≡ true
 both a b h g = ap (λ (x : Bool). x && b) h ∙ g

@@ -1,11 +1,10 @@
 -- Places in front that pass a test, and what stands behind them.
-use Rattle.std.proofs.Common.{◌≡◌, ℕ, zero, suc, ◌+◌, ◌≤◌, ◌<◌, List, [], ◌∷◌, ◌++◌, map, length, Option, Some, None, Bool, true, false, cond, ◌&&◌, refl, sym, ap, subst, ◌∙◌, append_assoc, arith, length-append}
+use Rattle.std.proofs.Common.{◌≡◌, ℕ, List, [], ◌∷◌, ◌++◌, Bool, true, false, cond, refl, sym, ap, ◌∙◌, append_assoc}
 use Rattle.std.proofs.lemmas.Bool.{true≢false, eq-eqb, eqb-true, ne_eqb}
 use lib.Dec.{eqb}
 use Rattle.html_grammar.specs.declared.place.Place.{Place}
 use Rattle.html_grammar.specs.Places.{behind_first, codes_while, behind_while, begins_with, begins}
-use Rattle.html_grammar.specs.Lexing.{begins_text, from_text, ends_raw, raw_codes, behind_raw}
-use Rattle.html_grammar.specs.Spelling.{codes_of, Passes, SomePass, NoneBegins}
+use Rattle.html_grammar.specs.Spelling.{codes_of, Passes, SomePass}
 
 -- the places in front that pass
 pub record Span (test : ℕ → Bool) (ps : List Place) : Type 0 where

@@ -1,12 +1,11 @@
 -- Tokens that are spelled are read.
-use Rattle.std.proofs.Common.{◌≡◌, ℕ, zero, suc, ◌+◌, ◌≤◌, ◌<◌, List, [], ◌∷◌, ◌++◌, map, drop, length, Option, Some, None, Result, Ok, Err, Bool, true, false, cond, ◌&&◌, ◌||◌, nat_lt, refl, sym, ap, subst, ◌∙◌, append_assoc, arith, length-append, inl, inr}
-use Rattle.std.specs.Prelude.{◌⊎◌, codes, ◌==◌}
+use Rattle.std.proofs.Common.{◌≡◌, ℕ, suc, ◌+◌, ◌≤◌, List, [], ◌∷◌, ◌++◌, map, drop, length, Option, None, Result, Ok, Bool, true, false, cond, ◌&&◌, ◌||◌, nat_lt, refl, sym, ap, ◌∙◌, append_assoc, arith, length-append, inl, inr}
+use Rattle.std.specs.Prelude.{codes, ◌==◌}
 use Rattle.std.specs.Char.{to_ascii_lowercase, is_ascii_alphabetic}
-use Rattle.std.proofs.lemmas.Bool.{true≢false, eq-eqb, eqb-true, and_parts, or_parts, ne_eqb}
+use Rattle.std.proofs.lemmas.Bool.{eq-eqb, eqb-true, or_parts, ne_eqb}
 use lib.Dec.{eqb}
 use Rattle.html_grammar.specs.declared.place.Place.{Place}
 use Rattle.html_grammar.specs.declared.token.Fault.{Fault}
-use Rattle.html_grammar.specs.declared.token.Meaning.{Meaning}
 use Rattle.html_grammar.specs.declared.token.Meaning.TheVariants as meanings
 use Rattle.html_grammar.specs.declared.token.Piece.{Piece}
 use Rattle.html_grammar.specs.declared.token.ReadAttributes.{ReadAttributes}
@@ -15,12 +14,12 @@ use Rattle.html_grammar.specs.declared.token.Spelled.TheVariants.{Plain, Referen
 use Rattle.html_grammar.specs.declared.token.Tag.{Tag}
 use Rattle.html_grammar.specs.declared.token.Token.{Token}
 use Rattle.html_grammar.specs.declared.token.Token.TheVariants.{Start, Raw, End, Comment, Doctype, Char}
-use Rattle.html_grammar.specs.Names.{same, is_raw}
-use Rattle.html_grammar.specs.Places.{behind_first, place_or, codes_while, behind_while, begins_with, begins}
+use Rattle.html_grammar.specs.Names.{is_raw}
+use Rattle.html_grammar.specs.Places.{behind_first, place_or, behind_while, begins_with, begins}
 use Rattle.html_grammar.specs.Tokens.{is_space, ◌>>=◌, fault}
-use Rattle.html_grammar.specs.Lexing.{is_name_char, is_other, begins_text, begins_folded, meaning_at, no_attributes, attributes_from, is_doubled, tag_name, end_at, ends_raw, raw_codes, behind_raw, raw_piece, raw_ended, raw_at, tag_of, behind_tag, or_doubled, start_at, from_text, comment_at, doctype_at, mark_at, char_by_meaning, token_at, with_late}
-use Rattle.html_grammar.specs.Spelling.{codes_of, Passes, NoneBegins, IsReference, BeginsReference, IsCharacter, IsTagName, IsTag, IsEndTag, takes_line_feed, IsStart, IsRaw, IsComment, IsDoctype, begins_markup, IsToken}
-use Rattle.html_grammar.proofs.Spans.{begins_back, begins_other, codes_back, behind_back}
+use Rattle.html_grammar.specs.Lexing.{is_name_char, is_other, begins_text, begins_folded, meaning_at, no_attributes, attributes_from, tag_name, end_at, ends_raw, raw_codes, behind_raw, raw_piece, raw_ended, raw_at, tag_of, behind_tag, or_doubled, start_at, from_text, comment_at, doctype_at, mark_at, char_by_meaning, token_at, with_late}
+use Rattle.html_grammar.specs.Spelling.{codes_of, NoneBegins, BeginsReference, IsCharacter, IsTagName, IsTag, IsEndTag, takes_line_feed, IsStart, IsRaw, IsComment, IsDoctype, begins_markup, IsToken}
+use Rattle.html_grammar.proofs.Spans.{begins_back, codes_back, behind_back}
 use Rattle.html_grammar.proofs.ReferenceForms.{reference_back, unknown_back}
 use Rattle.html_grammar.proofs.ValueForms.{plain_back}
 use Rattle.html_grammar.proofs.AttributeForms.{attributes_as, attributes_answer, attributes_back}

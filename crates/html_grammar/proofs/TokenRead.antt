@@ -1,6 +1,6 @@
 -- Tokens that are read are spelled so.
-use Rattle.std.proofs.Common.{◌≡◌, ℕ, zero, suc, ◌+◌, ◌≤◌, ◌<◌, List, [], ◌∷◌, ◌++◌, map, drop, length, Option, Some, None, Result, Ok, Err, Bool, true, false, cond, ◌&&◌, ◌||◌, refl, sym, ap, subst, ◌∙◌, append_assoc, arith, length-append, inl, inr}
-use Rattle.std.specs.Prelude.{◌⊎◌, codes, ◌==◌, option_map}
+use Rattle.std.proofs.Common.{◌≡◌, ℕ, ◌≤◌, List, [], ◌∷◌, ◌++◌, map, drop, length, Option, Some, None, Result, Ok, Err, Bool, true, false, cond, ◌&&◌, ◌||◌, refl, sym, ap, subst, ◌∙◌, append_assoc, arith, inl, inr}
+use Rattle.std.specs.Prelude.{codes, ◌==◌, option_map}
 use Rattle.std.specs.Char.{to_ascii_lowercase, is_ascii_alphabetic}
 use Rattle.std.proofs.lemmas.Bool.{true≢false, eq-eqb, eqb-true, and_parts}
 use lib.Dec.{eqb}
@@ -8,23 +8,21 @@ use Rattle.html_grammar.specs.declared.place.Place.{Place}
 use Rattle.html_grammar.specs.declared.token.Fault.{Fault}
 use Rattle.html_grammar.specs.declared.token.Meaning.{Meaning}
 use Rattle.html_grammar.specs.declared.token.Meaning.TheVariants as meanings
-use Rattle.html_grammar.specs.declared.token.Piece.{Piece}
 use Rattle.html_grammar.specs.declared.token.ReadAttributes.{ReadAttributes}
-use Rattle.html_grammar.specs.declared.token.Spelled.{Spelled}
-use Rattle.html_grammar.specs.declared.token.Spelled.TheVariants.{Plain, Reference, Unknown}
+use Rattle.html_grammar.specs.declared.token.Spelled.TheVariants.{Plain}
 use Rattle.html_grammar.specs.declared.token.Tag.{Tag}
 use Rattle.html_grammar.specs.declared.token.Token.{Token}
-use Rattle.html_grammar.specs.declared.token.Token.TheVariants.{Start, Raw, End, Comment, Doctype, Char}
+use Rattle.html_grammar.specs.declared.token.Token.TheVariants.{Start, Raw, End, Char}
 use Rattle.html_grammar.specs.Names.{same, is_raw}
 use Rattle.html_grammar.specs.Places.{behind_first, place_or, codes_while, behind_while, begins_with, begins}
-use Rattle.html_grammar.specs.Tokens.{is_space, ◌>>=◌, fault, late_of}
+use Rattle.html_grammar.specs.Tokens.{is_space, fault, late_of}
 use Rattle.html_grammar.specs.declared.dom.Attribute.{Attribute}
-use Rattle.html_grammar.specs.Lexing.{is_past_name, is_name_char, is_other, begins_text, begins_folded, meaning_at, no_attributes, attributes_from, is_doubled, tag_name, end_at, ends_raw, raw_codes, behind_raw, raw_piece, raw_ended, raw_at, bad_reference, tag_of, behind_tag, or_doubled, start_at, from_text, comment_at, doctype_at, mark_at, char_by_meaning, token_at, with_late, or_late}
-use Rattle.html_grammar.specs.Spelling.{IsAttributes, BeginsUnknown, codes_of, Passes, SomePass, NoneBegins, IsReference, BeginsReference, IsCharacter, IsTagName, IsTag, IsEndTag, takes_line_feed, IsStart, IsRaw, IsComment, IsDoctype, begins_markup, IsToken}
-use Rattle.html_grammar.proofs.Spans.{First, begins_first, begins_back, begins_fails, some_pass, Span, span}
+use Rattle.html_grammar.specs.Lexing.{is_past_name, is_name_char, is_other, begins_text, begins_folded, meaning_at, no_attributes, attributes_from, is_doubled, tag_name, end_at, ends_raw, raw_codes, behind_raw, raw_piece, raw_ended, raw_at, bad_reference, tag_of, behind_tag, or_doubled, start_at, from_text, comment_at, doctype_at, mark_at, char_by_meaning, token_at, with_late}
+use Rattle.html_grammar.specs.Spelling.{IsAttributes, BeginsUnknown, codes_of, Passes, NoneBegins, BeginsReference, IsTagName, IsTag, IsEndTag, takes_line_feed, begins_markup, IsToken}
+use Rattle.html_grammar.proofs.Spans.{First, begins_first, span}
 use Rattle.html_grammar.proofs.ReferenceForms.{Meant, meant, not_plain}
 use Rattle.html_grammar.proofs.AttributeForms.{Gives, gives_bind, gives_if, same_length}
-use Rattle.html_grammar.proofs.AttributeRead.{Listed, ListedAs, attributes_give}
+use Rattle.html_grammar.proofs.AttributeRead.{ListedAs, attributes_give}
 
 -- a token that was read, behind its first place
 pub record Reads (p : Place) (ps : List Place) (x : Token × List Place) : Type 0 where

@@ -1,6 +1,6 @@
 -- Characters and values, as they are read and by their forms.
-use Rattle.std.proofs.Common.{◌≡◌, ℕ, zero, suc, ◌+◌, ◌≤◌, ◌<◌, List, [], ◌∷◌, ◌++◌, length, Option, Some, None, Bool, true, false, cond, refl, sym, ap, subst, ◌∙◌, append_assoc, arith, length-append, inl, inr}
-use Rattle.std.specs.Prelude.{◌⊎◌, encode_utf8, ◌==◌}
+use Rattle.std.proofs.Common.{◌≡◌, ℕ, zero, suc, ◌+◌, ◌≤◌, List, [], ◌∷◌, ◌++◌, length, Option, Some, None, Bool, true, false, cond, refl, sym, ap, subst, ◌∙◌, append_assoc, arith, length-append, inl, inr}
+use Rattle.std.specs.Prelude.{encode_utf8, ◌==◌}
 use Rattle.std.proofs.lemmas.List.{append-nil}
 use Rattle.std.proofs.lemmas.Bool.{true≢false, eq-eqb, eqb-true}
 use Rattle.html_grammar.specs.declared.place.Place.{Place}
@@ -13,8 +13,8 @@ use Rattle.html_grammar.specs.declared.token.Token.TheVariants.{Start, Raw, End,
 use Rattle.html_grammar.specs.declared.token.Value.{Value}
 use Rattle.html_grammar.specs.Places.{begins_with}
 use Rattle.html_grammar.specs.Grammar.{run_text}
-use Rattle.html_grammar.specs.Lexing.{meaning_at, first_of, empty_value, with_char, by_meaning, added, value_from, or_first}
-use Rattle.html_grammar.specs.Spelling.{IsReference, IsUnknownReference, BeginsReference, BeginsUnknown, IsCharacter, IsText, unknown_here, first_unknown}
+use Rattle.html_grammar.specs.Lexing.{meaning_at, first_of, with_char, by_meaning, added, value_from, or_first}
+use Rattle.html_grammar.specs.Spelling.{IsReference, BeginsReference, BeginsUnknown, IsCharacter, IsText, unknown_here, first_unknown}
 use Rattle.html_grammar.proofs.ReferenceForms.{Meant, meant, not_plain, reference_back, unknown_back}
 
 abbrev as_meant : Meaning → List Place → Meaning × List Place

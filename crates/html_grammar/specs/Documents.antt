@@ -1,5 +1,5 @@
 -- Which texts are documents, with which tree; the laws of documents on the bytes of a text.
-use Rattle.std.specs.Prelude.{◌≡◌, ◌≤◌, ℕ, List, [], ◌∷◌, length, chars, IsUtf8, Option, Some, None, Ok, Err}
+use Rattle.std.specs.Prelude.{◌≡◌, ◌≤◌, ℕ, List, [], ◌∷◌, length, chars, IsUtf8, Option, None, Ok}
 use Rattle.mc_base.specs.declared.refusal.Found.{Found}
 use Rattle.html_grammar.specs.declared.dom.Dom.{Dom}
 use Rattle.html_grammar.specs.declared.token.Token.{Token}

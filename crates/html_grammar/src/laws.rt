@@ -1,4 +1,5 @@
 ghost use Rattle.html_grammar.specs.Laws as laws;
+ghost use Rattle.html_grammar.specs.Documents as documents;
 
 /// Every document is read, and gives the nodes of its tree in preorder and its depth.
 pub fn documents_are_read()
@@ -24,5 +25,35 @@ pub fn one_tree()
 #[tactic(auto, using(crate::proofs::First::first_fault))]
 pub fn the_fault_is_the_first()
     ensures { laws.TheFaultIsTheFirst }
+{
+}
+
+/// Every text that is spelled as a document is read.
+pub fn texts_are_read()
+    ensures { documents.TextsAreRead }
+{
+}
+
+/// Whatever is read is spelled as a document.
+pub fn what_is_read_is_spelled()
+    ensures { documents.WhatIsReadIsSpelled }
+{
+}
+
+/// A text has at most one tree, and at most one first construct that isn't laid out.
+pub fn one_tree_of_text()
+    ensures { documents.OneTreeOfText }
+{
+}
+
+/// What is answered for a text is its document, within the limits.
+pub fn doms_are_of_their_texts()
+    ensures { documents.DomsAreOfTheirTexts }
+{
+}
+
+/// The document of a text is answered.
+pub fn texts_have_their_doms()
+    ensures { documents.TextsHaveTheirDoms }
 {
 }

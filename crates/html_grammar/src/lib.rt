@@ -11,7 +11,11 @@ mod stage;
 mod token;
 
 pub use dom::{Attribute, Dom, DomNode, NodeId, NodeKind};
-pub use laws::{documents_are_read, one_tree, the_fault_is_the_first, what_is_read_is_a_document};
+pub use laws::{
+    documents_are_read, doms_are_of_their_texts, one_tree, one_tree_of_text, texts_are_read,
+    texts_have_their_doms, the_fault_is_the_first, what_is_read_is_a_document,
+    what_is_read_is_spelled,
+};
 pub use place::Place;
 pub use stage::{Open, Stage};
 pub use token::{Fault, Meaning, Piece, ReadAttribute, ReadAttributes, Spelled, Tag, Token, Value};
