@@ -7,3 +7,4 @@ pub mod StackLemmas
 pub mod ReadLoop
 pub mod ByteLemmas
 pub mod DoubledLemmas
+pub mod Answered

@@ -1,12 +1,14 @@
 //! Reading a document.
 
-ghost use Rattle.std.specs.Prelude.{◌≡◌, ◌+◌, ◌*◌, ◌<◌, ◌≤◌, ◌^◌, length, chars, count_by, take_while, None, OnOk};
+ghost use Rattle.std.specs.Prelude.{◌≡◌, ◌+◌, ◌*◌, ◌<◌, ◌≤◌, ◌^◌, length, chars, take_while, None, Ok, OnOk, IfOk};
 ghost use Rattle.std.specs.Str.Lossy.{utf8_valid_len};
 ghost use Rattle.html_grammar.specs.Machine.{opening_state};
 ghost use Rattle.html_grammar.specs.Places.{places_of};
 ghost use Rattle.html_grammar.specs.Whole as whole;
+ghost use Rattle.html_grammar.specs.Documents.{IsDomOf};
+ghost use Rattle.html_grammar.specs.declared.dom.Dom.{Dom as ADom};
 ghost use Rattle.html_subset.specs.Gives.{Gives, IsUnlessMemory};
-ghost use Rattle.html_subset.specs.Building.{state_of, built_of};
+ghost use Rattle.html_subset.specs.Building.{state_of};
 ghost use Rattle.html_subset.specs.Turn.{turn, reading_of};
 
 use crate::building::{Builder, Finished};
@@ -194,15 +196,33 @@ fn grammar_refusal(fault: Fault) -> Refusal
     }
 }
 
-/// The document that a text spells, or its first fault.
+/// What the function on lists says of a text.
 #[tactic(auto, unfolding(html_grammar::specs::Whole::dom_of))]
-pub fn parse(alloc: Global, text: &[u8]) -> Result<Dom, Refusal>
+fn dom_of(alloc: Global, text: &[u8]) -> Result<Dom, Refusal>
     requires { length text.now ≤ 2 ^ 28 }
-    ensures exact { IsUnlessMemory result (whole.dom_of text.now) }
+    ensures { IsUnlessMemory result (whole.dom_of text.now) }
 {
     match read_text(alloc, text) {
         Ok(read) => within_limits(read),
         Err(ReadError::Memory) => Err(Refusal::NoMemory),
         Err(ReadError::Fault(fault)) => Err(grammar_refusal(fault)),
     }
+}
+
+/// The document of a text of at most 2^28 bytes: its nodes in preorder, and the first element or reference in it that
+/// isn't laid out.
+///
+/// `Refusal::Grammar` is the first fault, by the byte where it stands and its rule, h1 to h9. `Refusal::Limit` comes
+/// where the text is on the grammar and has more than 20,000 elements (`elements`), or else more than 64 elements one
+/// inside another (`depth`); what is reached is the limit plus 1. Want of memory may be answered for every text.
+pub fn parse(alloc: Global, text: &[u8]) -> Result<Dom, Refusal>
+    requires { length text.now ≤ 2 ^ 28 }
+    // What is answered is the document that the text spells, within the limits.
+    ensures found { IfOk result (λ dom. IsDomOf text.now dom) }
+    // What the text spells is answered, and nothing else, unless memory runs out.
+    ensures only { (dom : ADom) → IsDomOf text.now dom → IsUnlessMemory result (Ok dom) }
+    // Which refusal it is.
+    ensures exact { IsUnlessMemory result (whole.dom_of text.now) }
+{
+    dom_of(alloc, text)
 }

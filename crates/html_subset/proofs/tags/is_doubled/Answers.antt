@@ -25,8 +25,8 @@ loop-attribute-preserved c =
     let new : is_named a.name (take i c.args.attributes.now) ≡ false = ap (λ (q : List ℕ). is_named q (take i c.args.attributes.now)) (sym c.as_slice.ensures) ∙ sym stood ∙ lost in
     record {
       names = λ q.
-        let e = btree_map_updates_str c.as_slice.result.now c.loop-attribute.seen c.insert.new.self _ c.in_ok-before.ensures.updates q in
-        let after = rw c.as_slice.ensures at e in
-        names_more c.args.attributes.now i a q (get_by (λ k. slice_cmp nat_cmp q k.now) c.loop-attribute.seen) (get_by (λ k. slice_cmp nat_cmp q k.now) c.insert.new.self) _ c.loop-attribute-test.true c.attribute-item.is (c.loop-attribute.invariant.names q) after;
+          let e = btree_map_updates_str c.as_slice.result.now c.loop-attribute.seen c.insert.new.self _ c.in_ok-before.ensures.updates q in
+          let after = rw c.as_slice.ensures at e in
+          names_more c.args.attributes.now i a q (get_by (λ k. slice_cmp nat_cmp q k.now) c.loop-attribute.seen) (get_by (λ k. slice_cmp nat_cmp q k.now) c.insert.new.self) _ c.loop-attribute-test.true c.attribute-item.is (c.loop-attribute.invariant.names q) after;
       once = still_once c.args.attributes.now i a c.loop-attribute-test.true c.attribute-item.is c.loop-attribute.invariant.once new;
     }
