@@ -1,5 +1,5 @@
 -- What is answered for a text, from the function on lists.
-use Rattle.std.proofs.Common.{◌≡◌, ℕ, List, Result, Ok, Err, inl, inr, sym, ◌∙◌}
+use Rattle.std.proofs.Common.{ℕ, List, Result, Ok, Err, inl, inr, sym, ◌∙◌}
 use Rattle.std.specs.Prelude.{IfOk}
 use Rattle.mc_base.specs.declared.refusal.Refusal.{Refusal}
 use Rattle.html_grammar.specs.declared.dom.Dom.{Dom}

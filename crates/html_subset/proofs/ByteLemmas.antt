@@ -1,15 +1,13 @@
 -- Texts that are UTF-8: the first bad byte is the first zero.
-use Rattle.std.proofs.Common.{◌≡◌, ℕ, ◌≤◌, ◌<◌, List, [], ◌∷◌, length, chars, min, None, Result, refl, ap, ◌∙◌, sym, arith}
+use Rattle.std.proofs.Common.{◌≡◌, ℕ, ◌≤◌, ◌<◌, List, length, chars, None, refl, arith}
 use Rattle.std.specs.Prelude.{take_while}
 use Rattle.std.specs.Str.{IsUtf8}
-use Rattle.std.specs.Str.Lossy.{utf8_valid_len}
 use Rattle.std.proofs.lemmas.Str.{utf8_valid_len-IsUtf8}
 use Rattle.std.proofs.lemmas.Bool.{lt-ltb, le-ltb}
-use Rattle.html_grammar.specs.declared.token.Fault.{Fault}
 use Rattle.html_grammar.specs.Tokens.{fault}
 use Rattle.html_grammar.specs.Machine.{opening_state}
 use Rattle.html_grammar.specs.Places.{places_of}
-use Rattle.html_grammar.specs.Whole.{Reading, is_nonzero, first_bad_byte, read_from, read_text}
+use Rattle.html_grammar.specs.Whole.{is_nonzero, first_bad_byte, read_from, read_text}
 
 pub text_with_zero : (bytes : List ℕ) (free : ℕ) → IsUtf8 bytes → free ≡ length (take_while is_nonzero bytes) → free < length bytes → read_text bytes ≡ fault free 1
 unfolding read_text

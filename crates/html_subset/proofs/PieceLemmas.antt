@@ -1,8 +1,7 @@
 -- A text is empty only where it has no characters.
-use Rattle.std.proofs.Common.{◌≡◌, ℕ, ◌+◌, ◌<◌, List, [], ◌∷◌, length, Option, Some, None, refl, ap, arith, length-append}
+use Rattle.std.proofs.Common.{◌≡◌, ℕ, List, [], ◌∷◌, length, None, refl, ap, arith, length-append}
 use Rattle.std.specs.Prelude.{encode_utf8, encode_utf8_all}
 use Rattle.std.proofs.lemmas.Str.{length-encode, len_utf8_bounds}
-use Rattle.html_grammar.specs.declared.token.Piece.{Piece}
 use Rattle.html_grammar.specs.Lexing.{raw_piece}
 
 pub piece_none : (at : ℕ) (text cs : List ℕ) → length text ≡ 0 → text ≡ encode_utf8_all cs → None ≡ raw_piece at cs

@@ -1,9 +1,8 @@
 -- The places of characters, where the first is known.
-use Rattle.std.proofs.Common.{◌≡◌, ◌≢◌, ℕ, ◌+◌, List, [], ◌∷◌, Bool, true, false, Option, Some, None, refl, sym, ap, ◌∙◌, arith, chars}
-use Rattle.std.proofs.lemmas.Bool.{eq-eqb, ne_eqb}
+use Rattle.std.proofs.Common.{◌≡◌, ◌≢◌, ℕ, ◌+◌, List, [], ◌∷◌, false, Some, None, refl, arith}
+use Rattle.std.proofs.lemmas.Bool.{ne_eqb}
 use Rattle.std.specs.Char.{len_utf8}
-use Rattle.html_grammar.specs.declared.place.Place.{Place}
-use Rattle.html_grammar.specs.Places.{places, places_of, plain, first, behind_first}
+use Rattle.html_grammar.specs.Places.{places, places_of, first, behind_first}
 
 pub places_none : (cs : List ℕ) (at : ℕ) → cs ≡ [] → places false at cs ≡ []
 unfolding places

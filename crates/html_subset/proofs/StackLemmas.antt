@@ -1,6 +1,6 @@
 -- A stack, its innermost element and the rest.
-use Rattle.std.proofs.Common.{◌≡◌, ℕ, suc, ◌+◌, ◌-◌, ◌≤◌, ◌<◌, List, [], ◌∷◌, ◌++◌, length, take, get_or, Option, Some, None, Bool, true, false, Result, Ok, Err, refl, sym, ap, subst, ◌∙◌, arith}
-use Rattle.std.specs.Prelude.{reverse, IsSome}
+use Rattle.std.proofs.Common.{◌≡◌, ℕ, ◌+◌, ◌-◌, ◌<◌, List, [], ◌∷◌, ◌++◌, length, take, get_or, Option, Some, None, Bool, true, false, Result, Ok, refl, sym, ap, subst, ◌∙◌, arith}
+use Rattle.std.specs.Prelude.{IsSome}
 use Rattle.std.specs.Option.{option_to_list}
 use Rattle.std.proofs.lemmas.List.{take_more, take_all, reverse-append, length-reverse}
 use Rattle.html_grammar.specs.declared.stage.Open.{Open}
@@ -9,7 +9,7 @@ use Rattle.html_subset.specs.declared.fault.ReadError.{ReadError}
 use Rattle.html_subset.specs.Gives.{Gives}
 use Rattle.html_grammar.specs.Names.{same, omits, closes}
 use Rattle.html_grammar.specs.Tokens.{fault}
-use Rattle.html_grammar.specs.Machine.{without, drop_closed, all_omit, innermost}
+use Rattle.html_grammar.specs.Machine.{without, drop_closed, all_omit}
 use Rattle.html_subset.specs.Stack.{stack_of, closed_on_top}
 
 pub stack_push : (xs : List Open) (o : Open) → stack_of (xs ++ o ∷ []) ≡ o ∷ stack_of xs

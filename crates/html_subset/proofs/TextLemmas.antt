@@ -1,5 +1,5 @@
 -- Looking ahead.
-use Rattle.std.proofs.Common.{◌≡◌, ℕ, suc, ◌+◌, ◌-◌, ◌<◌, List, [], ◌∷◌, length, drop, Option, Some, None, false, refl, ap, ◌∙◌, sym, arith, drop-cons}
+use Rattle.std.proofs.Common.{◌≡◌, ℕ, suc, ◌+◌, ◌-◌, ◌<◌, List, [], ◌∷◌, length, drop, None, false, refl, ap, ◌∙◌, sym, arith, drop-cons}
 use Rattle.std.proofs.lemmas.List.{drop_all}
 use Rattle.html_grammar.specs.declared.place.Place.{Place}
 use Rattle.html_grammar.specs.Places.{first, behind_first}

@@ -1,5 +1,5 @@
 -- Reading a value character by character, as a loop does.
-use Rattle.std.proofs.Common.{◌≡◌, ℕ, suc, ◌+◌, ◌-◌, ◌≤◌, ◌<◌, List, [], ◌∷◌, Bool, true, false, Option, Some, None, refl, ap, ◌∙◌, sym, arith}
+use Rattle.std.proofs.Common.{◌≡◌, ℕ, suc, ◌+◌, ◌-◌, ◌≤◌, ◌<◌, List, [], ◌∷◌, Bool, true, false, Some, None, refl, ap, ◌∙◌, sym, arith}
 use Rattle.html_grammar.specs.declared.place.Place.{Place}
 use Rattle.html_grammar.specs.declared.token.Value.{Value}
 use Rattle.html_grammar.specs.Places.{first, behind_first}

@@ -1,5 +1,5 @@
 -- What a builder stands for.
-use Rattle.std.specs.Prelude.{List, None}
+use Rattle.std.specs.Prelude.{None}
 use Rattle.html_grammar.specs.Machine.{State, Built, nodes_at_rest}
 use Rattle.html_subset.specs.declared.building.Builder.{Builder}
 use Rattle.html_subset.specs.declared.building.Finished.{Finished}

@@ -1,8 +1,6 @@
-use Rattle.std.proofs.Common.{◌≡◌, length, chars, Result, None, sym, subst, ap, ◌∙◌}
+use Rattle.std.proofs.Common.{Result, sym, subst}
 use Rattle.html_grammar.specs.declared.token.Fault.{Fault}
-use Rattle.html_grammar.specs.Machine.{opening_state}
-use Rattle.html_grammar.specs.Places.{places_of}
-use Rattle.html_grammar.specs.Whole.{Reading, read_from}
+use Rattle.html_grammar.specs.Whole.{Reading}
 use Rattle.html_subset.specs.Gives.{Gives}
 use Rattle.html_subset.specs.Turn.{reading_of}
 use Rattle.html_subset.proofs.ByteLemmas.{text_with_zero, text_without_zero}

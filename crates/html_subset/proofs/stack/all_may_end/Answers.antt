@@ -1,4 +1,4 @@
-use Rattle.std.proofs.Common.{◌≡◌, ◌∷◌, true, false, length, sym, ap, ◌∙◌, arith}
+use Rattle.std.proofs.Common.{◌≡◌, true, false, sym, ap, ◌∙◌, arith}
 use Rattle.html_grammar.specs.Names.{omits}
 use Rattle.html_subset.specs.Stack.{stack_of}
 use Rattle.html_subset.proofs.StackLemmas.{stack_push, all_omit_top, not_all_omit, all_omit_none}

@@ -1,4 +1,4 @@
-use Rattle.std.proofs.Common.{◌≡◌, ◌<◌, ◌∷◌, true, false, length, vec_len, sym, ap, ◌∙◌, arith}
+use Rattle.std.proofs.Common.{◌≡◌, true, vec_len, sym, ap, ◌∙◌, arith}
 use Rattle.std.specs.Prelude.{IsSome}
 use Rattle.html_subset.specs.Stack.{stack_of, closed_on_top}
 use Rattle.html_subset.proofs.StackLemmas.{popped, is_shorter, some_on_top}

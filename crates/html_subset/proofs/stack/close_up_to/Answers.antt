@@ -1,4 +1,4 @@
-use Rattle.std.proofs.Common.{◌≡◌, ◌∷◌, true, false, length, sym, ap, ◌∙◌, arith}
+use Rattle.std.proofs.Common.{◌≡◌, true, false, sym, ap, ◌∙◌, arith}
 use Rattle.html_grammar.specs.Names.{same, omits}
 use Rattle.html_grammar.specs.Machine.{without}
 use Rattle.html_subset.specs.Stack.{stack_of}

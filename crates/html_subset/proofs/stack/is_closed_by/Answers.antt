@@ -1,8 +1,6 @@
-use Rattle.std.proofs.Common.{◌≡◌, ◌∷◌, [], refl, sym, ap, ◌∙◌, arith, Option, Some, None, length, vec_len, ◌-◌, take}
-use Rattle.html_grammar.specs.declared.stage.Open.{Open}
+use Rattle.std.proofs.Common.{refl, ap, ◌∙◌, arith, length}
 use Rattle.html_grammar.specs.Names.{closes}
-use Rattle.html_subset.specs.Stack.{stack_of, closed_on_top}
-use Rattle.html_subset.proofs.StackLemmas.{stack_push, stack_top, stack_none}
+use Rattle.html_subset.proofs.StackLemmas.{stack_top, stack_none}
 use Rattle.html_subset.proofs.stack.is_closed_by.Goals as goal
 
 pub returns-then-count-eq0 : goal.returns-then-count-eq0

@@ -1,6 +1,5 @@
-use Rattle.std.proofs.Common.{◌≡◌, ◌∷◌, [], refl, sym, ap, ◌∙◌, arith, Option, Some, None, length, vec_len, ◌-◌, take}
-use Rattle.html_subset.specs.Stack.{stack_of, closed_on_top}
-use Rattle.html_subset.proofs.StackLemmas.{stack_push, stack_top, stack_none}
+use Rattle.std.proofs.Common.{refl, arith, length}
+use Rattle.html_subset.proofs.StackLemmas.{stack_top, stack_none}
 use Rattle.html_subset.proofs.stack.number_of_last.Goals as goal
 
 pub returns-then-count-eq0 : goal.returns-then-count-eq0

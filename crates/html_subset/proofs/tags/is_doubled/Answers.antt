@@ -1,9 +1,9 @@
-use Rattle.std.proofs.Common.{◌≡◌, ℕ, List, take, length, true, false, is_some, Some, sym, ap, ◌∙◌}
+use Rattle.std.proofs.Common.{◌≡◌, ℕ, List, take, true, false, is_some, sym, ap, ◌∙◌}
 use Rattle.std.specs.BTreeMap.{get_by}
 use Rattle.std.specs.Cmp.Lexicographic.{slice_cmp}
 use Rattle.std.specs.Ordering.{nat_cmp}
 use Rattle.std.proofs.lemmas.Map.Text.{btree_map_updates_str}
-use Rattle.html_grammar.specs.Lexing.{is_named, is_doubled}
+use Rattle.html_grammar.specs.Lexing.{is_named}
 use Rattle.html_subset.proofs.DoubledLemmas.{doubled_at, still_once, names_more}
 use Rattle.html_subset.proofs.tags.is_doubled.Goals as goal
 

@@ -1,6 +1,6 @@
 use Rattle.std.proofs.Common.{◌≡◌, true, false, Some, None, sym, ◌∙◌}
-use Rattle.html_grammar.specs.Places.{first, behind_first}
-use Rattle.html_grammar.specs.Lexing.{value_from, empty_value, added}
+use Rattle.html_grammar.specs.Places.{first}
+use Rattle.html_grammar.specs.Lexing.{value_from, empty_value}
 use Rattle.html_subset.specs.Classes.{test_of}
 use Rattle.html_subset.proofs.ValueLoop.{value_ends, value_stops, value_goes, value_out}
 use Rattle.html_subset.proofs.values.value_from.Goals as goal
