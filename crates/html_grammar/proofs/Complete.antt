@@ -106,8 +106,8 @@ over_raw size name at m attrs kids next text is behind nodes k os html d after r
 abbrev pub Form : ℕ → List ℕ → List Attribute → Forest → List Token → Option ℕ → Option Fault → List Token → List Token → Type 0
 Form at m attrs kids skipped unknown late inner after =
     ((skipped ≡ Start (tag_as at m attrs unknown late) ∷ inner) × (is_outer m ≡ false)
-        × MatchBool (is_void m) ((kids ≡ Nil) × (after ≡ inner)) ((end : List Token) × Content m kids inner end × Closed m end after))
-      ⊎ ((text : Option Piece) × (skipped ≡ Raw (tag_as at m attrs unknown late) text ∷ inner) × (kids ≡ raw_forest text) × (after ≡ inner))
+    × MatchBool (is_void m) ((kids ≡ Nil) × (after ≡ inner)) ((end : List Token) × Content m kids inner end × Closed m end after))
+    ⊎ ((text : Option Piece) × (skipped ≡ Raw (tag_as at m attrs unknown late) text ∷ inner) × (kids ≡ raw_forest text) × (after ≡ inner))
 
 over_form : (size : ℕ) (name : List ℕ) (at : ℕ) (m : List ℕ) (attrs : List Attribute) (kids next : Forest) → Runs size m kids → Runs size name next
     → (nodes : List DomNode) (k : ℕ) (os : List Open) (html : Bool) (d : ℕ) (skipped rest : List Token) (unknown : Option ℕ) (late : Option Fault) (inner after : List Token)

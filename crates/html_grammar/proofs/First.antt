@@ -71,9 +71,9 @@ unfolding built
 is_front size front s h =
     let e = can_end size s in
     let whole : built size (front ++ e.0) ≡ Ok e.1 =
-        split size front e.0
-        ∙ ap (λ (x : Result State Fault). (x >>= λ next. read_all next e.0) >>= conclude size) h
-        ∙ reading_is_rest size s e.0 ∙ e.2 in
+    split size front e.0
+    ∙ ap (λ (x : Result State Fault). (x >>= λ next. read_all next e.0) >>= conclude size) h
+    ∙ reading_is_rest size s e.0 ∙ e.2 in
     let d = document_of size (front ++ e.0) e.1 whole in
     (e.0, d.0, d.1)
 
@@ -204,7 +204,7 @@ cut_fault size InHead s f h = finish_fault size (begin_body (end_head s) size []
 cut_fault size BehindHead s f h = finish_fault size (begin_body s size []) f h
 cut_fault size InBody s f h = finish_fault size s f h
 
-concluded_fault : (size : ℕ) (s : State) (f : Fault) → conclude size s ≡ Err f → f ≡ record { at = size; rule = 7 }
+pub concluded_fault : (size : ℕ) (s : State) (f : Fault) → conclude size s ≡ Err f → f ≡ record { at = size; rule = 7 }
 unfolding conclude
 concluded_fault size s f h = cut_fault size s.stage s f h
 

@@ -77,19 +77,21 @@ head_part_is (Element at m attrs kids next) toks rest h = by_form (head_part_is 
         → ((skip_blank toks ≡ Start (tag_as at m attrs h.0 h.1) ∷ h.2) × (is_head_void m ≡ true) × (kids ≡ Nil))
         ⊎ ((text : Option Piece) × (skip_blank toks ≡ Raw (tag_as at m attrs h.0 h.1) text ∷ h.2) × (kids ≡ raw_forest text))
         → (Element at m attrs kids next ≡ head_forest toks) × (rest ≡ head_rest toks)
-    by_form below (inl g) =
-        ( ap (λ (x : Forest). Element at m attrs x next) g.2
+    by_form below (inl g) = (
+      ap (λ (x : Forest). Element at m attrs x next) g.2
           ∙ ap (λ (x : Forest). Element at m attrs Nil x) below.0
           ∙ sym (ap (λ (b : Bool). cond b (Element at m attrs Nil (head_forest h.2)) Nil) g.1)
-          ∙ ap head_forest (sym g.0) ∙ forest_skips toks
-        , below.1
+          ∙ ap head_forest (sym g.0) ∙ forest_skips toks,
+      below.1
           ∙ sym (ap (λ (b : Bool). cond b (head_rest h.2) (Start (tag_as at m attrs h.0 h.1) ∷ h.2)) g.1)
-          ∙ ap head_rest (sym g.0) ∙ rest_skips toks)
-    by_form below (inr g) =
-        ( ap (λ (x : Forest). Element at m attrs x next) g.2
+          ∙ ap head_rest (sym g.0) ∙ rest_skips toks,
+    )
+    by_form below (inr g) = (
+      ap (λ (x : Forest). Element at m attrs x next) g.2
           ∙ ap (λ (x : Forest). Element at m attrs (raw_forest g.0) x) below.0
-          ∙ ap head_forest (sym g.1) ∙ forest_skips toks
-        , below.1 ∙ ap head_rest (sym g.1) ∙ rest_skips toks)
+          ∙ ap head_forest (sym g.1) ∙ forest_skips toks,
+      below.1 ∙ ap head_rest (sym g.1) ∙ rest_skips toks,
+    )
 
 -- the head begins at the next token that isn't blank
 part_skips : (f : Forest) (a b rest : List Token) → skip_blank a ≡ skip_blank b → HeadPart f b rest → HeadPart f a rest

@@ -1,5 +1,5 @@
 -- Reading a whole text, as a list of tokens.
-use Rattle.std.proofs.Common.{◌≡◌, ℕ, zero, suc, ◌+◌, ◌≤◌, List, [], ◌∷◌, ◌++◌, length, Option, Some, None, Result, Ok, Err, refl, sym, ap, subst, ◌∙◌, arith, length-append, inl, inr}
+use Rattle.std.proofs.Common.{◌≡◌, ℕ, zero, suc, ◌+◌, ◌≤◌, List, [], ◌∷◌, ◌++◌, length, Option, Some, None, Result, Ok, Err, refl, sym, ap, subst, ◌∙◌, arith, length-append}
 use Rattle.mc_base.specs.declared.refusal.Found.{Found}
 use Rattle.html_grammar.specs.declared.place.Place.{Place}
 use Rattle.html_grammar.specs.declared.token.Fault.{Fault}
@@ -8,7 +8,7 @@ use Rattle.html_grammar.specs.declared.token.Token.TheVariants.{Start, Raw, End,
 use Rattle.html_grammar.specs.Tokens.{◌>>=◌, fault, late_of, construct_of}
 use Rattle.html_grammar.specs.Machine.{State, take_token, read_all}
 use Rattle.html_grammar.specs.Lexing.{token_at}
-use Rattle.html_grammar.specs.Spelling.{IsStart, IsToken, IsLexed}
+use Rattle.html_grammar.specs.Spelling.{IsToken, IsLexed}
 use Rattle.html_grammar.specs.Whole.{Reading, or_found, not_late, concluded, read_from}
 use Rattle.html_grammar.specs.Documents.{first_construct}
 use Rattle.html_grammar.proofs.AttributeForms.{Gives}
@@ -17,12 +17,8 @@ use Rattle.html_grammar.proofs.TokenRead.{Reads, Sound, token_gives}
 
 -- a spelled token has no late fault
 pub in_time : (t : Token) (one rest : List Place) → IsToken t one rest → late_of t ≡ None
-in_time (Start tag) one rest h = by_form h.1
-  where
-    by_form : IsStart tag one rest → tag.late ≡ None
-    by_form (inl g) = g.0.sound
-    by_form (inr g) = g.3.sound
-in_time (Raw tag text) one rest h = h.1.tag_is.sound
+in_time (Start tag) one rest h = h.3
+in_time (Raw tag text) one rest h = h.3
 in_time (End at m) one rest h = refl
 in_time (Comment at) one rest h = refl
 in_time (Doctype at) one rest h = refl
@@ -95,7 +91,7 @@ lexed_reads n size (t ∷ ts) ps seen s h le len = by_places n ps h.2 le len (λ
         let l = shorter size p ps h.1 t (omega (arith, len)) ok a in
         one_token n size seen s p ps t h.1 a ok
         ∙ by_taken (take_token s t) (λ next. read_from n size (or_found seen (construct_of t)) next h.1) (λ next. read_all next ts >>= concluded size (or_found (or_found seen (construct_of t)) (first_construct ts)))
-            (λ next. below n (or_found seen (construct_of t)) next (omega (arith, l, le)) (omega (arith, l, len)))
+        (λ next. below n (or_found seen (construct_of t)) next (omega (arith, l, le)) (omega (arith, l, len)))
         ∙ assoc (take_token s t) (λ next. read_all next ts) (concluded size (or_found (or_found seen (construct_of t)) (first_construct ts)))
         ∙ ap (λ (x : Option Found). read_all s (t ∷ ts) >>= concluded size x) (or_assoc seen (construct_of t) (first_construct ts))
 

@@ -15,3 +15,9 @@ mod TokenBack
 mod TokenRead
 mod Lexed
 pub mod Texts
+mod TokenFaults
+mod Fates
+mod TokenLate
+mod TextPlaces
+pub mod TextFaults
+pub mod Refusals

@@ -9,7 +9,7 @@ use Rattle.html_grammar.specs.declared.token.Meaning.TheVariants as meanings
 use Rattle.html_grammar.specs.References.{named_character}
 use Rattle.html_grammar.specs.Places.{behind_first, codes_while, behind_while, begins_with, begins}
 use Rattle.html_grammar.specs.Lexing.{number_from, is_character, is_radix_digit, numbered, number_at, found_or_unknown, name_at, meaning_at}
-use Rattle.html_grammar.specs.Spelling.{codes_of, IsNumeral, IsNumberReference, IsNameReference, IsReference, IsBadReference, IsUnknownReference, BeginsReference, BeginsUnknown}
+use Rattle.html_grammar.specs.Spelling.{codes_of, IsNumeral, IsNumberReference, IsNameReference, IsReference, IsBadReference, IsUnknownReference, BeginsReference, BeginsBad, BeginsUnknown}
 use Rattle.html_grammar.proofs.Spans.{begins_first, begins_back, begins_other, begins_some, run_found, run_back}
 
 both : (a b : Bool) → a ≡ true → b ≡ true → a && b ≡ true
@@ -113,7 +113,7 @@ not_plain ps rest e h = by_form h.3
 abbrev pub Meant : Meaning → List Place → List Place → Type 0
 Meant meanings.Plain rest ps = rest ≡ ps
 Meant meanings.Unknown rest ps = (rest ≡ ps) × BeginsUnknown ps
-Meant meanings.Bad rest ps = (form : List Place) × (more : List Place) × (ps ≡ form ++ more) × IsBadReference form
+Meant meanings.Bad rest ps = (rest ≡ ps) × BeginsBad ps
 Meant (meanings.Character c) rest ps = (form : List Place) × (ps ≡ form ++ rest) × IsReference c form
 
 abbrev MeantAs : Meaning × List Place → List Place → Type 0
@@ -124,7 +124,7 @@ number_meant n ps form rest e h = by_character (is_character n) refl
   where
     by_character : (b : Bool) → is_character n ≡ b → MeantAs (cond b (meanings.Character n, rest) (meanings.Bad, ps)) ps
     by_character true is = (form, e, inl (h, is))
-    by_character false is = (form, rest, e, (n, h, is))
+    by_character false is = (refl, (form, rest, e, (n, h, is)))
 
 name_meant : (name : List ℕ) (ps form rest : List Place) → ps ≡ form ++ rest → IsNameReference name form → MeantAs (found_or_unknown (named_character name) ps rest) ps
 name_meant name ps form rest e h = by_name (named_character name) refl
@@ -144,7 +144,7 @@ digits_meant radix ps digits make = by_test (begins_with (is_radix_digit radix) 
         let r = run_found (is_radix_digit radix) digits h g in
         let n = number_from radix 0 (codes_while (is_radix_digit radix) digits) in
         subst (λ (x : List Place). MeantAs (numbered n ps x) ps) (sym r.behind) (make n (r.letters ++ r.last ∷ []) r.rest r.whole
-          (record { digits = r.letters; last = r.last; whole = refl; some = r.some; ends = r.ends; value = ap (number_from radix 0) r.codes_are }))
+        (record { digits = r.letters; last = r.last; whole = refl; some = r.some; ends = r.ends; value = ap (number_from radix 0) r.codes_are }))
     by_test true false h g = refl
     by_test false b h g = refl
 
@@ -157,8 +157,8 @@ names_meant ps = by_test (begins_with is_ascii_alphanumeric ps) (begins 59 (behi
     by_test true true h g =
         let r = run_found is_ascii_alphanumeric ps h g in
         subst (λ (x : List Place). MeantAs (found_or_unknown (named_character (codes_while is_ascii_alphanumeric ps)) ps x) ps) (sym r.behind)
-          (name_meant (codes_while is_ascii_alphanumeric ps) ps (r.letters ++ r.last ∷ []) r.rest r.whole
-            (record { letters = r.letters; last = r.last; whole = refl; some = r.some; ends = r.ends; named = r.codes_are }))
+        (name_meant (codes_while is_ascii_alphanumeric ps) ps (r.letters ++ r.last ∷ []) r.rest r.whole
+        (record { letters = r.letters; last = r.last; whole = refl; some = r.some; ends = r.ends; named = r.codes_are }))
     by_test true false h g = refl
     by_test false b h g = refl
 
@@ -172,12 +172,12 @@ meant ps = by_hash (begins 35 ps) refl
         let f = begins_first 120 (behind_first ps) g in
         let m : more ≡ f.place ∷ f.more = sym (ap behind_first e) ∙ f.whole in
         digits_meant 16 ps (behind_first (behind_first ps)) (λ n form rest d numeral.
-          number_meant n ps (hash ∷ (f.place ∷ form)) rest
-            (e ∙ ap (λ (x : List Place). hash ∷ x) m ∙ ap (λ (x : List Place). hash ∷ (f.place ∷ x)) (sym (ap behind_first f.whole) ∙ d))
-            (hash, form, is, inr (f.place, refl, f.is, numeral)))
+        number_meant n ps (hash ∷ (f.place ∷ form)) rest
+        (e ∙ ap (λ (x : List Place). hash ∷ x) m ∙ ap (λ (x : List Place). hash ∷ (f.place ∷ x)) (sym (ap behind_first f.whole) ∙ d))
+        (hash, form, is, inr (f.place, refl, f.is, numeral)))
     by_ex hash more e is false g =
         digits_meant 10 ps (behind_first ps) (λ n form rest d numeral.
-          number_meant n ps (hash ∷ form) rest (e ∙ ap (λ (x : List Place). hash ∷ x) (sym (ap behind_first e) ∙ d)) (hash, form, is, inl (refl, numeral)))
+        number_meant n ps (hash ∷ form) rest (e ∙ ap (λ (x : List Place). hash ∷ x) (sym (ap behind_first e) ∙ d)) (hash, form, is, inl (refl, numeral)))
 
     by_hash : (b : Bool) → begins 35 ps ≡ b
         → MeantAs (cond b (cond (begins 120 (behind_first ps)) (number_at 16 ps (behind_first (behind_first ps))) (number_at 10 ps (behind_first ps))) (name_at ps)) ps

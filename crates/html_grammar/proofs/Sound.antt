@@ -174,18 +174,21 @@ pub document_of : (size : ℕ) (toks : List Token) (all : Built) → built size 
 document_of size toks all h = made (sound_within (length (body_tokens size toks)) size (body_tokens size toks) (omega arith) _ _ _ _ all (sym (built_is_body size toks) ∙ h))
   where
     made : Ends true (open_as (length (with_head size toks)) (codes "body") ∷ []) (body_tokens size toks) → (tree : Forest) × IsDocument size toks tree
-    made e = (whole_tree (html_begun size toks) (head_begun size toks) (head_forest (head_begun size toks).inner) (body_begun size (past_head size toks)) e.0, record {
-      head_kids = head_forest (head_begun size toks).inner;
-      past = past_head size toks;
-      kids = e.0;
-      end = e.1;
-      after = e.2;
-      head_part = head_part_of (head_begun size toks).inner;
-      content = e.3;
-      closed = e.4;
-      nothing = e.5;
-      whole = refl;
-    })
+    made e = (
+      whole_tree (html_begun size toks) (head_begun size toks) (head_forest (head_begun size toks).inner) (body_begun size (past_head size toks)) e.0,
+      record {
+        head_kids = head_forest (head_begun size toks).inner;
+        past = past_head size toks;
+        kids = e.0;
+        end = e.1;
+        after = e.2;
+        head_part = head_part_of (head_begun size toks).inner;
+        content = e.3;
+        closed = e.4;
+        nothing = e.5;
+        whole = refl;
+      },
+    )
 
 abbrev read_as : Built → Result Built Fault
 read_as x = Ok x

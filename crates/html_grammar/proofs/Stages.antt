@@ -87,7 +87,7 @@ pub reading_is_rest : (size : ℕ) (s : State) (toks : List Token) → (read_all
 unfolding conclude
 reading_is_rest size s [] = refl
 reading_is_rest size s (t ∷ ts) = bind_bind (take_token s t) (λ next. read_all next ts) (conclude size)
-  ∙ bind_alike (take_token s t) (go_at s.stage s t) (λ next. read_all next ts >>= conclude size) (λ next. rest_of size next ts) (take_is s t) (λ next. reading_is_rest size next ts)
+    ∙ bind_alike (take_token s t) (go_at s.stage s t) (λ next. read_all next ts >>= conclude size) (λ next. rest_of size next ts) (take_is s t) (λ next. reading_is_rest size next ts)
 
 abbrev done : State → Result State Fault
 done x = Ok x

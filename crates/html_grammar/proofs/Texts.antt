@@ -100,7 +100,7 @@ good_bytes bytes u z =
     at_length : (n : ℕ) → nat_lt (min n n) n ≡ false
     at_length n = grind arith
 
-bytes_are_good : (bytes : List ℕ) → nat_lt (first_bad_byte bytes) (length bytes) ≡ false → IsUtf8 bytes × NoZero bytes
+pub bytes_are_good : (bytes : List ℕ) → nat_lt (first_bad_byte bytes) (length bytes) ≡ false → IsUtf8 bytes × NoZero bytes
 bytes_are_good bytes h =
     let a = utf8_valid_len_le bytes in
     let b = before_zero_le bytes in
@@ -184,10 +184,11 @@ text_of bytes r h = by_bytes (nat_lt (first_bad_byte bytes) (length bytes)) refl
     made u z toks l b e k =
         let t = tree_of (length bytes) toks b e in
         let s = same_reading (record { built = b; construct = first_construct toks }) r k in
-        let c : r.construct ≡ first_construct toks = ap (λ (x : Reading). x.construct) (sym s) in
-        ( t.0
-        , record { utf8 = u; no_zero = z; tokens = toks; spelled = l; document = t.1; first = c }
-        , sym s ∙ ap (λ (x : Built). record { built = x; construct = first_construct toks }) t.2 ∙ ap (reading_as t.0) (sym c))
+        let c : r.construct ≡ first_construct toks = ap (λ (x : Reading). x.construct) (sym s) in (
+          t.0,
+          record { utf8 = u; no_zero = z; tokens = toks; spelled = l; document = t.1; first = c },
+          sym s ∙ ap (λ (x : Built). record { built = x; construct = first_construct toks }) t.2 ∙ ap (reading_as t.0) (sym c),
+        )
 
     by_built : IsUtf8 bytes → NoZero bytes → (toks : List Token) → IsLexed toks (places_of (chars bytes)) → ((b : Built) × (built (length bytes) toks ≡ Ok b)) ⊎ ((f : Fault) × (built (length bytes) toks ≡ Err f))
         → (built (length bytes) toks >>= as_read (first_construct toks)) ≡ Ok r → (tree : Forest) × IsText bytes tree r.construct × (r ≡ reading_as tree r.construct)
@@ -204,9 +205,10 @@ text_of bytes r h = by_bytes (nat_lt (first_bad_byte bytes) (length bytes)) refl
 
 pub one_tree_of_text : (bytes : List ℕ) (f g : Forest) (c d : Option Found) → IsText bytes f c → IsText bytes g d → (f ≡ g) × (c ≡ d)
 one_tree_of_text bytes f g c d t u =
-    let same = lexed_once t.tokens u.tokens (places_of (chars bytes)) t.spelled u.spelled in
-    ( unique.one_tree (length bytes) t.tokens f g t.document (subst (λ (x : List Token). IsDocument (length bytes) x g) (sym same) u.document)
-    , t.first ∙ ap first_construct same ∙ sym u.first)
+    let same = lexed_once t.tokens u.tokens (places_of (chars bytes)) t.spelled u.spelled in (
+      unique.one_tree (length bytes) t.tokens f g t.document (subst (λ (x : List Token). IsDocument (length bytes) x g) (sym same) u.document),
+      t.first ∙ ap first_construct same ∙ sym u.first,
+    )
 
 -- the limits
 abbrev dom_answer : Dom → Result Dom Refusal

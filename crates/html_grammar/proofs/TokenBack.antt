@@ -17,8 +17,8 @@ use Rattle.html_grammar.specs.declared.token.Token.TheVariants.{Start, Raw, End,
 use Rattle.html_grammar.specs.Names.{is_raw}
 use Rattle.html_grammar.specs.Places.{behind_first, place_or, behind_while, begins_with, begins}
 use Rattle.html_grammar.specs.Tokens.{is_space, ◌>>=◌, fault}
-use Rattle.html_grammar.specs.Lexing.{is_name_char, is_other, begins_text, begins_folded, meaning_at, no_attributes, attributes_from, tag_name, end_at, ends_raw, raw_codes, behind_raw, raw_piece, raw_ended, raw_at, tag_of, behind_tag, or_doubled, start_at, from_text, comment_at, doctype_at, mark_at, char_by_meaning, token_at, with_late}
-use Rattle.html_grammar.specs.Spelling.{codes_of, NoneBegins, BeginsReference, IsCharacter, IsTagName, IsTag, IsEndTag, takes_line_feed, IsStart, IsRaw, IsComment, IsDoctype, begins_markup, IsToken}
+use Rattle.html_grammar.specs.Lexing.{is_doubled, is_name_char, is_other, begins_text, begins_folded, meaning_at, no_attributes, attributes_from, tag_name, end_at, ends_raw, raw_codes, behind_raw, raw_piece, raw_ended, raw_at, tag_of, behind_tag, or_doubled, start_at, from_text, comment_at, doctype_at, mark_at, char_by_meaning, token_at, with_late}
+use Rattle.html_grammar.specs.Spelling.{codes_of, NoneBegins, BeginsReference, IsCharacter, IsTagName, IsTag, IsOnce, IsEndTag, takes_line_feed, IsStart, IsRaw, IsComment, IsDoctype, begins_markup, IsToken}
 use Rattle.html_grammar.proofs.Spans.{begins_back, codes_back, behind_back}
 use Rattle.html_grammar.proofs.ReferenceForms.{reference_back, unknown_back}
 use Rattle.html_grammar.proofs.ValueForms.{plain_back}
@@ -44,38 +44,39 @@ named_back name (p ∷ named) rest h stops = record {
 tag_whole : (tag : Tag) (one rest : List Place) (f : IsTag tag one rest) → one ++ rest ≡ f.angle ∷ (f.named ++ (f.more ++ rest))
 tag_whole tag one rest f = ap (λ (x : List Place). x ++ rest) f.whole ∙ ap (λ (x : List Place). f.angle ∷ x) (append_assoc f.named f.more rest)
 
-start_back : (n : ℕ) (tag : Tag) (one rest : List Place) (f : IsTag tag one rest) → length one ≤ suc n → start_at n tag.at (f.named ++ (f.more ++ rest)) ≡ behind_tag tag rest
+-- the attributes of a tag
+tag_attributes : (n : ℕ) (tag : Tag) (one rest : List Place) (f : IsTag tag one rest) → length one ≤ suc n
+    → start_at n tag.at (f.named ++ (f.more ++ rest)) ≡ or_doubled tag.at tag.name (attributes_as tag.attributes tag.unknown f.bad, rest)
 unfolding start_at
-start_back n tag one rest f le =
+tag_attributes n tag one rest f le =
     let ps = f.named ++ (f.more ++ rest) in
     let w = named_back tag.name f.named (f.more ++ rest) f.name_is f.stops in
     let l : length one ≡ suc (length f.named + length f.more) = ap length f.whole ∙ ap suc (length-append f.named f.more) in
-    let all : attributes_from n n tag.at no_attributes (f.more ++ rest) ≡ attributes_answer (attributes_as tag.attributes tag.unknown None) rest =
-        attributes_back n n tag.at tag.attributes tag.unknown f.more rest no_attributes f.attributes_are (omega (arith, l, le)) (omega (arith, l, le)) in
+    let all : attributes_from n n tag.at no_attributes (f.more ++ rest) ≡ attributes_answer (attributes_as tag.attributes tag.unknown f.bad) rest =
+    attributes_back n n tag.at tag.attributes tag.unknown f.bad f.more rest no_attributes f.attributes_are (omega (arith, l, le)) (omega (arith, l, le)) in
     ap (λ (x : List Place). attributes_from n n tag.at no_attributes x >>= or_doubled tag.at (tag_name ps)) w.behind
     ∙ ap (λ (x : Result (ReadAttributes × List Place) Fault). x >>= or_doubled tag.at (tag_name ps)) all
-    ∙ ap (λ (x : List ℕ). or_doubled tag.at x (attributes_as tag.attributes tag.unknown None, rest)) w.is
-    ∙ ap (λ (b : Bool). cond b (fault tag.at 4) (behind_tag (tag_of tag.at tag.name (attributes_as tag.attributes tag.unknown None)) rest)) f.once
-    ∙ ap (λ (x : Option Fault). behind_tag (record { at = tag.at; name = tag.name; attributes = tag.attributes; unknown = tag.unknown; late = x }) rest) (sym f.sound)
+    ∙ ap (λ (x : List ℕ). or_doubled tag.at x (attributes_as tag.attributes tag.unknown f.bad, rest)) w.is
 
-pub tag_back : (n : ℕ) (tag : Tag) (one rest : List Place) (f : IsTag tag one rest) → length one ≤ suc n → token_at n f.angle (f.named ++ (f.more ++ rest)) ≡ behind_tag tag rest
+at_tag : (n : ℕ) (tag : Tag) (one rest : List Place) (f : IsTag tag one rest) → length one ≤ suc n → token_at n f.angle (f.named ++ (f.more ++ rest)) ≡ or_doubled tag.at tag.name (attributes_as tag.attributes tag.unknown f.bad, rest)
 unfolding token_at
-tag_back n tag one rest f le =
+at_tag n tag one rest f le =
     let ps = f.named ++ (f.more ++ rest) in
     let w = named_back tag.name f.named (f.more ++ rest) f.name_is f.stops in
     ap (λ (b : Bool). cond b (cond (begins_with is_ascii_alphabetic ps) (start_at n f.angle.at ps) (cond (begins 47 ps) (end_at f.angle.at (behind_first ps)) (cond (begins 33 ps) (mark_at f.angle.at ps) (cond (begins 63 ps) (fault f.angle.at 3) (token_answer (Char f.angle.at f.angle.character Plain) ps))))) (cond (f.angle.character == 38) (char_by_meaning f.angle.at (meaning_at ps)) (token_answer (Char f.angle.at f.angle.character Plain) ps))) (eq-eqb f.angle.character 60 f.opens)
     ∙ ap (λ (b : Bool). cond b (start_at n f.angle.at ps) (cond (begins 47 ps) (end_at f.angle.at (behind_first ps)) (cond (begins 33 ps) (mark_at f.angle.at ps) (cond (begins 63 ps) (fault f.angle.at 3) (token_answer (Char f.angle.at f.angle.character Plain) ps))))) w.letter
     ∙ ap (λ (x : ℕ). start_at n x ps) f.stands
-    ∙ start_back n tag one rest f le
+    ∙ tag_attributes n tag one rest f le
 
 -- the end of a text that is up to some characters
 raw_stops : (name : List ℕ) (inner rest : List Place) → NoneBegins (ends_raw name) inner rest → ends_raw name rest ≡ true → (behind_raw name (inner ++ rest) ≡ rest) × (raw_codes name (inner ++ rest) ≡ codes_of inner)
 raw_stops name [] [] h over = (refl, refl)
 raw_stops name [] (p ∷ rest) h over = (ap (λ (b : Bool). cond b (p ∷ rest) (behind_raw name rest)) over, ap (λ (b : Bool). cond b [] (p.character ∷ raw_codes name rest)) over)
 raw_stops name (p ∷ inner) rest h over =
-    let r = raw_stops name inner rest h.1 over in
-    ( ap (λ (b : Bool). cond b (p ∷ (inner ++ rest)) (behind_raw name (inner ++ rest))) h.0 ∙ r.0
-    , ap (λ (b : Bool). cond b [] (p.character ∷ raw_codes name (inner ++ rest))) h.0 ∙ ap (λ (x : List ℕ). p.character ∷ x) r.1)
+    let r = raw_stops name inner rest h.1 over in (
+      ap (λ (b : Bool). cond b (p ∷ (inner ++ rest)) (behind_raw name (inner ++ rest))) h.0 ∙ r.0,
+      ap (λ (b : Bool). cond b [] (p.character ∷ raw_codes name (inner ++ rest))) h.0 ∙ ap (λ (x : List ℕ). p.character ∷ x) r.1,
+    )
 
 text_stops : (t : List ℕ) (inner rest : List Place) → NoneBegins (begins_text t) inner rest → begins_text t rest ≡ true → (c : ℕ) → begins c rest ≡ true → from_text t (inner ++ rest) ≡ rest
 text_stops t [] [] h over c b = refl
@@ -114,7 +115,7 @@ raw_back tag text one rest f =
     let opens : begins 60 behind ≡ true = ap (begins 60) whole ∙ begins_back 60 e.angle (e.slash ∷ (e.named ++ (e.white ++ (e.last ∷ rest)))) e.opens in
     let stands : place_or 0 behind ≡ f.at = ap (place_or 0) whole ∙ e.stands in
     let ended : end_at (place_or 0 behind) (drop 2 behind) ≡ token_answer (End f.at f.name) rest =
-        ap (λ (x : ℕ). end_at x (drop 2 behind)) stands ∙ ap (λ (x : List Place). end_at f.at (drop 2 x)) whole ∙ end_back f.at f.name f.ending rest e in
+    ap (λ (x : ℕ). end_at x (drop 2 behind)) stands ∙ ap (λ (x : List Place). end_at f.at (drop 2 x)) whole ∙ end_back f.at f.name f.ending rest e in
     ap (λ (x : List Place). cond (begins 60 x) (raw_ended tag (raw_piece (place_or 0 ps) (raw_codes tag.name ps)) (end_at (place_or 0 x) (drop 2 x))) (token_answer (Raw (with_late tag (record { at = tag.at; rule = 9 })) None) [])) r.0
     ∙ ap (λ (b : Bool). cond b (raw_ended tag (raw_piece (place_or 0 ps) (raw_codes tag.name ps)) (end_at (place_or 0 behind) (drop 2 behind))) (token_answer (Raw (with_late tag (record { at = tag.at; rule = 9 })) None) [])) opens
     ∙ ap (λ (x : Result (Token × List Place) Fault). raw_ended tag (raw_piece (place_or 0 ps) (raw_codes tag.name ps)) x) ended
@@ -126,8 +127,17 @@ abbrev pub front_token : ℕ → List Place → Result (Token × List Place) Fau
 front_token n [] = fault 0 0
 front_token n (p ∷ ps) = token_at n p ps
 
-started_back : (n : ℕ) (tag : Tag) (one rest : List Place) (f : IsTag tag one rest) → length one ≤ suc n → front_token n (one ++ rest) ≡ behind_tag tag rest
-started_back n tag one rest f le = ap (front_token n) (tag_whole tag one rest f) ∙ tag_back n tag one rest f le
+-- a tag of which no two attributes have one name, and one of which two have
+pub started_back : (n : ℕ) (tag : Tag) (one rest : List Place) (f : IsTag tag one rest) → IsOnce tag → length one ≤ suc n → front_token n (one ++ rest) ≡ behind_tag tag rest
+started_back n tag one rest f once le =
+    ap (front_token n) (tag_whole tag one rest f) ∙ at_tag n tag one rest f le
+    ∙ ap (λ (b : Bool). cond b (fault tag.at 4) (behind_tag (tag_of tag.at tag.name (attributes_as tag.attributes tag.unknown f.bad)) rest)) once
+    ∙ ap (λ (x : Option Fault). behind_tag (record { at = tag.at; name = tag.name; attributes = tag.attributes; unknown = tag.unknown; late = x }) rest) (sym f.late)
+
+pub doubled_back : (n : ℕ) (tag : Tag) (one rest : List Place) (f : IsTag tag one rest) → is_doubled tag.attributes ≡ true → length one ≤ suc n → front_token n (one ++ rest) ≡ fault tag.at 4
+doubled_back n tag one rest f twice le =
+    ap (front_token n) (tag_whole tag one rest f) ∙ at_tag n tag one rest f le
+    ∙ ap (λ (b : Bool). cond b (fault tag.at 4) (behind_tag (tag_of tag.at tag.name (attributes_as tag.attributes tag.unknown f.bad)) rest)) twice
 
 no_raw : (tag : Tag) (rest : List Place) → is_raw tag.name ≡ false → behind_tag tag rest ≡ cond (takes_line_feed tag rest) (token_answer (Start tag) (behind_first rest)) (token_answer (Start tag) rest)
 unfolding behind_tag
@@ -164,9 +174,10 @@ text_begins [] (p ∷ front) rest h = absurd cc
 text_begins (c ∷ t) front rest h =
     let f = head_of c t front h in
     let r = text_begins t f.more rest f.rest in
-    let whole : front ++ rest ≡ f.place ∷ (f.more ++ rest) = ap (λ (x : List Place). x ++ rest) f.whole in
-    ( ap (begins_text (c ∷ t)) whole ∙ ap (λ (b : Bool). b && begins_text t (f.more ++ rest)) (eq-eqb f.place.character c f.is) ∙ r.0
-    , ap (drop (suc (length t))) whole ∙ r.1)
+    let whole : front ++ rest ≡ f.place ∷ (f.more ++ rest) = ap (λ (x : List Place). x ++ rest) f.whole in (
+      ap (begins_text (c ∷ t)) whole ∙ ap (λ (b : Bool). b && begins_text t (f.more ++ rest)) (eq-eqb f.place.character c f.is) ∙ r.0,
+      ap (drop (suc (length t))) whole ∙ r.1,
+    )
 
 -- markup other than a tag
 abbrev marked : ℕ → Place → List Place → Result (Token × List Place) Fault
@@ -206,8 +217,8 @@ comment_back n at one rest f =
     let closing : begins 45 behind ≡ true = ap (λ (x : List Place). begins 45 (x ++ rest)) d.whole ∙ begins_back 45 d.place (d.more ++ rest) d.is in
     let stops : from_text (codes "-->") tail ≡ behind = text_stops (codes "-->") f.inner behind f.not_over c.0 45 closing in
     let whole : one ++ rest ≡ a.place ∷ (a.more ++ tail) =
-        ap (λ (x : List Place). x ++ rest) f.whole ∙ append_assoc f.opening (f.inner ++ f.closing) rest
-        ∙ ap (λ (x : List Place). f.opening ++ x) (append_assoc f.inner f.closing rest) ∙ ap (λ (x : List Place). x ++ tail) a.whole in
+    ap (λ (x : List Place). x ++ rest) f.whole ∙ append_assoc f.opening (f.inner ++ f.closing) rest
+    ∙ ap (λ (x : List Place). f.opening ++ x) (append_assoc f.inner f.closing rest) ∙ ap (λ (x : List Place). x ++ tail) a.whole in
     let marks : a.more ++ tail ≡ b.place ∷ (b.more ++ tail) = ap (λ (x : List Place). x ++ tail) b.whole in
     ap (front_token n) whole
     ∙ ap (token_at n a.place) marks ∙ at_mark n a.place b.place (b.more ++ tail) a.is b.is ∙ ap (mark_at a.place.at) (sym marks)
@@ -242,9 +253,10 @@ folded_begins [] (p ∷ front) rest h = absurd cc
 folded_begins (c ∷ t) front rest h =
     let f = folded_of c t front h in
     let r = folded_begins t f.more rest f.rest in
-    let whole : front ++ rest ≡ f.place ∷ (f.more ++ rest) = ap (λ (x : List Place). x ++ rest) f.whole in
-    ( ap (begins_folded (c ∷ t)) whole ∙ ap (λ (b : Bool). b && begins_folded t (f.more ++ rest)) (eq-eqb (to_ascii_lowercase f.place.character) c f.is) ∙ r.0
-    , ap (drop (suc (length t))) whole ∙ r.1)
+    let whole : front ++ rest ≡ f.place ∷ (f.more ++ rest) = ap (λ (x : List Place). x ++ rest) f.whole in (
+      ap (begins_folded (c ∷ t)) whole ∙ ap (λ (b : Bool). b && begins_folded t (f.more ++ rest)) (eq-eqb (to_ascii_lowercase f.place.character) c f.is) ∙ r.0,
+      ap (drop (suc (length t))) whole ∙ r.1,
+    )
 
 -- a character that isn't a letter stays as it is in lower case
 unfolded_mark : (c : ℕ) → to_ascii_lowercase c ≡ 33 → c ≡ 33
@@ -266,14 +278,14 @@ doctype_back n at one rest f =
     let tail = f.inner ++ (f.last ∷ rest) in
     let m = folded_begins (codes "!doctype") f.mark tail f.marks in
     let whole : one ++ rest ≡ f.angle ∷ (f.mark ++ tail) =
-        ap (λ (x : List Place). x ++ rest) f.whole
-        ∙ ap (λ (x : List Place). f.angle ∷ x) (append_assoc f.mark (f.inner ++ f.last ∷ []) rest ∙ ap (λ (x : List Place). f.mark ++ x) (append_assoc f.inner (f.last ∷ []) rest)) in
+    ap (λ (x : List Place). x ++ rest) f.whole
+    ∙ ap (λ (x : List Place). f.angle ∷ x) (append_assoc f.mark (f.inner ++ f.last ∷ []) rest ∙ ap (λ (x : List Place). f.mark ++ x) (append_assoc f.inner (f.last ∷ []) rest)) in
     let marks : f.mark ++ tail ≡ a.place ∷ (b.place ∷ (b.more ++ tail)) = ap (λ (x : List Place). x ++ tail) (a.whole ∙ ap (λ (x : List Place). a.place ∷ x) b.whole) in
     let mark : a.place.character ≡ 33 = unfolded_mark a.place.character a.is in
     let other : begins_text (codes "!--") (f.mark ++ tail) ≡ false =
-        ap (begins_text (codes "!--")) marks
-        ∙ ap (λ (x : Bool). x && (eqb b.place.character 45 && begins_text (codes "-") (b.more ++ tail))) (eq-eqb a.place.character 33 mark)
-        ∙ ap (λ (x : Bool). x && begins_text (codes "-") (b.more ++ tail)) (unfolded_other b.place.character b.is) in
+    ap (begins_text (codes "!--")) marks
+    ∙ ap (λ (x : Bool). x && (eqb b.place.character 45 && begins_text (codes "-") (b.more ++ tail))) (eq-eqb a.place.character 33 mark)
+    ∙ ap (λ (x : Bool). x && begins_text (codes "-") (b.more ++ tail)) (unfolded_other b.place.character b.is) in
     let stops : begins_with (is_other 62) (f.last ∷ rest) ≡ false = ap (is_other 62) f.ends in
     let behind : behind_while (is_other 62) tail ≡ f.last ∷ rest = behind_back (is_other 62) f.inner (f.last ∷ rest) f.passes stops in
     ap (front_token n) whole
@@ -340,19 +352,19 @@ token_back n (Start tag) one rest h le = by_form h.1
   where
     by_form : IsStart tag one rest → front_token n (one ++ rest) ≡ token_answer (Start tag) rest
     by_form (inl g) =
-        started_back n tag one rest g.0 le
+        started_back n tag one rest g.0 h.2 le
         ∙ no_raw tag rest h.0
         ∙ ap (λ (b : Bool). cond b (token_answer (Start tag) (behind_first rest)) (token_answer (Start tag) rest)) g.1
     by_form (inr g) =
         ap (λ (x : List Place). front_token n (x ++ rest)) g.2 ∙ ap (front_token n) (append_assoc g.0 (g.1 ∷ []) rest)
-        ∙ started_back n tag g.0 (g.1 ∷ rest) g.3 (front_less g.0 (g.1 ∷ []) one (suc n) g.2 le)
+        ∙ started_back n tag g.0 (g.1 ∷ rest) g.3 h.2 (front_less g.0 (g.1 ∷ []) one (suc n) g.2 le)
         ∙ no_raw tag (g.1 ∷ rest) h.0
         ∙ ap (λ (b : Bool). cond b (token_answer (Start tag) rest) (token_answer (Start tag) (g.1 ∷ rest))) g.4
 token_back n (Raw tag text) one rest h le =
     let f = h.1 in
     ap (λ (x : List Place). front_token n (x ++ rest)) f.whole
     ∙ ap (front_token n) (append_assoc f.tagged (f.inner ++ f.ending) rest ∙ ap (λ (x : List Place). f.tagged ++ x) (append_assoc f.inner f.ending rest))
-    ∙ started_back n tag f.tagged (f.inner ++ (f.ending ++ rest)) f.tag_is (front_less f.tagged (f.inner ++ f.ending) one (suc n) f.whole le)
+    ∙ started_back n tag f.tagged (f.inner ++ (f.ending ++ rest)) f.tag_is h.2 (front_less f.tagged (f.inner ++ f.ending) one (suc n) f.whole le)
     ∙ some_raw tag (f.inner ++ (f.ending ++ rest)) h.0
     ∙ raw_back tag text one rest f
 token_back n (End at m) one rest f le =

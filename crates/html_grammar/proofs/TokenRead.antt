@@ -18,11 +18,11 @@ use Rattle.html_grammar.specs.Places.{behind_first, place_or, codes_while, behin
 use Rattle.html_grammar.specs.Tokens.{is_space, fault, late_of}
 use Rattle.html_grammar.specs.declared.dom.Attribute.{Attribute}
 use Rattle.html_grammar.specs.Lexing.{is_past_name, is_name_char, is_other, begins_text, begins_folded, meaning_at, no_attributes, attributes_from, is_doubled, tag_name, end_at, ends_raw, raw_codes, behind_raw, raw_piece, raw_ended, raw_at, bad_reference, tag_of, behind_tag, or_doubled, start_at, from_text, comment_at, doctype_at, mark_at, char_by_meaning, token_at, with_late}
-use Rattle.html_grammar.specs.Spelling.{IsAttributes, BeginsUnknown, codes_of, Passes, NoneBegins, BeginsReference, IsTagName, IsTag, IsEndTag, takes_line_feed, begins_markup, IsToken}
+use Rattle.html_grammar.specs.Spelling.{IsAttributes, BeginsUnknown, codes_of, Passes, NoneBegins, BeginsReference, IsTagName, IsTag, IsOnce, IsEndTag, takes_line_feed, begins_markup, IsToken}
 use Rattle.html_grammar.proofs.Spans.{First, begins_first, span}
 use Rattle.html_grammar.proofs.ReferenceForms.{Meant, meant, not_plain}
 use Rattle.html_grammar.proofs.AttributeForms.{Gives, gives_bind, gives_if, same_length}
-use Rattle.html_grammar.proofs.AttributeRead.{ListedAs, attributes_give}
+use Rattle.html_grammar.proofs.AttributeRead.{Listed, attributes_give}
 
 -- a token that was read, behind its first place
 pub record Reads (p : Place) (ps : List Place) (x : Token × List Place) : Type 0 where
@@ -53,7 +53,7 @@ tag_named (q ∷ front) ps rest e passes codes_are stops letter letters = (sym (
 pub letter_in_name : (c : ℕ) → is_ascii_alphabetic c ≡ true → is_name_char c ≡ true
 letter_in_name c h = grind (arith, h)
 
-end_gives : (at : ℕ) (ps : List Place) → Gives (EndForm at ps) (end_at at ps)
+pub end_gives : (at : ℕ) (ps : List Place) → Gives (EndForm at ps) (end_at at ps)
 unfolding end_at
 end_gives at ps = by_letter (begins_with is_ascii_alphabetic ps) (begins 62 (behind_while is_space (behind_while is_name_char ps))) refl refl
   where
@@ -72,8 +72,15 @@ end_gives at ps = by_letter (begins_with is_ascii_alphabetic ps) (begins 62 (beh
           token = refl;
           whole = s.whole ∙ ap (λ (x : List Place). s.front ++ x) (spaced ∙ sym (append_assoc w.front (f.place ∷ []) rest)) ∙ sym (append_assoc s.front (w.front ++ f.place ∷ []) rest);
           is = λ angle slash opens stands slashed. record {
-            angle = angle; slash = slash; named = s.front; white = w.front; last = f.place; whole = refl;
-            opens = opens; stands = stands; slashed = slashed;
+            angle = angle;
+            slash = slash;
+            named = s.front;
+            white = w.front;
+            last = f.place;
+            whole = refl;
+            opens = opens;
+            stands = stands;
+            slashed = slashed;
             name_is = tag_named s.front ps (behind_while is_name_char ps) s.whole s.passes s.codes_are s.stops letter letter_in_name;
             stops = ap (begins_with is_name_char) (sym spaced) ∙ s.stops;
             spaces = w.passes;
@@ -91,7 +98,7 @@ pub record RawSpan (name : List ℕ) (ps : List Place) : Type 0 where
   pub codes_are : raw_codes name ps ≡ codes_of inner
   pub over : begins 60 (behind_raw name ps) ≡ true → ends_raw name (behind_raw name ps) ≡ true
 
-raw_span : (name : List ℕ) (ps : List Place) → RawSpan name ps
+pub raw_span : (name : List ℕ) (ps : List Place) → RawSpan name ps
 raw_span name [] = record { inner = []; whole = refl; not_over = tt; codes_are = refl; over = λ h. absurd cc }
 raw_span name (p ∷ ps) = by_end (raw_span name ps) (ends_raw name (p ∷ ps)) refl
   where
@@ -99,7 +106,9 @@ raw_span name (p ∷ ps) = by_end (raw_span name ps) (ends_raw name (p ∷ ps)) 
     by_end s true h =
         let e : behind_raw name (p ∷ ps) ≡ p ∷ ps = ap (λ (b : Bool). cond b (p ∷ ps) (behind_raw name ps)) h in
         record {
-          inner = []; whole = sym e; not_over = tt;
+          inner = [];
+          whole = sym e;
+          not_over = tt;
           codes_are = ap (λ (b : Bool). cond b [] (p.character ∷ raw_codes name ps)) h;
           over = λ _. ap (ends_raw name) e ∙ h;
         }
@@ -120,7 +129,7 @@ pub record TextSpan (t : List ℕ) (ps : List Place) : Type 0 where
   pub not_over : NoneBegins (begins_text t) inner (from_text t ps)
   pub over : begins 45 (from_text t ps) ≡ true → begins_text t (from_text t ps) ≡ true
 
-text_span : (t : List ℕ) (ps : List Place) → TextSpan t ps
+pub text_span : (t : List ℕ) (ps : List Place) → TextSpan t ps
 text_span t [] = record { inner = []; whole = refl; not_over = tt; over = λ h. absurd cc }
 text_span t (p ∷ ps) = by_end (text_span t ps) (begins_text t (p ∷ ps)) refl
   where
@@ -185,9 +194,9 @@ piece_place : (inner rest : List Place) → raw_piece (place_or 0 (inner ++ rest
 piece_place [] rest = refl
 piece_place (p ∷ inner) rest = refl
 
-raw_gives : (p : Place) (tag : Tag) (all ps : List Place) → is_raw tag.name ≡ true → (tag.late ≡ None → Tagged p tag all ps) → Gives (Sound p all) (raw_at tag ps)
+raw_gives : (p : Place) (tag : Tag) (all ps : List Place) → is_raw tag.name ≡ true → Tagged p tag all ps → IsOnce tag → Gives (Sound p all) (raw_at tag ps)
 unfolding raw_at
-raw_gives p tag all ps raw make = by_end (begins 60 (behind_raw tag.name ps)) refl
+raw_gives p tag all ps raw t once = by_end (begins 60 (behind_raw tag.name ps)) refl
   where
     name : List ℕ
     name = tag.name
@@ -197,7 +206,6 @@ raw_gives p tag all ps raw make = by_end (begins 60 (behind_raw tag.name ps)) re
         → ends_raw tag.name (behind_raw tag.name ps) ≡ true
         → (x : Token × List Place) → EndForm angle.at more x → tag.late ≡ None → Reads p all (Raw tag (raw_piece (place_or 0 ps) (raw_codes tag.name ps)), x.1)
     ended angle slash more e opens slashed over x f ok =
-        let t = make ok in
         let s = raw_span tag.name ps in
         let ending = angle ∷ (slash ∷ f.form) in
         let behind : behind_raw tag.name ps ≡ ending ++ x.1 = e ∙ ap (λ (u : List Place). angle ∷ (slash ∷ u)) f.whole in
@@ -205,14 +213,24 @@ raw_gives p tag all ps raw make = by_end (begins 60 (behind_raw tag.name ps)) re
         record {
           front = t.front ++ (s.inner ++ ending);
           whole = t.whole ∙ ap (λ (u : List Place). t.front ++ u) (inside ∙ sym (append_assoc s.inner ending x.1)) ∙ sym (append_assoc t.front (s.inner ++ ending) x.1);
-          is = (raw, record {
-            tagged = p ∷ t.front; inner = s.inner; ending = ending; at = angle.at; name = f.name; whole = refl;
-            tag_is = subst (IsTag tag (p ∷ t.front)) inside t.is;
-            not_over = subst (NoneBegins (ends_raw tag.name) s.inner) behind s.not_over;
-            over = ap (ends_raw tag.name) (sym behind) ∙ over;
-            end_is = f.is angle slash opens refl slashed;
-            text_is = ap (raw_piece (place_or 0 ps)) s.codes_are ∙ ap (λ (u : List Place). raw_piece (place_or 0 u) (codes_of s.inner)) s.whole ∙ piece_place s.inner (behind_raw tag.name ps);
-          });
+          is = (
+            raw,
+            record {
+              tagged = p ∷ t.front;
+              inner = s.inner;
+              ending = ending;
+              at = angle.at;
+              name = f.name;
+              whole = refl;
+              tag_is = subst (IsTag tag (p ∷ t.front)) inside t.is;
+              not_over = subst (NoneBegins (ends_raw tag.name) s.inner) behind s.not_over;
+              over = ap (ends_raw tag.name) (sym behind) ∙ over;
+              end_is = f.is angle slash opens refl slashed;
+              text_is = ap (raw_piece (place_or 0 ps)) s.codes_are ∙ ap (λ (u : List Place). raw_piece (place_or 0 u) (codes_of s.inner)) s.whole ∙ piece_place s.inner (behind_raw tag.name ps);
+            },
+            once,
+            ok,
+          );
         }
 
     by_ended : (angle slash : Place) (more : List Place) → behind_raw tag.name ps ≡ angle ∷ (slash ∷ more) → angle.character ≡ 60 → slash.character ≡ 47
@@ -236,18 +254,17 @@ raw_gives p tag all ps raw make = by_end (begins 60 (behind_raw tag.name ps)) re
     by_end false h = λ ok. absurd cc
 
 -- a tag and what belongs to it
-behind_gives : (p : Place) (tag : Tag) (all ps : List Place) → (tag.late ≡ None → Tagged p tag all ps) → Gives (Sound p all) (behind_tag tag ps)
+behind_gives : (p : Place) (tag : Tag) (all ps : List Place) → Tagged p tag all ps → IsOnce tag → Gives (Sound p all) (behind_tag tag ps)
 unfolding behind_tag
-behind_gives p tag all ps make = by_raw (is_raw tag.name) refl
+behind_gives p tag all ps t once = by_raw (is_raw tag.name) refl
   where
     fed : (feed : Place) (more : List Place) → ps ≡ feed ∷ more → takes_line_feed tag ps ≡ true → is_raw tag.name ≡ false → tag.late ≡ None → Reads p all (Start tag, behind_first ps)
     fed feed more e takes raw ok =
-        let t = make ok in
         let last : ps ≡ feed ∷ behind_first ps = e ∙ ap (λ (u : List Place). feed ∷ u) (sym (ap behind_first e)) in
         record {
           front = t.front ++ feed ∷ [];
           whole = t.whole ∙ ap (λ (u : List Place). t.front ++ u) last ∙ sym (append_assoc t.front (feed ∷ []) (behind_first ps));
-          is = (raw, inr (p ∷ t.front, feed, refl, subst (IsTag tag (p ∷ t.front)) last t.is, ap (takes_line_feed tag) (sym last) ∙ takes));
+          is = (raw, inr (p ∷ t.front, feed, refl, subst (IsTag tag (p ∷ t.front)) last t.is, ap (takes_line_feed tag) (sym last) ∙ takes), once, ok);
         }
 
     by_feed : is_raw tag.name ≡ false → (b : Bool) → takes_line_feed tag ps ≡ b → Gives (Sound p all) (cond b (Ok (Start tag, behind_first ps)) (Ok (Start tag, ps)))
@@ -255,47 +272,48 @@ behind_gives p tag all ps make = by_raw (is_raw tag.name) refl
         let a = and_parts (same tag.name (codes "pre")) (begins 10 ps) h in
         let f = begins_first 10 ps a.1 in
         fed f.place f.more f.whole h raw
-    by_feed raw false h = λ ok. let t = make ok in record { front = t.front; whole = t.whole; is = (raw, inl (t.is, h)) }
+    by_feed raw false h = λ ok. record { front = t.front; whole = t.whole; is = (raw, inl (t.is, h), once, ok) }
 
     by_raw : (b : Bool) → is_raw tag.name ≡ b → Gives (Sound p all) (cond b (raw_at tag ps) (cond (takes_line_feed tag ps) (Ok (Start tag, behind_first ps)) (Ok (Start tag, ps))))
-    by_raw true h = raw_gives p tag all ps h make
+    by_raw true h = raw_gives p tag all ps h t once
     by_raw false h = by_feed h (takes_line_feed tag ps) refl
+
+-- the form of a start tag
+pub tag_form : (p : Place) (ps : List Place) (y : ReadAttributes × List Place) → p.character ≡ 60 → begins_with is_ascii_alphabetic ps ≡ true → Listed no_attributes (behind_while is_name_char ps) y → Tagged p (tag_of p.at (tag_name ps) y.0) ps y.1
+tag_form p ps y opens letter l =
+    let s = span is_name_char ps in
+    record {
+      front = s.front ++ l.one;
+      whole = s.whole ∙ ap (λ (u : List Place). s.front ++ u) l.whole ∙ sym (append_assoc s.front l.one y.1);
+      is = record {
+        angle = p;
+        named = s.front;
+        more = l.one;
+        bad = l.bad;
+        whole = refl;
+        opens = opens;
+        stands = refl;
+        name_is = tag_named s.front ps (behind_while is_name_char ps) s.whole s.passes s.codes_are s.stops letter letter_in_name;
+        stops = ap (begins_with is_name_char) (sym l.whole) ∙ s.stops;
+        attributes_are = subst (λ (u : Option ℕ). IsAttributes y.0.all u l.bad l.one y.1) (sym l.unknown_is)
+            (subst (λ (u : List Attribute). IsAttributes u l.unknown l.bad l.one y.1) (sym l.all_are) l.is);
+        late = ap (option_map bad_reference) l.bad_is;
+      };
+    }
+
+pub name_shorter : (n : ℕ) (ps : List Place) → length ps ≤ n → length (behind_while is_name_char ps) ≤ n
+name_shorter n ps le = let s = span is_name_char ps in let l = same_length s.front (behind_while is_name_char ps) ps s.whole in omega (arith, l, le)
 
 started_gives : (n : ℕ) (p : Place) (ps : List Place) → length ps ≤ n → p.character ≡ 60 → begins_with is_ascii_alphabetic ps ≡ true → Gives (Sound p ps) (start_at n p.at ps)
 unfolding start_at
 started_gives n p ps le opens letter =
-    gives_bind (ListedAs no_attributes (behind_while is_name_char ps)) (Sound p ps) (attributes_from n n p.at no_attributes (behind_while is_name_char ps)) (or_doubled p.at (tag_name ps))
-      (attributes_give n n p.at no_attributes (behind_while is_name_char ps) shorter refl) (λ y h. by_doubled y h (is_doubled y.0.all) refl)
+    gives_bind (Listed no_attributes (behind_while is_name_char ps)) (Sound p ps) (attributes_from n n p.at no_attributes (behind_while is_name_char ps)) (or_doubled p.at (tag_name ps))
+    (attributes_give n n p.at no_attributes (behind_while is_name_char ps) (name_shorter n ps le)) (λ y h. by_doubled y h (is_doubled y.0.all) refl)
   where
-    shorter : length (behind_while is_name_char ps) ≤ n
-    shorter = let s = span is_name_char ps in let l = same_length s.front (behind_while is_name_char ps) ps s.whole in omega (arith, l, le)
-
-    none_late : (bad : Option ℕ) → option_map bad_reference bad ≡ None → bad ≡ None
-    none_late None h = refl
-    none_late (Some b) h = absurd cc
-
-    made : (y : ReadAttributes × List Place) → ListedAs no_attributes (behind_while is_name_char ps) y → is_doubled y.0.all ≡ false → (tag_of p.at (tag_name ps) y.0).late ≡ None → Tagged p (tag_of p.at (tag_name ps) y.0) ps y.1
-    made y h once ok =
-        let s = span is_name_char ps in
-        let l = h (none_late y.0.bad ok) in
-        record {
-          front = s.front ++ l.one;
-          whole = s.whole ∙ ap (λ (u : List Place). s.front ++ u) l.whole ∙ sym (append_assoc s.front l.one y.1);
-          is = record {
-            angle = p; named = s.front; more = l.one; whole = refl; opens = opens; stands = refl;
-            name_is = tag_named s.front ps (behind_while is_name_char ps) s.whole s.passes s.codes_are s.stops letter letter_in_name;
-            stops = ap (begins_with is_name_char) (sym l.whole) ∙ s.stops;
-            attributes_are = subst (λ (u : Option ℕ). IsAttributes y.0.all u l.one y.1) (sym l.unknown_is)
-                (subst (λ (u : List Attribute). IsAttributes u l.unknown l.one y.1) (sym l.all_are) l.is);
-            once = once;
-            sound = ok;
-          };
-        }
-
-    by_doubled : (y : ReadAttributes × List Place) → ListedAs no_attributes (behind_while is_name_char ps) y → (b : Bool) → is_doubled y.0.all ≡ b
+    by_doubled : (y : ReadAttributes × List Place) → Listed no_attributes (behind_while is_name_char ps) y → (b : Bool) → is_doubled y.0.all ≡ b
         → Gives (Sound p ps) (cond b (fault p.at 4) (behind_tag (tag_of p.at (tag_name ps) y.0) y.1))
     by_doubled y h true e = tt
-    by_doubled y h false e = behind_gives p (tag_of p.at (tag_name ps) y.0) ps y.1 (made y h e)
+    by_doubled y h false e = behind_gives p (tag_of p.at (tag_name ps) y.0) ps y.1 (tag_form p ps y opens letter h) e
 
 comment_gives : (p : Place) (ps : List Place) → p.character ≡ 60 → begins_text (codes "!--") ps ≡ true → Gives (Sound p ps) (comment_at p.at (drop 3 ps))
 unfolding comment_at
@@ -309,7 +327,10 @@ comment_gives p ps opens marks = gives_if (Sound p ps) (begins 45 (from_text (co
       front = m.front ++ (s.inner ++ c.front);
       whole = m.whole ∙ ap (λ (u : List Place). m.front ++ u) (inside ∙ sym (append_assoc s.inner c.front rest)) ∙ sym (append_assoc m.front (s.inner ++ c.front) rest);
       is = record {
-        opening = p ∷ m.front; inner = s.inner; closing = c.front; whole = refl;
+        opening = p ∷ m.front;
+        inner = s.inner;
+        closing = c.front;
+        whole = refl;
         opens = ap (λ (u : ℕ). u ∷ codes_of m.front) opens ∙ ap (λ (u : List ℕ). 60 ∷ u) m.codes_are;
         stands = refl;
         closes = c.codes_are;
@@ -369,16 +390,19 @@ char_gives p ps amp = by_meaning' (meaning_at ps).0 (meaning_at ps).1 refl (mean
   where
     by_meaning' : (m : Meaning) (rest : List Place) → meaning_at ps ≡ (m, rest) → Meant m rest ps → Gives (Sound p ps) (char_by_meaning p.at (m, rest))
     by_meaning' meanings.Plain rest e h = λ ok. record {
-      front = []; whole = sym h;
+      front = [];
+      whole = sym h;
       is = ((p, refl, refl, amp, λ _ b. not_plain ps rest e (subst BeginsReference h b)), not_angle p 38 amp refl rest []);
     }
     by_meaning' meanings.Unknown rest e h = λ ok. record {
-      front = []; whole = sym h.0;
+      front = [];
+      whole = sym h.0;
       is = ((p, refl, refl, amp, refl, subst BeginsUnknown (sym h.0) h.1), not_angle p 38 amp refl rest []);
     }
     by_meaning' meanings.Bad rest e h = tt
     by_meaning' (meanings.Character c) rest e h = λ ok. record {
-      front = h.0; whole = h.1;
+      front = h.0;
+      whole = h.1;
       is = ((p, h.0, refl, refl, amp, h.2), not_angle p 38 amp refl rest h.0);
     }
 
@@ -390,7 +414,7 @@ token_gives n p ps le = by_angle (p.character == 60) refl
     by_question : p.character ≡ 60 → begins_with is_ascii_alphabetic ps ≡ false → begins 47 ps ≡ false → begins 33 ps ≡ false → (b : Bool) → begins 63 ps ≡ b → Gives (Sound p ps) (cond b (fault p.at 3) (Ok (Char p.at p.character Plain, ps)))
     by_question opens a c d true h = tt
     by_question opens a c d false h = λ ok. plain_gives p ps (λ e. absurd (true≢false (sym (eq-eqb p.character 38 e) ∙ ap (λ (u : ℕ). eqb u 38) opens)))
-      (λ _. ap (λ (u : Bool). u || (begins 47 ps || (begins 33 ps || begins 63 ps))) a ∙ ap (λ (u : Bool). u || (begins 33 ps || begins 63 ps)) c ∙ ap (λ (u : Bool). u || begins 63 ps) d ∙ h)
+        (λ _. ap (λ (u : Bool). u || (begins 47 ps || (begins 33 ps || begins 63 ps))) a ∙ ap (λ (u : Bool). u || (begins 33 ps || begins 63 ps)) c ∙ ap (λ (u : Bool). u || begins 63 ps) d ∙ h)
 
     by_mark : p.character ≡ 60 → begins_with is_ascii_alphabetic ps ≡ false → begins 47 ps ≡ false → (b : Bool) → begins 33 ps ≡ b → Gives (Sound p ps) (cond b (mark_at p.at ps) (cond (begins 63 ps) (fault p.at 3) (Ok (Char p.at p.character Plain, ps))))
     by_mark opens a c true h = mark_gives p ps opens
@@ -411,6 +435,6 @@ token_gives n p ps le = by_angle (p.character == 60) refl
 
     by_angle : (b : Bool) → (p.character == 60) ≡ b
         → Gives (Sound p ps) (cond b (cond (begins_with is_ascii_alphabetic ps) (start_at n p.at ps) (cond (begins 47 ps) (end_at p.at (behind_first ps)) (cond (begins 33 ps) (mark_at p.at ps) (cond (begins 63 ps) (fault p.at 3) (Ok (Char p.at p.character Plain, ps))))))
-          (cond (p.character == 38) (char_by_meaning p.at (meaning_at ps)) (Ok (Char p.at p.character Plain, ps))))
+        (cond (p.character == 38) (char_by_meaning p.at (meaning_at ps)) (Ok (Char p.at p.character Plain, ps))))
     by_angle true h = by_letter (eqb-true p.character 60 h) (begins_with is_ascii_alphabetic ps) refl
     by_angle false h = by_amp h (p.character == 38) refl

@@ -128,7 +128,7 @@ element_once name at at' m m' attrs attrs' kids kids' next next' behind behind' 
     let a = once next' behind end end' after after' h hc (subst (λ (x : List Token). Content name next' x end') (sym s.afters) g) gc in
     record {
       forests = ap (λ (x : ℕ). Element x m attrs kids next) s.ats ∙ ap (λ (x : List ℕ). Element at' x attrs kids next) s.names ∙ ap (λ (x : List Attribute). Element at' m' x kids next) s.attributes
-        ∙ ap (λ (x : Forest). Element at' m' attrs' x next) s.inner ∙ ap (λ (x : Forest). Element at' m' attrs' kids' x) a.forests;
+          ∙ ap (λ (x : Forest). Element at' m' attrs' x next) s.inner ∙ ap (λ (x : Forest). Element at' m' attrs' kids' x) a.forests;
       ends = a.ends;
       afters = a.afters;
     }
@@ -147,7 +147,7 @@ content_once name (Element at m attrs kids next) Nil toks end end' after after' 
 content_once name (Element at m attrs kids next) (Words at' text' next') toks end end' after after' h hc g gc = no_words_as_element at' g.0 g.1 at m attrs kids (skip_comments toks) g.2 h.0 h.1 h.2 h.3 g.3 h.5
 content_once name (Element at m attrs kids next) (Element at' m' attrs' kids' next') toks end end' after after' h hc g gc =
     element_once name at at' m m' attrs attrs' kids kids' next next' h.3 g.3 end end' after after' (content_once name next)
-      (form_once at at' m m' attrs attrs' kids kids' (skip_comments toks) h.0 g.0 h.1 g.1 h.2 g.2 h.3 g.3 (content_once m kids) h.5 g.5) h.6 hc g.6 gc
+    (form_once at at' m m' attrs attrs' kids kids' (skip_comments toks) h.0 g.0 h.1 g.1 h.2 g.2 h.3 g.3 (content_once m kids) h.5 g.5) h.6 hc g.6 gc
 
 pub one_tree : (size : ℕ) (toks : List Token) (f g : Forest) → IsDocument size toks f → IsDocument size toks g → f ≡ g
 one_tree size toks f g d e =
@@ -155,7 +155,7 @@ one_tree size toks f g d e =
     let q = head_part_is e.head_kids (head_begun size toks).inner e.past e.head_part in
     let pasts : e.past ≡ d.past = q.1 ∙ sym p.1 in
     let a = content_once (codes "body") d.kids e.kids (body_begun size d.past).inner d.end e.end d.after e.after d.content d.closed
-              (subst (λ (x : List Token). Content (codes "body") e.kids (body_begun size x).inner e.end) pasts e.content) e.closed in
+    (subst (λ (x : List Token). Content (codes "body") e.kids (body_begun size x).inner e.end) pasts e.content) e.closed in
     d.whole
     ∙ ap (λ (x : Forest). whole_tree (html_begun size toks) (head_begun size toks) x (body_begun size d.past) d.kids) (p.0 ∙ sym q.0)
     ∙ ap (λ (x : List Token). whole_tree (html_begun size toks) (head_begun size toks) e.head_kids (body_begun size x) d.kids) (sym pasts)

@@ -55,8 +55,8 @@ document_is_read size toks tree d =
     let all = all_nodes n (body_node body) d.kids in
     let deepest = deepened (head_depth size toks) 1 d.kids in
     let whole : whole_tree html head (head_forest head.inner) body d.kids ≡ tree =
-        ap (λ (x : List Token). whole_tree html head (head_forest head.inner) (body_begun size x) d.kids) (sym e.1)
-        ∙ ap (λ (x : Forest). whole_tree html head x (body_begun size d.past) d.kids) (sym e.0) ∙ sym d.whole in
+    ap (λ (x : List Token). whole_tree html head (head_forest head.inner) (body_begun size x) d.kids) (sym e.1)
+    ∙ ap (λ (x : Forest). whole_tree html head x (body_begun size d.past) d.kids) (sym e.0) ∙ sym d.whole in
     built_is_body size toks
     ∙ over_content size (codes "body") d.kids (n ++ body_node body ∷ []) (length n) [] true (head_depth size toks) (body_tokens size toks) d.end content
     ∙ over_end size all (length n) (codes "body") [] true deepest d.end d.after d.closed

@@ -77,8 +77,8 @@ Content name (Words at text next) toks rest =
 Content name (Element at m attrs kids next) toks rest =
     (unknown : Option ℕ) × (late : Option Fault) × (inner : List Token) × (after : List Token) × (closes m name ≡ false)
     × (((skip_comments toks ≡ Start (tag_as at m attrs unknown late) ∷ inner) × (is_outer m ≡ false)
-        × MatchBool (is_void m) ((kids ≡ Nil) × (after ≡ inner)) ((end : List Token) × Content m kids inner end × Closed m end after))
-      ⊎ ((text : Option Piece) × (skip_comments toks ≡ Raw (tag_as at m attrs unknown late) text ∷ inner) × (kids ≡ raw_forest text) × (after ≡ inner)))
+    × MatchBool (is_void m) ((kids ≡ Nil) × (after ≡ inner)) ((end : List Token) × Content m kids inner end × Closed m end after))
+    ⊎ ((text : Option Piece) × (skip_comments toks ≡ Raw (tag_as at m attrs unknown late) text ∷ inner) × (kids ≡ raw_forest text) × (after ≡ inner)))
     × Content name next after rest
 
 abbrev pub begins_head_element : List Token → Bool
@@ -92,7 +92,7 @@ HeadPart (Words at text next) toks rest = ⊥
 HeadPart (Element at m attrs kids next) toks rest =
     (unknown : Option ℕ) × (late : Option Fault) × (inner : List Token)
     × (((skip_blank toks ≡ Start (tag_as at m attrs unknown late) ∷ inner) × (is_head_void m ≡ true) × (kids ≡ Nil))
-      ⊎ ((text : Option Piece) × (skip_blank toks ≡ Raw (tag_as at m attrs unknown late) text ∷ inner) × (kids ≡ raw_forest text)))
+    ⊎ ((text : Option Piece) × (skip_blank toks ≡ Raw (tag_as at m attrs unknown late) text ∷ inner) × (kids ≡ raw_forest text)))
     × HeadPart next inner rest
 
 -- Where one of html, head and body begins: with its tag, or, where that is missing, at the next token or at the end of
@@ -127,8 +127,8 @@ body_begun size past = begun (codes "body") size (skip_blank (behind_end (codes 
 abbrev pub whole_tree : Begun → Begun → Forest → Begun → Forest → Forest
 whole_tree html head head_kids body kids =
     Element html.at (codes "html") html.attributes
-      (Element head.at (codes "head") head.attributes head_kids
-        (Element body.at (codes "body") body.attributes kids Nil)) Nil
+    (Element head.at (codes "head") head.attributes head_kids
+    (Element body.at (codes "body") body.attributes kids Nil)) Nil
 
 -- The tokens of a text of this many bytes are a document with this tree.
 pub record IsDocument (size : ℕ) (toks : List Token) (tree : Forest) : Type 0 where

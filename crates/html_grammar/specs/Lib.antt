@@ -11,3 +11,4 @@ pub mod Laws
 pub mod Spelling
 pub mod Whole
 pub mod Documents
+pub mod FirstFaults

@@ -1,6 +1,6 @@
 -- Which characters spell which token: the forms. Where a form says what may not stand behind it, it goes as far as it
 -- can.
-use Rattle.std.specs.Prelude.{◌≡◌, ◌⊎◌, ℕ, List, [], ◌∷◌, ◌++◌, map, Bool, true, false, ◌&&◌, ◌||◌, Option, Some, None, codes, encode_utf8_all}
+use Rattle.std.specs.Prelude.{◌≡◌, ◌⊎◌, ℕ, List, [], ◌∷◌, ◌++◌, map, Bool, true, false, ◌&&◌, ◌||◌, Option, Some, None, option_map, codes, encode_utf8_all}
 use Rattle.std.specs.Char.{to_ascii_lowercase, is_ascii_alphabetic, is_ascii_alphanumeric}
 use Rattle.html_grammar.specs.declared.dom.Attribute.{Attribute}
 use Rattle.html_grammar.specs.declared.place.Place.{Place}
@@ -15,7 +15,7 @@ use Rattle.html_grammar.specs.References.{named_character}
 use Rattle.html_grammar.specs.Places.{place_or, begins_with, begins}
 use Rattle.html_grammar.specs.Tokens.{is_space}
 use Rattle.html_grammar.specs.Grammar.{run_text}
-use Rattle.html_grammar.specs.Lexing.{is_name_char, is_key_char, is_bare_char, is_other, begins_text, number_from, is_character, is_radix_digit, or_first, is_doubled, ends_raw, raw_piece}
+use Rattle.html_grammar.specs.Lexing.{is_name_char, is_key_char, is_bare_char, is_other, begins_text, number_from, is_character, is_radix_digit, or_first, is_doubled, ends_raw, raw_piece, bad_reference}
 
 abbrev pub codes_of : List Place → List ℕ
 codes_of ps = map (λ p. p.character) ps
@@ -74,6 +74,9 @@ abbrev pub BeginsReference : List Place → Type 0
 BeginsReference ps = (form : List Place) × (more : List Place) × (ps ≡ form ++ more)
     × (((n : ℕ) × IsNumberReference n form) ⊎ ((name : List ℕ) × IsNameReference name form))
 
+abbrev pub BeginsBad : List Place → Type 0
+BeginsBad ps = (form : List Place) × (more : List Place) × (ps ≡ form ++ more) × IsBadReference form
+
 abbrev pub BeginsUnknown : List Place → Type 0
 BeginsUnknown ps = (form : List Place) × (more : List Place) × (ps ≡ form ++ more) × IsUnknownReference form
 
@@ -84,16 +87,23 @@ IsCharacter at c Plain one rest = (p : Place) × (one ≡ p ∷ []) × (p.at ≡
 IsCharacter at c Reference one rest = (p : Place) × (form : List Place) × (one ≡ p ∷ form) × (p.at ≡ at) × (p.character ≡ 38) × IsReference c form
 IsCharacter at c Unknown one rest = (p : Place) × (one ≡ p ∷ []) × (p.at ≡ at) × (p.character ≡ 38) × (c ≡ 38) × BeginsUnknown rest
 
--- Text, each character of which begins with one that passes a test, by its tokens.
-abbrev pub IsText : (ℕ → Bool) → List Token → List Place → List Place → Type 0
-IsText test [] one rest = one ≡ []
-IsText test (Start tag ∷ ts) one rest = ⊥
-IsText test (Raw tag text ∷ ts) one rest = ⊥
-IsText test (End at m ∷ ts) one rest = ⊥
-IsText test (Comment at ∷ ts) one rest = ⊥
-IsText test (Doctype at ∷ ts) one rest = ⊥
-IsText test (Char at c s ∷ ts) one rest = (here : List Place) × (more : List Place) × (one ≡ here ++ more)
-    × IsCharacter at c s here (more ++ rest) × (begins_with test here ≡ true) × IsText test ts more rest
+-- The same in a value, where the & of a reference to no character is read as it stands, and marked by its place.
+abbrev pub IsPiece : ℕ → ℕ → Spelled → Option ℕ → List Place → List Place → Type 0
+IsPiece at c s None one rest = IsCharacter at c s one rest
+IsPiece at c s (Some bad) one rest = (p : Place) × (one ≡ p ∷ []) × (p.at ≡ at) × (p.character ≡ 38) × (c ≡ 38) × (s ≡ Plain) × (bad ≡ at) × BeginsBad rest
+
+-- Text, each piece of which begins with a character that passes a test, by its tokens, and the first place that is
+-- marked.
+abbrev pub IsText : (ℕ → Bool) → List Token → Option ℕ → List Place → List Place → Type 0
+IsText test [] bad one rest = (one ≡ []) × (bad ≡ None)
+IsText test (Start tag ∷ ts) bad one rest = ⊥
+IsText test (Raw tag text ∷ ts) bad one rest = ⊥
+IsText test (End at m ∷ ts) bad one rest = ⊥
+IsText test (Comment at ∷ ts) bad one rest = ⊥
+IsText test (Doctype at ∷ ts) bad one rest = ⊥
+IsText test (Char at c s ∷ ts) bad one rest = (here : List Place) × (more : List Place) × (one ≡ here ++ more)
+    × (now : Option ℕ) × (later : Option ℕ) × (bad ≡ or_first now later)
+    × IsPiece at c s now here (more ++ rest) × (begins_with test here ≡ true) × IsText test ts later more rest
 
 -- where the first reference stands whose name isn't in the table
 abbrev pub unknown_here : ℕ → Spelled → Option ℕ
@@ -113,30 +123,30 @@ first_unknown (Char at c s ∷ ts) = or_first (unknown_here at s) (first_unknown
 -- Attributes.
 
 -- a value in quotes, or without
-pub record IsQuoted (q : ℕ) (toks : List Token) (at : ℕ) (form rest : List Place) : Type 0 where
+pub record IsQuoted (q : ℕ) (toks : List Token) (bad : Option ℕ) (at : ℕ) (form rest : List Place) : Type 0 where
   pub opening : Place
   pub inner : List Place
   pub closing : Place
   pub whole : form ≡ opening ∷ (inner ++ closing ∷ [])
   pub opens : opening.character ≡ q
   pub closes : closing.character ≡ q
-  pub text : IsText (is_other q) toks inner (closing ∷ rest)
+  pub text : IsText (is_other q) toks bad inner (closing ∷ rest)
   pub stands : at ≡ place_or 0 (inner ++ closing ∷ [])
 
-abbrev pub IsBare : List Token → ℕ → List Place → List Place → Type 0
-IsBare toks at form rest = IsText is_bare_char toks form rest × (begins_with is_bare_char form ≡ true) × (begins_with is_bare_char rest ≡ false) × (at ≡ place_or 0 form)
+abbrev pub IsBare : List Token → Option ℕ → ℕ → List Place → List Place → Type 0
+IsBare toks bad at form rest = IsText is_bare_char toks bad form rest × (begins_with is_bare_char form ≡ true) × (begins_with is_bare_char rest ≡ false) × (at ≡ place_or 0 form)
 
-abbrev pub IsValue : List Token → ℕ → List Place → List Place → Type 0
-IsValue toks at form rest = IsQuoted 34 toks at form rest ⊎ (IsQuoted 39 toks at form rest ⊎ IsBare toks at form rest)
+abbrev pub IsValue : List Token → Option ℕ → ℕ → List Place → List Place → Type 0
+IsValue toks bad at form rest = IsQuoted 34 toks bad at form rest ⊎ (IsQuoted 39 toks bad at form rest ⊎ IsBare toks bad at form rest)
 
 -- behind an attribute's name: nothing, or = and the value
-abbrev pub IsAssigned : ℕ → Attribute → Option ℕ → List Place → List Place → Type 0
-IsAssigned at a unknown tail rest =
-    ((tail ≡ []) × (begins 61 rest ≡ false) × (a.value ≡ []) × (a.offset ≡ at) × (unknown ≡ None))
-    ⊎ ((equals : Place) × (form : List Place) × (toks : List Token) × (tail ≡ equals ∷ form) × (equals.character ≡ 61) × IsValue toks a.offset form rest
-      × (a.value ≡ run_text toks) × (unknown ≡ first_unknown toks))
+abbrev pub IsAssigned : ℕ → Attribute → Option ℕ → Option ℕ → List Place → List Place → Type 0
+IsAssigned at a unknown bad tail rest =
+    ((tail ≡ []) × (begins 61 rest ≡ false) × (a.value ≡ []) × (a.offset ≡ at) × (unknown ≡ None) × (bad ≡ None))
+    ⊎ ((equals : Place) × (form : List Place) × (toks : List Token) × (tail ≡ equals ∷ form) × (equals.character ≡ 61) × IsValue toks bad a.offset form rest
+    × (a.value ≡ run_text toks) × (unknown ≡ first_unknown toks))
 
-pub record IsAttribute (a : Attribute) (unknown : Option ℕ) (one rest : List Place) : Type 0 where
+pub record IsAttribute (a : Attribute) (unknown bad : Option ℕ) (one rest : List Place) : Type 0 where
   pub first : Place
   pub more : List Place
   pub tail : List Place
@@ -144,7 +154,7 @@ pub record IsAttribute (a : Attribute) (unknown : Option ℕ) (one rest : List P
   pub named : Passes is_key_char (first ∷ more)
   pub stops : begins_with is_key_char (tail ++ rest) ≡ false
   pub name_is : a.name ≡ encode_utf8_all (map to_ascii_lowercase (codes_of (first ∷ more)))
-  pub value_is : IsAssigned first.at a unknown tail rest
+  pub value_is : IsAssigned first.at a unknown bad tail rest
 
 -- the end of a start tag: white space, perhaps /, and >
 pub record IsTagEnd (one : List Place) : Type 0 where
@@ -155,11 +165,12 @@ pub record IsTagEnd (one : List Place) : Type 0 where
   pub whole : (one ≡ white ++ last ∷ []) ⊎ ((slash : Place) × (slash.character ≡ 47) × (one ≡ white ++ (slash ∷ (last ∷ []))))
 
 -- attributes, each behind white space, and the end of the tag
-abbrev pub IsAttributes : List Attribute → Option ℕ → List Place → List Place → Type 0
-IsAttributes [] unknown one rest = (unknown ≡ None) × IsTagEnd one
-IsAttributes (a ∷ others) unknown one rest =
-    (here : Option ℕ) × (later : Option ℕ) × (white : List Place) × (spelled : List Place) × (more : List Place) × (one ≡ white ++ (spelled ++ more))
-    × SomePass is_space white × (unknown ≡ or_first here later) × IsAttribute a here spelled (more ++ rest) × IsAttributes others later more rest
+abbrev pub IsAttributes : List Attribute → Option ℕ → Option ℕ → List Place → List Place → Type 0
+IsAttributes [] unknown bad one rest = (unknown ≡ None) × (bad ≡ None) × IsTagEnd one
+IsAttributes (a ∷ others) unknown bad one rest =
+    (here : Option ℕ) × (later : Option ℕ) × (now : Option ℕ) × (then : Option ℕ) × (white : List Place) × (spelled : List Place) × (more : List Place) × (one ≡ white ++ (spelled ++ more))
+    × SomePass is_space white × (unknown ≡ or_first here later) × (bad ≡ or_first now then)
+    × IsAttribute a here now spelled (more ++ rest) × IsAttributes others later then more rest
 
 -- Tags.
 
@@ -168,19 +179,23 @@ abbrev pub IsTagName : List Place → List ℕ → Type 0
 IsTagName [] name = ⊥
 IsTagName (p ∷ ps) name = (is_ascii_alphabetic p.character ≡ true) × Passes is_name_char (p ∷ ps) × (name ≡ map to_ascii_lowercase (codes_of (p ∷ ps)))
 
--- <, a name, attributes of which no two have one name, >
+-- <, a name, attributes, >; the tag is marked with the first reference in it that names no character
 pub record IsTag (tag : Tag) (one rest : List Place) : Type 0 where
   pub angle : Place
   pub named : List Place
   pub more : List Place
+  pub bad : Option ℕ
   pub whole : one ≡ angle ∷ (named ++ more)
   pub opens : angle.character ≡ 60
   pub stands : angle.at ≡ tag.at
   pub name_is : IsTagName named tag.name
   pub stops : begins_with is_name_char (more ++ rest) ≡ false
-  pub attributes_are : IsAttributes tag.attributes tag.unknown more rest
-  pub once : is_doubled tag.attributes ≡ false
-  pub sound : tag.late ≡ None
+  pub attributes_are : IsAttributes tag.attributes tag.unknown bad more rest
+  pub late : tag.late ≡ option_map bad_reference bad
+
+-- a tag of which no two attributes have one name
+abbrev pub IsOnce : Tag → Type 0
+IsOnce tag = is_doubled tag.attributes ≡ false
 
 -- </, a name, white space, >
 pub record IsEndTag (at : ℕ) (name : List ℕ) (one rest : List Place) : Type 0 where
@@ -249,10 +264,11 @@ pub record IsDoctype (at : ℕ) (one : List Place) : Type 0 where
 abbrev pub begins_markup : List Place → Bool
 begins_markup ps = begins_with is_ascii_alphabetic ps || (begins 47 ps || (begins 33 ps || begins 63 ps))
 
--- These places spell this token, and those stand behind it.
+-- These places spell this token, and those stand behind it. No two attributes of a tag have one name, and each
+-- reference names a character.
 abbrev pub IsToken : Token → List Place → List Place → Type 0
-IsToken (Start tag) one rest = (is_raw tag.name ≡ false) × IsStart tag one rest
-IsToken (Raw tag text) one rest = (is_raw tag.name ≡ true) × IsRaw tag text one rest
+IsToken (Start tag) one rest = (is_raw tag.name ≡ false) × IsStart tag one rest × IsOnce tag × (tag.late ≡ None)
+IsToken (Raw tag text) one rest = (is_raw tag.name ≡ true) × IsRaw tag text one rest × IsOnce tag × (tag.late ≡ None)
 IsToken (End at m) one rest = IsEndTag at m one rest
 IsToken (Comment at) one rest = IsComment at one rest
 IsToken (Doctype at) one rest = IsDoctype at one

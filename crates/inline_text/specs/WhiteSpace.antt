@@ -1,7 +1,7 @@
 -- How white space collapses (CSS 2.1, section 16.6.1): space, tab and line feed, by the style of each character. A piece
 -- of a run is seen between the pieces before it, the nearest first, and the pieces after it.
-use Rattle.std.specs.Prelude.{ℕ, ◌≡◌, ◌<◌, Bool, true, false, ◌||◌, ◌&&◌, ◌==◌, List, [], ◌∷◌, ◌++◌, length, Option, Some, None, replicate, slice_get, if◌then◌else◌}
-use Rattle.std.specs.List.{AllByRecursion}
+use Rattle.std.specs.Prelude.{ℕ, ◌≡◌, ◌<◌, Bool, true, false, ◌||◌, ◌&&◌, ◌==◌, List, [], ◌∷◌, ◌++◌, length, Option, Some, None, IsTrue, not, replicate, reverse, slice_get, if◌then◌else◌}
+use Rattle.std.specs.List.{All}
 use Rattle.inline_text.specs.declared.content.Piece.{Piece}
 use Rattle.inline_text.specs.declared.content.Piece.TheVariants.{Char, Image, Forced, Chance}
 use Rattle.inline_text.specs.declared.content.RunStyle.{RunStyle}
@@ -18,7 +18,7 @@ HasStyle styles Chance = Unit {0}
 
 -- the styles that the pieces of a run name are there
 abbrev pub HasStyles : Runs → Type 0
-HasStyles runs = AllByRecursion (HasStyle runs.styles) runs.pieces
+HasStyles runs = All (HasStyle runs.styles) runs.pieces
 
 abbrev kept_by : Option RunStyle → Bool
 kept_by None = false
@@ -102,3 +102,17 @@ collapsed runs = collapsed_behind runs.styles [] runs.pieces
 -- the run is as it is after collapsing
 abbrev pub IsCollapsed : Runs → Type 0
 IsCollapsed runs = collapsed runs ≡ runs.pieces
+
+-- white space that collapses stands between content alone: none behind another, and none at the start, at the end or
+-- beside a forced break
+abbrev pub SpacesStandBetween : Runs → Type 0
+SpacesStandBetween runs =
+    (before : List Piece) (piece : Piece) (after : List Piece) → runs.pieces ≡ reverse before ++ piece ∷ after
+    → kind_of runs.styles piece ≡ Space → IsTrue (follows_content runs.styles before) × IsTrue (precedes_content runs.styles after)
+
+-- a character that is no white space, an image or a `wbr`
+abbrev pub is_no_space : Piece → Bool
+is_no_space (Char ch style) = not (is_white ch)
+is_no_space (Image w h style) = true
+is_no_space Forced = false
+is_no_space Chance = true

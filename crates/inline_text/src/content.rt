@@ -1,5 +1,6 @@
 //! The inline content of a block container as a list of pieces.
 
+use font_table::FaceId;
 use mc_base::{List, Units};
 
 /// The inline content of a block container (or of an anonymous block), in document order.
@@ -28,7 +29,7 @@ pub enum Piece {
 /// soft hyphen may be a break opportunity (it is false for `hyphens: none`).
 #[derive(Clone, Copy)]
 pub struct RunStyle {
-    pub face: u32,
+    pub face: FaceId,
     pub size: Units,
     pub line: Units,
     pub wrap: bool,

@@ -4,6 +4,13 @@
 //! opportunities; `collapse` and `opportunities` are proved to be exactly that.
 #![tactic(auto)]
 
+mod collapsing;
 mod content;
+mod places;
+mod styles;
+#[cfg(test)]
+mod tests;
 
+pub use collapsing::collapse;
 pub use content::{Kind, Piece, RunStyle, Runs};
+pub use places::opportunities;

@@ -1,0 +1,13 @@
+mod Advance
+mod DepthSame
+mod Exists
+mod Laying
+mod Needs
+mod Reach
+mod Rejects
+mod RowsAdvance
+mod RowsStay
+mod Small
+mod StopStays
+mod Strips
+mod Totals

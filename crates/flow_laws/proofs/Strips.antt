@@ -1,0 +1,26 @@
+-- A strip reaches no further than all that is laid in it.
+use Rattle.std.proofs.Common.{ℕ, ◌+◌, ◌≤◌, max, Bool, true, false, cond, List, [], ◌∷◌, arith, sum_by}
+use Rattle.std.proofs.lemmas.Bool.Decides.{nat_tests}
+use Rattle.std.proofs.lemmas.List.Sums.{sum_by-cons}
+use Rattle.flow_list.specs.declared.data.Edge.{Edge}
+use Rattle.flow_list.specs.declared.data.Edge.TheVariants.{Margin, Solid, Wall, Start, End}
+use Rattle.flow_list.specs.Flows.{amount}
+use Rattle.flow_list.specs.Strip.{Strip, put, lay, lay_all}
+
+pub put_le : (s : Strip) (a : ℕ) → (put s a).y + (put s a).pending ≤ s.y + s.pending + a
+put_le s a = grind (arith, nat_tests)
+
+margin_le : (b : Bool) (p m : ℕ) → cond b p (max p m) ≤ p + m
+margin_le true p m = omega arith
+margin_le false p m = omega arith
+
+pub lay_le : (s : Strip) (e : Edge) → (lay s e).y + (lay s e).pending ≤ s.y + s.pending + amount e
+lay_le s (Margin m) = omega (arith, margin_le s.drops s.pending m)
+lay_le s (Solid a) = put_le s a
+lay_le s Wall = omega arith
+lay_le s (Start b) = omega arith
+lay_le s (End b) = omega arith
+
+pub lay_all_le : (s : Strip) (es : List Edge) → (lay_all s es).y + (lay_all s es).pending ≤ s.y + s.pending + sum_by amount es
+lay_all_le s [] = omega arith
+lay_all_le s (e ∷ es) = omega (arith, lay_all_le (lay s e) es, lay_le s e, sum_by-cons amount e es)

@@ -1,0 +1,4 @@
+pub mod Scan
+pub mod Settled
+pub mod Laws
+pub mod PlaceLemmas

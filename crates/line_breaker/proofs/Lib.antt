@@ -1,0 +1,5 @@
+pub mod Halves
+pub mod Between
+pub mod Following
+pub mod Ends
+pub mod Laws

@@ -1,0 +1,17 @@
+//! The lines of inline content.
+//!
+//! It stands on mc_base, font_table and inline_text. `break_lines` cuts a collapsed run into lines that are exactly those of
+//! the definition in `specs/`, with their widths and heights.
+#![tactic(auto)]
+
+mod ahead;
+mod breaking;
+mod height;
+mod line;
+mod measures;
+mod places;
+// #[cfg(test)]
+// mod tests;
+
+// pub use breaking::break_lines;
+pub use line::Line;
