@@ -3,11 +3,9 @@ mod DepthSame
 mod Exists
 mod Laying
 mod Needs
-mod Reach
 mod Rejects
 mod RowsAdvance
 mod RowsStay
 mod Small
 mod StopStays
-mod Strips
 mod Totals

@@ -7,6 +7,7 @@ use Rattle.std.proofs.lemmas.Bool.{cases_lt, cases_order}
 use Rattle.std.proofs.lemmas.List.{drop_more, drop-drop, drop_all, get_or-drop}
 use Rattle.std.proofs.lemmas.List.Sums.{sum_by-cons, sum_by-take-drop}
 use Rattle.std.proofs.Math.Nat.{suc-mul}
+use Rattle.flow_list.proofs.Fitting.{columns_by-step}
 use Rattle.flow_list.specs.declared.data.Flow.{Flow}
 use Rattle.flow_list.specs.declared.data.FlowsData.{FlowsData}
 use Rattle.flow_list.specs.declared.data.Item.{Item}
@@ -21,7 +22,7 @@ use Rattle.flow_list.specs.Rows.{columns, end_of, fits, fails, most_columns, all
 use Rattle.flow_laws.specs.Progress.{IsPlaceBefore}
 use Rattle.flow_laws.specs.Rejection.{TallAndAreaReject}
 use Rattle.flow_laws.proofs.Needs.{IsGoodStep, AreGoodSteps, column-steps, in-items}
-use Rattle.flow_laws.proofs.RowsAdvance.{by-cons, by-zero, column-is-later, not-before}
+use Rattle.flow_laws.proofs.RowsAdvance.{by-zero, column-is-later, not-before}
 
 -- the heights of the atoms among n items from item k on
 heights : Flow → ℕ → ℕ → ℕ
@@ -335,7 +336,7 @@ module _ (d : FlowsData) (sound : IsSound d) (r : ℕ) (lt : r < length d.rows) 
       let e' : is_end (flow_in d r) t ≡ true = subst Q (by-zero (λ q. column (all_rows d) d (flow_in d r) q h) (flow_in d r) t) ends in
       absurd cc
   columns-hold (suc n) h t place ends fine =
-      let cons = by-cons (λ q. column (all_rows d) d (flow_in d r) q h) (flow_in d r) n t (not-before d sound r lt t place) in
+      let cons = columns_by-step (λ q. column (all_rows d) d (flow_in d r) q h) (flow_in d r) n t (not-before d sound r lt t place) in
       let Q : List Column → Type 0 = λ cs. is_end (flow_in d r) (end_of t cs) ≡ true in
       let P : List Column → Type 0 = λ cs. list_any fails cs ≡ false in
       let first = fine-first (column (all_rows d) d (flow_in d r) t h) (from n (after t h) h) (subst P cons fine) in

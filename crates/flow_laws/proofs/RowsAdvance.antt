@@ -5,6 +5,7 @@ use Rattle.std.specs.List.{flat_map}
 use Rattle.std.proofs.lemmas.Bool.Decides.{nat_tests}
 use Rattle.std.proofs.lemmas.List.{drop_all}
 use Rattle.std.proofs.Math.Seq.{take-append_seam}
+use Rattle.flow_list.proofs.Fitting.{columns_by-step, columns_by-past}
 use Rattle.flow_list.specs.declared.data.Flow.{Flow}
 use Rattle.flow_list.specs.declared.data.FlowsData.{FlowsData}
 use Rattle.flow_list.specs.declared.data.Item.{Item}
@@ -50,24 +51,7 @@ nests-by-number d sound (suc k) r lt le =
     let good = good-rows d sound r lt in
     λ i e in_rows. nests-by-number d sound k _ (good i e in_rows).0 (let later = (sound.inner_rows r lt i e in_rows).later in omega arith)
 
--- ---- the first column, and none behind the end
-
-pub by-end : (make : Token → Column) (f : Flow) (n : ℕ) (t : Token) → is_end f t ≡ true → columns_by make f n t ≡ []
-unfolding columns_by
-by-end make f zero t e = refl
-by-end make f (suc n) t e = go (is_end f t) e
-  where
-    go : (b : Bool) → b ≡ true → elim b as (λ _. List Column) [ true ↦ [] | false ↦ make t ∷ columns_by make f n (make t).end ] ≡ []
-    go true e = refl
-    go false e = cc
-
-pub by-cons : (make : Token → Column) (f : Flow) (n : ℕ) (t : Token) → is_end f t ≡ false → columns_by make f (suc n) t ≡ make t ∷ columns_by make f n (make t).end
-unfolding columns_by
-by-cons make f n t e = go (is_end f t) e
-  where
-    go : (b : Bool) → b ≡ false → elim b as (λ _. List Column) [ true ↦ [] | false ↦ make t ∷ columns_by make f n (make t).end ] ≡ make t ∷ columns_by make f n (make t).end
-    go true e = cc
-    go false e = refl
+-- ---- no columns at all
 
 pub by-zero : (make : Token → Column) (f : Flow) (t : Token) → columns_by make f zero t ≡ []
 unfolding columns_by
@@ -90,10 +74,10 @@ module _ (d : FlowsData) (x : Inner) (c : Contents) (r : ℕ) (f : Flow) (moves 
   -- the first column, and then as many as the rest says
   later-cons : (n : ℕ) (t : Token) (h : ℕ) → IsPlaceBefore d f t → (IsPlaceBefore d f (next t h) → Later d x c r f t (end_of (next t h) (columns x d f n (next t h) h))) →
       Later d x c r f t (end_of t (columns x d f (suc n) t h))
-  later-cons n t h place rest = rw (by-cons (λ q. column x d f q h) f n t (before-end t place)) (go (column-later d x c r f moves t place h) (column-later d x c r f moves t place h).place)
+  later-cons n t h place rest = rw (columns_by-step (λ q. column x d f q h) f n t (before-end t place)) (go (column-later d x c r f moves t place h) (column-later d x c r f moves t place h).place)
     where
       go : Later d x c r f t (next t h) → ((is_end f (next t h) ≡ true) ⊎ IsPlaceBefore d f (next t h)) → Later d x c r f t (end_of (next t h) (columns x d f n (next t h) h))
-      go later (inl e) = rw (by-end (λ q. column x d f q h) f n (next t h) e) later
+      go later (inl e) = rw (columns_by-past (λ q. column x d f q h) f n (next t h) e) later
       go later (inr p) = rest p
 
   pub columns-later : (n : ℕ) (t : Token) (h : ℕ) → IsPlaceBefore d f t → Later d x c r f t (end_of t (columns x d f (suc n) t h))
@@ -120,11 +104,11 @@ module _ (d : FlowsData) (x : Inner) (c : Contents) (r : ℕ) (f : Flow) (moves 
 
   pub columns-end : (n : ℕ) (t : Token) (h : ℕ) → IsPlaceBefore d f t → left_in x f t ≤ n → is_end f (end_of t (columns x d f n t h)) ≡ true
   columns-end zero t h place le = let some = left-some t place in absurd (omega arith)
-  columns-end (suc n) t h place le = rw (by-cons (λ q. column x d f q h) f n t (before-end t place)) (go (λ p l. columns-end n (next t h) h p l) (column-later d x c r f moves t place h) (column-later d x c r f moves t place h).place)
+  columns-end (suc n) t h place le = rw (columns_by-step (λ q. column x d f q h) f n t (before-end t place)) (go (λ p l. columns-end n (next t h) h p l) (column-later d x c r f moves t place h) (column-later d x c r f moves t place h).place)
     where
       go : (IsPlaceBefore d f (next t h) → left_in x f (next t h) ≤ n → is_end f (end_of (next t h) (columns x d f n (next t h) h)) ≡ true) →
           Later d x c r f t (next t h) → ((is_end f (next t h) ≡ true) ⊎ IsPlaceBefore d f (next t h)) → is_end f (end_of (next t h) (columns x d f n (next t h) h)) ≡ true
-      go again later (inl e) = rw (by-end (λ q. column x d f q h) f n (next t h) e) e
+      go again later (inl e) = rw (columns_by-past (λ q. column x d f q h) f n (next t h) e) e
       go again later (inr p) = again p (let less = later.fewer in omega arith)
 
 -- ---- rows within rows
@@ -227,7 +211,7 @@ module _ (d : FlowsData) (sound : IsSound d) (r : ℕ) (lt : r < length d.rows) 
       let e' : is_end (flow_in d r) t ≡ true = subst Q (by-zero (λ q. column (all_rows d) d (flow_in d r) q h) (flow_in d r) t) ends in
       absurd cc
   held-all (suc n) t h place ends =
-      let cons = by-cons (λ q. column (all_rows d) d (flow_in d r) q h) (flow_in d r) n t (not-before t place) in
+      let cons = columns_by-step (λ q. column (all_rows d) d (flow_in d r) q h) (flow_in d r) n t (not-before t place) in
       let later = column-is-later t h place in
       let P : List Column → Type 0 = λ cs. held_by d r t cs ≡ atoms_from d r t in
       let Q : List Column → Type 0 = λ cs. is_end (flow_in d r) (end_of t cs) ≡ true in
@@ -239,7 +223,7 @@ module _ (d : FlowsData) (sound : IsSound d) (r : ℕ) (lt : r < length d.rows) 
       go again later (inl e) ends =
           let rest = later.rest in
           let none = none-behind (after t h) e in
-          rw (between-is t (after t h) rest.0 rest.1, by-end (λ q. column (all_rows d) d (flow_in d r) q h) (flow_in d r) n (after t h) e) (ap (λ xs. rest.0 ++ xs) (sym none) ∙ sym rest.1)
+          rw (between-is t (after t h) rest.0 rest.1, columns_by-past (λ q. column (all_rows d) d (flow_in d r) q h) (flow_in d r) n (after t h) e) (ap (λ xs. rest.0 ++ xs) (sym none) ∙ sym rest.1)
       go again later (inr p) ends =
           let rest = later.rest in
           rw (between-is t (after t h) rest.0 rest.1, again p ends) (sym rest.1)

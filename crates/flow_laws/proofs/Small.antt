@@ -1,6 +1,6 @@
 -- Sizes, needs and extents are no more than all that stands in a row.
 use Rattle.std.proofs.Common.{◌≡◌, ℕ, zero, suc, ◌+◌, ◌-◌, ◌<◌, ◌≤◌, ◌^◌, Bool, true, false, cond, not, ◌&&◌, List, [], ◌∷◌, ◌++◌, length, drop, get_or, Option, Some, None, refl, arith, sum_by}
-use Rattle.std.specs.Prelude.{All, nat_lt, nat_le}
+use Rattle.std.specs.Prelude.{◌==◌, ◌||◌, All, nat_lt, nat_le}
 use Rattle.std.specs.List.{flat_map}
 use Rattle.std.proofs.lemmas.Bool.Decides.{nat_tests}
 use Rattle.std.proofs.lemmas.List.Sums.{sum_by-cons}
@@ -8,8 +8,8 @@ use Rattle.flow_list.specs.declared.data.Flow.{Flow}
 use Rattle.flow_list.specs.declared.data.FlowsData.{FlowsData}
 use Rattle.flow_list.specs.declared.data.Item.{Item}
 use Rattle.flow_list.specs.declared.data.Item.TheVariants.{Atom, Row}
-use Rattle.flow_list.specs.Flows.{box_of, row_of, flow_in, item_of, seam_of, row_in, rows_in, no_row, no_flow, atom_height, boxes_in, open_at}
-use Rattle.flow_list.specs.ClonedEdges.{open_across, bottoms}
+use Rattle.flow_list.specs.Flows.{amount, box_of, row_of, flow_in, item_of, seam_of, row_in, rows_in, no_row, no_flow, atom_height, boxes_in, open_at}
+use Rattle.flow_list.specs.ClonedEdges.{tops, open_across, bottoms}
 use Rattle.flow_list.specs.Soundness.{IsSound, IsSoundFlow, NestsAtMost, flow_height}
 use Rattle.flow_list.specs.Tokens.{Token, row_start, item_number, within}
 use Rattle.flow_list.specs.Strip.{Strip, strip_at, put, lay_all}
@@ -17,27 +17,12 @@ use Rattle.flow_list.specs.Column.{Filled, Inner, Step, Place, Cut, cut, longer,
 use Rattle.flow_list.specs.Rows.{heights_from, amounts_in, reach, size_in, fits, rows_to, all_rows, least}
 use Rattle.flow_list.specs.RowHeights.{size_of}
 use Rattle.flow_laws.specs.Bounds.{NeedsRise, NeedsAreSmall, NeedsAndBounds}
-use Rattle.flow_laws.proofs.Strips.{put_le, lay_all_le}
-use Rattle.flow_laws.proofs.Reach.{open_at-le, open_across-le, amounts-more, amounts-drop-le, heights-more, start-le}
+use Rattle.flow_list.proofs.StripBounds.{put_le, lay_all_le}
+use Rattle.flow_list.proofs.Fitting.{open_at-le, open_across-le, first-amounts, amounts-drop, first-height, size-reach}
 use Rattle.flow_laws.proofs.Needs.{AreGoodSteps, column-steps, in-items}
 use Rattle.flow_laws.proofs.StopStays.{cut-room}
 use Rattle.flow_laws.proofs.RowsAdvance.{good-rows, nests-by-number}
 use Rattle.flow_laws.proofs.Totals.{total_within, total-more, total-same, total-le}
-
--- ---- the size is no more than the reach
-
-least-le : (p : ℕ → Bool) (n lo : ℕ) → least p n lo ≤ lo + n
-unfolding least
-least-le p zero lo = omega arith
-least-le p (suc n) lo = go (p lo) (least-le p n (lo + 1))
-  where
-    go : (b : Bool) → least p n (lo + 1) ≤ lo + 1 + n → elim b as (λ _. ℕ) [ true ↦ lo | false ↦ least p n (lo + 1) ] ≤ lo + suc n
-    go true e = omega arith
-    go false e = omega arith
-
-size-reach : (inner : Inner) (d : FlowsData) (r : ℕ) (q : Token) → size_in inner d r q ≤ reach inner d (flow_in d r) q
-unfolding size_in
-size-reach inner d r q = let e = least-le (fits inner d r q) (reach inner d (flow_in d r) q) 0 in omega arith
 
 -- ---- the reach is no more than the total
 
@@ -129,6 +114,17 @@ module _ (d : FlowsData) (sound : IsSound d) where
 
 -- ---- needs, places and extents are no more than the reach
 
+start-le : (d : FlowsData) (f : Flow) (t : Token) → (start_strip d f t).y + (start_strip d f t).pending ≤ tops d (boxes_in f) + sum_by amount (seam_of f (item_number t)).head
+start-le d f [] = omega arith
+start-le d f (i ∷ []) = start (not (i == 0 || is_forced (seam_of f i).level))
+  where
+    start : (drops : Bool) → (lay_all (strip_at (tops d (open_across f i)) drops) (seam_of f i).head).y + (lay_all (strip_at (tops d (open_across f i)) drops) (seam_of f i).head).pending ≤ tops d (boxes_in f) + sum_by amount (seam_of f i).head
+    start drops =
+        let e = lay_all_le (strip_at (tops d (open_across f i)) drops) (seam_of f i).head in
+        let o : tops d (open_across f i) ≤ tops d (boxes_in f) = open_across-le _ f i in
+        omega arith
+start-le d f (i ∷ (j ∷ q)) = let o : tops d (open_at f i) ≤ tops d (boxes_in f) = open_at-le _ f i in omega arith
+
 module _ (inner : Inner) (d : FlowsData) (f : Flow) (top : ℕ) where
   -- what is so of an item in a column that may reach top
   record IsWithinTop (s : Step) : Type 0 where
@@ -146,8 +142,8 @@ module _ (inner : Inner) (d : FlowsData) (f : Flow) (top : ℕ) where
   steps-within s k q zero le b = tt
   steps-within s k q (suc n) le b =
       let in_items : k < length f.items = omega arith in
-      let here = heights-more inner q f.items k in_items in
-      let seam = amounts-more f.seams (k + 1) in
+      let here = first-height inner q f.items k in
+      let seam = first-amounts f.seams (k + 1) in
       let a = put_le s (height_of inner (item_of f k) q) in
       let c = lay_all_le (put s (height_of inner (item_of f k) q)) (seam_of f (k + 1)).tail in
       let m = lay_all_le (strip_behind inner f s k q) (seam_of f (k + 1)).head in
@@ -172,8 +168,8 @@ module _ (inner : Inner) (d : FlowsData) (f : Flow) (top : ℕ) where
   within-reach : (t : Token) → item_number t < length f.items → reach inner d f t ≤ top → AllWithinTop (steps_from inner d f t)
   within-reach t lt b =
       let a = start-le d f t in
-      let e = amounts-more f.seams (item_number t) in
-      let l = amounts-drop-le f.seams (item_number t) in
+      let e = first-amounts f.seams (item_number t) in
+      let l = amounts-drop f.seams (item_number t) in
       steps-within (start_strip d f t) (item_number t) (within t) (length f.items - item_number t) (omega arith) (omega arith)
 
   -- ---- places
