@@ -1,11 +1,13 @@
 //! Reading a document.
 
-ghost use Rattle.std.specs.Prelude.{◌≡◌, ◌+◌, ◌*◌, ◌<◌, ◌≤◌, ◌^◌, length, chars, take_while, None, Ok, OnOk, IfOk};
+ghost use Rattle.std.specs.Prelude.{◌≡◌, ◌+◌, ◌*◌, ◌<◌, ◌≤◌, ◌^◌, length, chars, take_while, None, Ok, OnOk, IfOk, IfErr, ◌⊎◌};
 ghost use Rattle.std.specs.Str.Lossy.{utf8_valid_len};
 ghost use Rattle.html_grammar.specs.Machine.{opening_state};
 ghost use Rattle.html_grammar.specs.Places.{places_of};
 ghost use Rattle.html_grammar.specs.Whole as whole;
 ghost use Rattle.html_grammar.specs.Documents.{IsDomOf};
+ghost use Rattle.html_grammar.specs.FirstFaults.{IsRefusalOf};
+ghost use Rattle.mc_base.specs.declared.refusal.Refusal.TheVariants.{NoMemory};
 ghost use Rattle.html_grammar.specs.declared.dom.Dom.{Dom as ADom};
 ghost use Rattle.html_subset.specs.Gives.{Gives, IsUnlessMemory};
 ghost use Rattle.html_subset.specs.Building.{state_of};
@@ -221,7 +223,9 @@ pub fn parse(alloc: Global, text: &[u8]) -> Result<Dom, Refusal>
     ensures found { IfOk result (λ dom. IsDomOf text.now dom) }
     // What the text spells is answered, and nothing else, unless memory runs out.
     ensures only { (dom : ADom) → IsDomOf text.now dom → IsUnlessMemory result (Ok dom) }
-    // Which refusal it is.
+    // A refusal has its reason: the first fault, or a limit that the document passes; unless memory ran out.
+    ensures refused { IfErr result (λ e. (e ≡ NoMemory) ⊎ IsRefusalOf text.now e) }
+    // Which answer it is.
     ensures exact { IsUnlessMemory result (whole.dom_of text.now) }
 {
     dom_of(alloc, text)
