@@ -1,0 +1,6 @@
+pub mod Numbers
+pub mod Forms
+pub mod Structure
+pub mod Text
+pub mod Limits
+pub mod Answer

@@ -1,0 +1,19 @@
+//! The text of flow files: lines, and the rows, items, edges and boxes that they stand for.
+//!
+//! It stands on mc_base. It promises that a text is read just where it is on the grammar of `specs/` and within its limits,
+//! and else says the first fault or the first limit that is passed.
+#![tactic(auto)]
+
+mod cut;
+mod fault;
+mod form;
+mod limit;
+mod line;
+mod number;
+mod reading;
+mod stack;
+mod structure;
+
+pub use form::form_of;
+pub use line::{Form, Line};
+pub use reading::read;
