@@ -10,7 +10,7 @@ use Rattle.flow_text.specs.declared.structure.Reading.{Reading}
 use Rattle.flow_text.specs.declared.structure.Reading.TheVariants as readings
 use Rattle.flow_text.specs.Structure as structure
 use Rattle.flow_text.specs.Structure.{◌>>=◌, Fails, fault_of_ending}
-use Rattle.flow_text.specs.Text.{line_len, Cut, grown, cuts, line_at, Read, read_on, ended_at, lines_of}
+use Rattle.flow_text.specs.Text.{len_before, line_len, Cut, grown, cuts, line_at, Read, read_on, ended_at, lines_in}
 
 -- the first line is n bytes long
 abbrev cut_at : ℕ → ℕ → List ℕ → Cut
@@ -71,7 +71,7 @@ goes_on r next lines line text front rest at k after total lt is_k is_front is_r
 -- nothing more is read behind a fault
 pub bad_line : (e : ReadError) (r : Reading) (lines : List Line) (text front rest : List ℕ) (at k : ℕ) → at < length text
     → k ≡ line_len (drop at text) → front ≡ take k (drop at text) → rest ≡ drop k (drop at text) → Fails e (line_at r at front (not (eqb (length rest) 0)))
-    → read_on r lines (cuts at (drop at text)) ≡ read_on readings.Opening [] (cuts 0 text) → Fails e (lines_of text)
+    → read_on r lines (cuts at (drop at text)) ≡ read_on readings.Opening [] (cuts 0 text) → Fails e (lines_in text)
 bad_line errors.Memory r lines text front rest at k lt is_k is_front is_rest fails so_far = tt
 bad_line (errors.Fault f) r lines text front rest at k lt is_k is_front is_rest fails so_far =
     let one = turn r lines text at lt in
@@ -80,7 +80,7 @@ bad_line (errors.Fault f) r lines text front rest at k lt is_k is_front is_rest 
 
 pub bad_place : (e : ReadError) (r : Reading) (lines : List Line) (line : Line) (text front rest : List ℕ) (at k : ℕ) → at < length text
     → k ≡ line_len (drop at text) → front ≡ take k (drop at text) → rest ≡ drop k (drop at text) → line_at r at front (not (eqb (length rest) 0)) ≡ Ok line → Fails e (structure.take r line)
-    → read_on r lines (cuts at (drop at text)) ≡ read_on readings.Opening [] (cuts 0 text) → Fails e (lines_of text)
+    → read_on r lines (cuts at (drop at text)) ≡ read_on readings.Opening [] (cuts 0 text) → Fails e (lines_in text)
 bad_place errors.Memory r lines line text front rest at k lt is_k is_front is_rest is_line fails so_far = tt
 bad_place (errors.Fault f) r lines line text front rest at k lt is_k is_front is_rest is_line fails so_far =
     let one = turn r lines text at lt in
@@ -89,14 +89,14 @@ bad_place (errors.Fault f) r lines line text front rest at k lt is_k is_front is
 
 -- at the end of the text
 all_read : (r : Reading) (lines : List Line) (text : List ℕ) (at : ℕ) → length text ≤ at → read_on r lines (cuts at (drop at text)) ≡ read_on readings.Opening [] (cuts 0 text)
-    → lines_of text ≡ ended_at (length text) (record { reading = r; lines = lines })
+    → lines_in text ≡ ended_at (length text) (record { reading = r; lines = lines })
 unfolding read_on cuts
 all_read r lines text at le so_far = rw (sym so_far, drop_all at text le) refl
 
 pub may_end : (r : Reading) (lines : List Line) (text : List ℕ) (at : ℕ) → length text ≤ at → read_on r lines (cuts at (drop at text)) ≡ read_on readings.Opening [] (cuts 0 text)
-    → fault_of_ending r (length text) ≡ None → lines_of text ≡ Ok lines
+    → fault_of_ending r (length text) ≡ None → lines_in text ≡ Ok lines
 may_end r lines text at le so_far none = all_read r lines text at le so_far ∙ rw none refl
 
 pub may_not_end : (r : Reading) (lines : List Line) (text : List ℕ) (at : ℕ) (f : Fault) → length text ≤ at → read_on r lines (cuts at (drop at text)) ≡ read_on readings.Opening [] (cuts 0 text)
-    → fault_of_ending r (length text) ≡ Some f → lines_of text ≡ Err f
+    → fault_of_ending r (length text) ≡ Some f → lines_in text ≡ Err f
 may_not_end r lines text at f le so_far some = all_read r lines text at le so_far ∙ rw some refl

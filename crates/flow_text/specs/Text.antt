@@ -1,5 +1,6 @@
 -- The text of a flow file: its lines with their offsets, and what is read in it.
-use Rattle.std.specs.Prelude.{◌≡◌, ℕ, suc, ◌+◌, ◌==◌, nat_lt, List, [], ◌∷◌, ◌++◌, length, Bool, true, false, ◌||◌, if◌then◌else◌, Option, Some, None, Result, Ok, Err}
+use Rattle.std.specs.Prelude.{◌≡◌, ℕ, suc, ◌+◌, ◌==◌, nat_lt, min, List, [], ◌∷◌, ◌++◌, length, Bool, true, false, ◌||◌, if◌then◌else◌, Option, Some, None, Result, Ok, Err}
+use Rattle.std.specs.Str.Lossy.{utf8_valid_len}
 use Rattle.flow_text.specs.declared.line.Line.{Line}
 use Rattle.flow_text.specs.declared.line.Form.{Form}
 use Rattle.flow_text.specs.declared.fault.Fault.{Fault}
@@ -14,10 +15,17 @@ IsText at [] bytes = bytes ≡ []
 IsText at (line ∷ lines) bytes =
     (line.at ≡ at) × (text rest : List ℕ) × IsForm line.form text × (bytes ≡ text ++ 10 ∷ rest) × IsText (at + length text + 1) lines rest
 
--- how many bytes stand before the first line feed
+-- how many bytes stand before the first of this value
+abbrev pub len_before : ℕ → List ℕ → ℕ
+len_before stop [] = 0
+len_before stop (b ∷ bytes) = if b == stop then 0 else suc (len_before stop bytes)
+
 abbrev pub line_len : List ℕ → ℕ
-line_len [] = 0
-line_len (b ∷ bytes) = if b == 10 then 0 else suc (line_len bytes)
+line_len bytes = len_before 10 bytes
+
+-- how many bytes stand before the first U+0000 and the first sequence that is no UTF-8
+abbrev pub sound_len : List ℕ → ℕ
+sound_len bytes = min (len_before 0 bytes) (utf8_valid_len bytes)
 
 -- where the first byte stands that isn't from space to `~`
 abbrev pub first_bad : ℕ → List ℕ → Option ℕ
@@ -79,6 +87,10 @@ read_on reading lines (c ∷ cuts) = line_at reading c.at c.text c.ended >>= λ 
 abbrev pub ended_at : ℕ → Read → Result (List Line) Fault
 ended_at size r = unless (fault_of_ending r.reading size) (Ok r.lines)
 
+-- the lines of bytes without U+0000 and bad sequences
+abbrev pub lines_in : List ℕ → Result (List Line) Fault
+lines_in bytes = read_on readings.Opening [] (cuts 0 bytes) >>= ended_at (length bytes)
+
 -- the lines of a text, or its first fault
-abbrev pub lines_of : List ℕ → Result (List Line) Fault
-lines_of bytes = read_on readings.Opening [] (cuts 0 bytes) >>= ended_at (length bytes)
+unfoldable pub lines_of : List ℕ → Result (List Line) Fault
+lines_of bytes = if nat_lt (sound_len bytes) (length bytes) then fault (sound_len bytes) 1 else lines_in bytes

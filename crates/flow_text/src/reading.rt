@@ -6,7 +6,7 @@ ghost use Rattle.flow_text.specs.Text as texts;
 ghost use Rattle.flow_text.specs.Answer as answers;
 ghost use Rattle.flow_text.specs.Answer.{IsAnswer, answer_of};
 
-use crate::cut::{bad_byte, line_len};
+use crate::cut::{bad_byte, len_before, sound_len};
 use crate::fault::{Fault, ReadError, fault_at};
 use crate::form::form_of;
 use crate::limit::limit_passed;
@@ -55,16 +55,16 @@ fn line_at(reading: &Reading, at: u64, text: &[u8], ended: bool) -> Result<Line,
     Ok(Line { at, form })
 }
 
-/// The lines of a text, or its first fault.
-fn lines_of(alloc: Global, text: &[u8]) -> Result<List<Line>, ReadError>
-    ensures { Gives result (texts.lines_of text.now) }
+/// The lines of a text without U+0000 and bad sequences, or its first fault.
+fn lines_in(alloc: Global, text: &[u8]) -> Result<List<Line>, ReadError>
+    ensures { Gives result (texts.lines_in text.now) }
 {
     let mut reading = Reading::Opening;
     let mut lines = List::new(alloc);
     let mut at = 0;
     while at < text.len() {
         let rest = text.split_at(at).1;
-        let (front, behind) = rest.split_at(line_len(rest));
+        let (front, behind) = rest.split_at(len_before(b'\n', rest));
         let line = line_at(&reading, at as u64, front, !behind.is_empty())?;
         reading = take(alloc, reading, line)?;
         lines.push(line)?;
@@ -74,6 +74,18 @@ fn lines_of(alloc: Global, text: &[u8]) -> Result<List<Line>, ReadError>
         return Err(ReadError::Fault(fault));
     }
     Ok(lines)
+}
+
+/// The lines of a text, or its first fault.
+#[tactic(auto, unfolding(crate::specs::Text::lines_of))]
+fn lines_of(alloc: Global, text: &[u8]) -> Result<List<Line>, ReadError>
+    ensures { Gives result (texts.lines_of text.now) }
+{
+    let sound = sound_len(text);
+    if sound < text.len() {
+        return Err(fault_at(sound as u64, 1));
+    }
+    lines_in(alloc, text)
 }
 
 /// The refusal of a fault, at its byte.
