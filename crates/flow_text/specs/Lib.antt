@@ -4,3 +4,5 @@ pub mod Structure
 pub mod Text
 pub mod Limits
 pub mod Answer
+pub mod Grammar
+pub mod Run

@@ -7,6 +7,7 @@
 mod cut;
 mod fault;
 mod form;
+mod laws;
 mod limit;
 mod line;
 mod number;
@@ -15,5 +16,6 @@ mod stack;
 mod structure;
 
 pub use form::form_of;
+pub use laws::{flow_files_are_read, what_is_read_is_a_flow_file};
 pub use line::{Form, Line};
 pub use reading::read;

@@ -1,0 +1,19 @@
+//! What the reader's functions on lists mean: laws, each the contract of a function without a body.
+
+ghost use Rattle.std.specs.Prelude.{◌≡◌, List, Ok, Err};
+ghost use Rattle.flow_text.specs.declared.line.Line.{Line};
+ghost use Rattle.flow_text.specs.declared.structure.Reading.TheVariants as readings;
+ghost use Rattle.flow_text.specs.Grammar.{FlowFile, IsFlowFile};
+ghost use Rattle.flow_text.specs.Run.{run};
+
+/// What is a flow file is read to its end.
+pub fn flow_files_are_read()
+    ensures { (lines : List Line) (file : FlowFile) → IsFlowFile lines file → run readings.Opening lines ≡ Ok readings.Ended }
+{
+}
+
+/// What is read to its end is a flow file.
+pub fn what_is_read_is_a_flow_file()
+    ensures { (lines : List Line) → run readings.Opening lines ≡ Ok readings.Ended → (file : FlowFile) × IsFlowFile lines file }
+{
+}
