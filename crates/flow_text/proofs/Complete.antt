@@ -55,7 +55,7 @@ filled_touched (phases.Leading b) a = refl
 filled_touched phases.Filled a = refl
 filled_touched (phases.Behind b) a = refl
 
-touched_filled : (phase : Phase) (a : ℕ) → is_filled phase ≡ true → touched phase a ≡ phase
+pub touched_filled : (phase : Phase) (a : ℕ) → is_filled phase ≡ true → touched phase a ≡ phase
 touched_filled phases.Empty a h = absurd cc
 touched_filled (phases.Leading b) a h = absurd cc
 touched_filled phases.Filled a h = refl
