@@ -1,4 +1,5 @@
 pub mod NumberLemmas
 pub mod TextLemmas
+pub mod FormLemmas
 pub mod Complete
 pub mod Sound

@@ -16,6 +16,8 @@ mod stack;
 mod structure;
 
 pub use form::form_of;
-pub use laws::{flow_files_are_read, what_is_read_is_a_flow_file};
+pub use laws::{
+    flow_files_are_read, forms_are_read, what_is_read_is_a_flow_file, what_is_read_is_a_form,
+};
 pub use line::{Form, Line};
 pub use reading::read;
