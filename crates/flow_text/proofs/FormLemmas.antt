@@ -25,7 +25,7 @@ use Rattle.flow_text.specs.Numbers.{IsNumber, field, digits_len, is_numeral, num
 use Rattle.flow_text.specs.Forms.{level_text, available_text, fill_text, inside_text, IsAmounts, IsForm, ◌>>=◌, behind, alone, last_field, last_byte, level_of, level_at, fill_at, or_else, inside_at, both_at, amounts_at, start_at, row_end, row_open, row_behind, row_at, word_of, form_of}
 use Rattle.flow_text.proofs.NumberLemmas.{all_digits_front}
 
-own : IsNumeralModel (AllDigits 10) (digits_value 10)
+pub own : IsNumeralModel (AllDigits 10) (digits_value 10)
 own = numerals_by_value (AllDigits 10) tells_digits
 
 abbrev pub pass : {A : Type 0} → A → Option A

@@ -1,5 +1,6 @@
 pub mod NumberLemmas
 pub mod TextLemmas
 pub mod FormLemmas
+pub mod TextLaws
 pub mod Complete
 pub mod Sound

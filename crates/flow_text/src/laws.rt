@@ -7,6 +7,7 @@ ghost use Rattle.flow_text.specs.declared.line.Line.{Line};
 ghost use Rattle.flow_text.specs.declared.structure.Reading.TheVariants as readings;
 ghost use Rattle.flow_text.specs.Grammar.{FlowFile, IsFlowFile};
 ghost use Rattle.flow_text.specs.Run.{run};
+ghost use Rattle.flow_text.specs.Text.{IsText, lines_of};
 
 /// What is a flow file is read to its end.
 pub fn flow_files_are_read()
@@ -29,5 +30,17 @@ pub fn forms_are_read()
 /// What is read in a line is what it says.
 pub fn what_is_read_is_a_form()
     ensures { (text : List ℕ) (form : Form) → form_of text ≡ Some form → IsForm form text }
+{
+}
+
+/// A text whose lines are a flow file is read.
+pub fn texts_of_flow_files_are_read()
+    ensures { (text : List ℕ) (lines : List Line) (file : FlowFile) → IsText 0 lines text → IsFlowFile lines file → lines_of text ≡ Ok lines }
+{
+}
+
+/// What is read in a text is its lines, and they are a flow file.
+pub fn what_is_read_is_the_text_of_a_flow_file()
+    ensures { (text : List ℕ) (lines : List Line) → lines_of text ≡ Ok lines → IsText 0 lines text × (file : FlowFile) × IsFlowFile lines file }
 {
 }
