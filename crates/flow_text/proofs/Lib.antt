@@ -4,3 +4,4 @@ pub mod FormLemmas
 pub mod TextLaws
 pub mod Complete
 pub mod Sound
+pub mod AnswerLaws

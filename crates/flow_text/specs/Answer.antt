@@ -5,7 +5,8 @@ use Rattle.mc_base.specs.declared.refusal.Refusal.TheVariants as refusals
 use Rattle.mc_base.specs.declared.refusal.Input.TheVariants as inputs
 use Rattle.flow_text.specs.declared.line.Line.{Line}
 use Rattle.flow_text.specs.declared.fault.Fault.{Fault}
-use Rattle.flow_text.specs.Text.{lines_of}
+use Rattle.flow_text.specs.Text.{IsText, lines_of}
+use Rattle.flow_text.specs.Grammar.{FlowFile, IsFlowFile}
 use Rattle.flow_text.specs.Limits.{limit_passed}
 
 -- What a call answered is this answer, unless memory ran out.
@@ -34,3 +35,10 @@ answered (Err f) = Err (refusal_of f)
 -- the lines of a text within its limits, else its first fault or the first limit that it passes
 abbrev pub answer_of : List ℕ → Result (List Line) Refusal
 answer_of text = answered (lines_of text)
+
+-- These are the lines of the text, and a flow file that passes no limit.
+pub record IsRead (text : List ℕ) (lines : List Line) : Type 0 where
+  pub file : FlowFile
+  pub spelled : IsText 0 lines text
+  pub on_grammar : IsFlowFile lines file
+  pub within : limit_passed lines ≡ None

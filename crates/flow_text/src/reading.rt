@@ -4,7 +4,11 @@ ghost use Rattle.std.specs.Prelude.{◌≡◌, ◌+◌, ◌≤◌, ◌<◌, ◌^
 ghost use Rattle.flow_text.specs.Structure.{Gives};
 ghost use Rattle.flow_text.specs.Text as texts;
 ghost use Rattle.flow_text.specs.Answer as answers;
-ghost use Rattle.flow_text.specs.Answer.{IsAnswer, answer_of};
+ghost use Rattle.std.specs.Prelude.{List, IfOk};
+ghost use Rattle.flow_text.specs.declared.line.Line.{Line};
+ghost use Rattle.flow_text.specs.Text.{IsText};
+ghost use Rattle.flow_text.specs.Grammar.{FlowFile, IsFlowFile};
+ghost use Rattle.flow_text.specs.Answer.{IsAnswer, answer_of, IsRead};
 
 use crate::cut::{bad_byte, len_before, sound_len};
 use crate::fault::{Fault, ReadError, fault_at};
@@ -112,16 +116,28 @@ fn within_limits(alloc: Global, lines: List<Line>) -> Result<List<Line>, Refusal
     }
 }
 
-/// The lines of a flow file, of at most 2^28 bytes.
-///
-/// `Grammar` comes off the grammar, with the first fault, and `Limit` on it where a limit is passed, the first of
-/// `length`, `columns`, `nest`, `items` and `inner-items`.
-pub fn read(alloc: Global, text: &[u8]) -> Result<List<Line>, Refusal>
-    ensures exact { IsAnswer result (answer_of text.now) }
+/// The lines of a text within their limits, or why it is refused.
+fn answer(alloc: Global, text: &[u8]) -> Result<List<Line>, Refusal>
+    ensures { IsAnswer result (answer_of text.now) }
 {
     match lines_of(alloc, text) {
         Ok(lines) => within_limits(alloc, lines),
         Err(ReadError::Memory) => Err(Refusal::NoMemory),
         Err(ReadError::Fault(fault)) => Err(refusal_of(fault)),
     }
+}
+
+/// The lines of a flow file, of at most 2^28 bytes.
+///
+/// `Grammar` comes off the grammar, with the first fault, and `Limit` on it where a limit is passed, the first of
+/// `length`, `columns`, `nest`, `items` and `inner-items`.
+pub fn read(alloc: Global, text: &[u8]) -> Result<List<Line>, Refusal>
+    // What is read is the text's lines, and they are a flow file within its limits.
+    ensures found { IfOk result (λ lines. IsRead text.now lines) }
+    // A flow file is read, or refused by the first limit that it passes.
+    ensures only { (lines : List Line) (file : FlowFile) → IsText 0 lines text.now → IsFlowFile lines file → IsAnswer result (answers.within_limits lines) }
+    // Which fault it is, line by line from the front.
+    ensures exact { IsAnswer result (answer_of text.now) }
+{
+    answer(alloc, text)
 }
