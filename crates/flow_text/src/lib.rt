@@ -22,3 +22,6 @@ pub use laws::{
 };
 pub use line::{Form, Line};
 pub use reading::read;
+
+#[cfg(test)]
+mod tests;
