@@ -5,3 +5,4 @@ pub mod TextLaws
 pub mod Complete
 pub mod Sound
 pub mod AnswerLaws
+pub mod Stands

@@ -77,7 +77,7 @@ edge_part at phase boxes next l ts h nested after (inl p) =
     inl (edge l p.0, p.1, (next, h, subst (λ (t : Bool). IsRest t next p.0) (filled_touched phase l.at) p.2), ap (λ (x : List Line). l ∷ x) p.3)
 edge_part at phase boxes next l ts h nested after (inr p) = absurd (not_alone phase l.at nested ts after p)
 
-reading_is : (x y : Reading) → passed x ≡ passed y → y ≡ x
+pub reading_is : (x y : Reading) → passed x ≡ passed y → y ≡ x
 reading_is x y e = cc
 
 is_some_solid : (top : ℕ) (f : Form) → is_solid top (Some f) ≡ true → f ≡ forms.Solid top
@@ -101,7 +101,7 @@ due_met : (due : Option Due) (l : Line) (ts : List Line) → fault_of_due due (S
 due_met None l ts h = tt
 due_met (Some d) l ts h = is_some_solid d.top l.form (guard_none (is_solid d.top (Some l.form)) _ h)
 
-unless_ok : (f : Option Fault) (r : Result Reading Fault) (x : Reading) → unless f r ≡ passed x → (f ≡ None) × (r ≡ passed x)
+pub unless_ok : (f : Option Fault) (r : Result Reading Fault) (x : Reading) → unless f r ≡ passed x → (f ≡ None) × (r ≡ passed x)
 unless_ok None r x h = (refl, h)
 unless_ok (Some f) r x h = absurd cc
 
@@ -109,20 +109,20 @@ within_of : Result Rows Fault → Result Reading Fault
 within_of r = structure.within r
 
 -- the tests of a start
-two_tests : (b c : Bool) (x : Rows) (f g : Fault) (next : Reading) → structure.within (cond b (Err f) (cond c (Ok x) (Err g))) ≡ passed next → (b ≡ false) × (c ≡ true) × (next ≡ readings.Within x)
+pub two_tests : (b c : Bool) (x : Rows) (f g : Fault) (next : Reading) → structure.within (cond b (Err f) (cond c (Ok x) (Err g))) ≡ passed next → (b ≡ false) × (c ≡ true) × (next ≡ readings.Within x)
 two_tests true c x f g next h = absurd cc
 two_tests false true x f g next h = (refl, refl, cc)
 two_tests false false x f g next h = absurd cc
 
-one_test : (b : Bool) (x : Rows) (f : Fault) (next : Reading) → structure.within (cond b (Err f) (Ok x)) ≡ passed next → (b ≡ false) × (next ≡ readings.Within x)
+pub one_test : (b : Bool) (x : Rows) (f : Fault) (next : Reading) → structure.within (cond b (Err f) (Ok x)) ≡ passed next → (b ≡ false) × (next ≡ readings.Within x)
 one_test true x f next h = absurd cc
 one_test false x f next h = (refl, cc)
 
-other_test : (b : Bool) (x : Rows) (f : Fault) (next : Reading) → structure.within (cond b (Ok x) (Err f)) ≡ passed next → (b ≡ true) × (next ≡ readings.Within x)
+pub other_test : (b : Bool) (x : Rows) (f : Fault) (next : Reading) → structure.within (cond b (Ok x) (Err f)) ≡ passed next → (b ≡ true) × (next ≡ readings.Within x)
 other_test true x f next h = (refl, cc)
 other_test false x f next h = absurd cc
 
-three_tests : (b c d : Bool) (x : Rows) (f g k : Fault) (next : Reading) → structure.within (cond b (cond c (cond d (Ok x) (Err f)) (Err g)) (Err k)) ≡ passed next → (b ≡ true) × (c ≡ true) × (d ≡ true) × (next ≡ readings.Within x)
+pub three_tests : (b c d : Bool) (x : Rows) (f g k : Fault) (next : Reading) → structure.within (cond b (cond c (cond d (Ok x) (Err f)) (Err g)) (Err k)) ≡ passed next → (b ≡ true) × (c ≡ true) × (d ≡ true) × (next ≡ readings.Within x)
 three_tests true true true x f g k next h = (refl, refl, refl, cc)
 three_tests true true false x f g k next h = absurd cc
 three_tests true false d x f g k next h = absurd cc
@@ -139,7 +139,7 @@ preceded zero solid h some = absurd (omega arith)
 preceded (suc b) None h some = let e = eqb-suc-zero b in absurd cc
 preceded (suc b) (Some u) h some = let k = rw (eqb-suc-zero b) at h in ap (λ (n : ℕ). some_amount n) (eqb-true u (suc b) k)
 
-no_box : (b : Bool) (a : ℕ) (next : Reading) → structure.within (cond b (fault a 6) (fault a 5)) ≡ passed next → ⊥
+pub no_box : (b : Bool) (a : ℕ) (next : Reading) → structure.within (cond b (fault a 6) (fault a 5)) ≡ passed next → ⊥
 no_box true a next h = cc
 no_box false a next h = cc
 

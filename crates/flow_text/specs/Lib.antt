@@ -6,3 +6,4 @@ pub mod Limits
 pub mod Answer
 pub mod Grammar
 pub mod Run
+pub mod Faults

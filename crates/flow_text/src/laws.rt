@@ -6,6 +6,8 @@ ghost use Rattle.flow_text.specs.Forms.{IsForm, form_of};
 ghost use Rattle.flow_text.specs.declared.line.Line.{Line};
 ghost use Rattle.flow_text.specs.declared.structure.Reading.TheVariants as readings;
 ghost use Rattle.flow_text.specs.Grammar.{FlowFile, IsFlowFile};
+ghost use Rattle.flow_text.specs.declared.structure.Reading.{Reading};
+ghost use Rattle.flow_text.specs.Faults.{IsFront};
 ghost use Rattle.flow_text.specs.Run.{run};
 ghost use Rattle.flow_text.specs.Text.{IsText, lines_of};
 
@@ -42,5 +44,11 @@ pub fn texts_of_flow_files_are_read()
 /// What is read in a text is its lines, and they are a flow file.
 pub fn what_is_read_is_the_text_of_a_flow_file()
     ensures { (text : List ℕ) (lines : List Line) → lines_of text ≡ Ok lines → IsText 0 lines text × (file : FlowFile) × IsFlowFile lines file }
+{
+}
+
+/// What may be read of the lines so far begins a flow file.
+pub fn what_is_read_so_far_begins_a_flow_file()
+    ensures { (front : List Line) (reading : Reading) → run readings.Opening front ≡ Ok reading → IsFront front }
 {
 }
