@@ -80,7 +80,7 @@ edge_part at phase boxes next l ts h nested after (inr p) = absurd (not_alone ph
 pub reading_is : (x y : Reading) → passed x ≡ passed y → y ≡ x
 reading_is x y e = cc
 
-is_some_solid : (top : ℕ) (f : Form) → is_solid top (Some f) ≡ true → f ≡ forms.Solid top
+pub is_some_solid : (top : ℕ) (f : Form) → is_solid top (Some f) ≡ true → f ≡ forms.Solid top
 is_some_solid top (forms.Solid u) h = ap (λ (n : ℕ). forms.Solid n) (eqb-true u top h)
 is_some_solid top forms.Flow h = absurd cc
 is_some_solid top (forms.First n w st available auto) h = absurd cc

@@ -19,8 +19,8 @@ use Rattle.flow_text.specs.Structure.{◌>>=◌, fault, unless, is_filled, touch
 use Rattle.flow_text.specs.Grammar.{line, bottoms_behind, FlowFile, IsFlowFile}
 use Rattle.flow_text.specs.Run.{run}
 use Rattle.flow_text.specs.Faults.{fault_at, IsFront, IsOver, is_edge, Seen, nothing_seen, or_line, base_behind, first_behind, due_behind, seen_behind, seen_from, seen, is_item_end, end_behind, end_fault, EndFault, RowsFault, is_flow, BaseFault, DueFault, LineFault}
-use Rattle.flow_text.proofs.Complete.{open_at, within, passed, touched_filled, file_is_read}
-use Rattle.flow_text.proofs.Sound.{seen as seen_result, reading_is, unless_ok, one_test, two_tests, three_tests, other_test, no_box, read_is_file}
+use Rattle.flow_text.proofs.Complete.{open_at, within, passed, filled_touched, touched_filled, file_is_read}
+use Rattle.flow_text.proofs.Sound.{seen as seen_result, reading_is, unless_ok, one_test, two_tests, three_tests, other_test, no_box, is_some_solid, read_is_file}
 
 -- a line that begins a row, the first one or one inside another
 abbrev Opens : Bool → Form → Type 0
@@ -294,3 +294,239 @@ base_of phases.Empty nested at n h = record { base = h.0; is = h.1; no_flow = op
 base_of (phases.Leading a) nested at n h = record { base = h.0; is = h.2; no_flow = opens_no_flow nested h.0.form h.6; items = opens_no_item nested h.0.form h.6 }
 base_of phases.Filled nested at n h = record { base = h.0; is = h.1; no_flow = item_no_flow h.0.form h.2; items = h.2 }
 base_of (phases.Behind a) nested at n h = let b = break_no_item h.0.form h.3 in record { base = h.0; is = h.1; no_flow = b.1; items = b.0 }
+
+-- the tests of each line, where one fails
+one_failed : (b : Bool) (x : Rows) (f g : Fault) → structure.within (cond b (Err f) (Ok x)) ≡ failed g → g ≡ f
+one_failed true x f g h = cc
+one_failed false x f g h = absurd cc
+
+other_failed : (b : Bool) (x : Rows) (f g : Fault) → structure.within (cond b (Ok x) (Err f)) ≡ failed g → g ≡ f
+other_failed true x f g h = absurd cc
+other_failed false x f g h = cc
+
+two_failed : (b c : Bool) (x : Rows) (a : ℕ) (g : Fault) → structure.within (cond b (fault a 5) (cond c (Ok x) (fault a 6))) ≡ failed g → g ≡ fault_at a (cond b 5 6)
+two_failed true c x a g h = cc
+two_failed false true x a g h = absurd cc
+two_failed false false x a g h = cc
+
+-- a solid amount and an end, where nothing is due
+solid_end : (s : Rows) (a u number : ℕ) → s.due ≡ None → is_filled s.row.phase ≡ true
+    → run (readings.Within s) (line a (forms.Solid u) ∷ line a (forms.End number) ∷ []) ≡ (structure.within (structure.end_innermost (record { row = open_at s.row.at (touched s.row.phase a) s.row.boxes; outer = s.outer; bottoms = s.bottoms; due = None; solid = Some u }) a number s.row.boxes) >>= λ r. Ok r)
+solid_end s a u number none filled = rw (none, filled_touched s.row.phase a, filled) (by_result (structure.within (structure.end_innermost (record { row = open_at s.row.at (touched s.row.phase a) s.row.boxes; outer = s.outer; bottoms = s.bottoms; due = None; solid = Some u }) a number s.row.boxes)))
+  where
+    by_result : (r : Result Reading Fault) → (r >>= λ next. run next []) ≡ (r >>= λ r. Ok r)
+    by_result (Ok r) = refl
+    by_result (Err f) = refl
+
+abbrev Tried : List Line → ℕ → ℕ → ℕ → List Line
+Tried front a u number = front ++ (line a (forms.Solid u) ∷ line a (forms.End number) ∷ [])
+
+tried_run : (front : List Line) (s : Rows) (a u number : ℕ) → run readings.Opening front ≡ passed (readings.Within s) → run readings.Opening (Tried front a u number) ≡ run (readings.Within s) (line a (forms.Solid u) ∷ line a (forms.End number) ∷ [])
+tried_run front s a u number h = in_turn readings.Opening front (line a (forms.Solid u) ∷ line a (forms.End number) ∷ []) ∙ rw h refl
+
+end_in_tail : (front : List Line) (s : Rows) (a number : ℕ) (g : Fault) (bottoms : List ℕ) → run readings.Opening front ≡ passed (readings.Within s) → bottoms ≡ s.bottoms → s.due ≡ None → is_filled s.row.phase ≡ true
+    → (boxes : List ℕ) → s.row.boxes ≡ boxes → structure.within (structure.end_innermost s a number boxes) ≡ failed g → EndFault front bottoms a number g
+end_in_tail front s a number g bottoms h same none filled [] is e =
+    let u = slice_index bottoms number in
+    let e' : fault {A = Reading} a 6 ≡ Err g = e in
+    let stuck : run readings.Opening (Tried front a u number) ≡ failed (fault_at a 6) = tried_run front s a u number h ∙ solid_end s a u number none filled ∙ rw is refl in
+    inr (fault_is a 6 g e', no_front (Tried front a u number) (fault_at a 6) stuck)
+end_in_tail front s a number g bottoms h same none filled (b ∷ boxes) is e = by_name (eqb b number) refl e
+  where
+    u : ℕ
+    u = slice_index bottoms number
+
+    by_clone : (v : Bool) → eqb b number ≡ true → structure.within (cond v (Ok (record { row = open_at s.row.at s.row.phase boxes; outer = s.outer; bottoms = s.bottoms; due = None; solid = None })) (fault a 8)) ≡ failed g → EndFault front bottoms a number g
+    by_clone true named e = absurd cc
+    by_clone false named e =
+        let e' : fault {A = Reading} a 8 ≡ Err g = e in
+        let next = within (open_at s.row.at (touched s.row.phase a) boxes) s.outer s.bottoms None None in
+        let goes : run readings.Opening (Tried front a (slice_index bottoms number) number) ≡ passed next = tried_run front s a (slice_index bottoms number) number h ∙ solid_end s a (slice_index bottoms number) number none filled ∙ rw (is, named, same, cloned_zero (slice_index s.bottoms number)) refl in
+        inl (fault_is a 8 g e', is_front (Tried front a (slice_index bottoms number) number) next goes)
+
+    by_name : (v : Bool) → eqb b number ≡ v → structure.within (cond v (cond (is_cloned (bottom_of s.bottoms number) s.solid) (Ok (record { row = open_at s.row.at s.row.phase boxes; outer = s.outer; bottoms = s.bottoms; due = None; solid = None })) (fault a 8)) (fault a 6)) ≡ failed g → EndFault front bottoms a number g
+    by_name true named e = by_clone (is_cloned (bottom_of s.bottoms number) s.solid) named e
+    by_name false named e =
+        let e' : fault {A = Reading} a 6 ≡ Err g = e in
+        let stuck : run readings.Opening (Tried front a (slice_index bottoms number) number) ≡ failed (fault_at a 6) = tried_run front s a (slice_index bottoms number) number h ∙ solid_end s a (slice_index bottoms number) number none filled ∙ rw (is, named) refl in
+        inr (fault_is a 6 g e', no_front (Tried front a (slice_index bottoms number) number) (fault_at a 6) stuck)
+
+end_fails : (front : List Line) (s : Rows) (a number : ℕ) (g : Fault) (bottoms : List ℕ) → run readings.Opening front ≡ passed (readings.Within s) → bottoms ≡ s.bottoms → s.due ≡ None
+    → (t : Bool) → is_filled s.row.phase ≡ t → structure.within (cond t (structure.end_innermost s a number s.row.boxes) (fault a 5)) ≡ failed g → MatchBool t (EndFault front bottoms a number g) (g ≡ fault_at a 5)
+end_fails front s a number g bottoms h same none true is e = end_in_tail front s a number g bottoms h same none is s.row.boxes refl e
+end_fails front s a number g bottoms h same none false is e = let e' : fault {A = Reading} a 5 ≡ Err g = e in fault_is a 5 g e'
+
+-- why a row may not end
+opens_end : (nested : Bool) (b : Line) (f : Form) (first : Option Line) (a : ℕ) → Opens nested f → end_fault b f first a ≡ cond nested (fault_at b.at 6) (end_behind a first)
+opens_end false b (forms.First n w st available auto) first a h = refl
+opens_end true b (forms.Row n w st x) first a h = refl
+opens_end true b (forms.First n w st available auto) first a h = absurd h
+opens_end false b (forms.Row n w st x) first a h = absurd h
+opens_end true b forms.Flow first a h = absurd h
+opens_end false b forms.Flow first a h = absurd h
+opens_end true b (forms.Margin u) first a h = absurd h
+opens_end false b (forms.Margin u) first a h = absurd h
+opens_end true b (forms.Solid u) first a h = absurd h
+opens_end false b (forms.Solid u) first a h = absurd h
+opens_end true b forms.Wall first a h = absurd h
+opens_end false b forms.Wall first a h = absurd h
+opens_end true b (forms.Start number x w avoid top bottom) first a h = absurd h
+opens_end false b (forms.Start number x w avoid top bottom) first a h = absurd h
+opens_end true b (forms.End number) first a h = absurd h
+opens_end false b (forms.End number) first a h = absurd h
+opens_end true b (forms.Atom u) first a h = absurd h
+opens_end false b (forms.Atom u) first a h = absurd h
+opens_end true b (forms.Break level) first a h = absurd h
+opens_end false b (forms.Break level) first a h = absurd h
+opens_end true b forms.Close first a h = absurd h
+opens_end false b forms.Close first a h = absurd h
+
+break_end : (b : Line) (f : Form) (first : Option Line) (a : ℕ) → IsBreak f → end_fault b f first a ≡ fault_at b.at 5
+break_end b (forms.Break level) first a h = refl
+break_end b forms.Flow first a h = absurd h
+break_end b (forms.First n w st available auto) first a h = absurd h
+break_end b (forms.Margin u) first a h = absurd h
+break_end b (forms.Solid u) first a h = absurd h
+break_end b forms.Wall first a h = absurd h
+break_end b (forms.Start number x w avoid top bottom) first a h = absurd h
+break_end b (forms.End number) first a h = absurd h
+break_end b (forms.Atom u) first a h = absurd h
+break_end b (forms.Row n w st x) first a h = absurd h
+break_end b forms.Close first a h = absurd h
+
+item_end : (b : Line) (f : Form) (first : Option Line) (a : ℕ) → is_item_end f ≡ true → end_fault b f first a ≡ fault_at a 6
+item_end b (forms.Atom u) first a h = refl
+item_end b forms.Close first a h = refl
+item_end b forms.Flow first a h = absurd cc
+item_end b (forms.First n w st available auto) first a h = absurd cc
+item_end b (forms.Margin u) first a h = absurd cc
+item_end b (forms.Solid u) first a h = absurd cc
+item_end b forms.Wall first a h = absurd cc
+item_end b (forms.Start number x w avoid top bottom) first a h = absurd cc
+item_end b (forms.End number) first a h = absurd cc
+item_end b (forms.Row n w st x) first a h = absurd cc
+item_end b (forms.Break level) first a h = absurd cc
+
+abbrev some_fault : Fault → Option Fault
+some_fault f = Some f
+
+same_fault : (f g : Fault) → some_fault f ≡ Some g → g ≡ f
+same_fault f g h = cc
+
+same_line : (a b : Line) → Some a ≡ Some b → a ≡ b
+same_line a b h = cc
+
+same_base : (n : Seen) (a b : Line) → n.base ≡ Some a → n.base ≡ Some b → a ≡ b
+same_base n a b h k = same_line a b (sym h ∙ k)
+
+boxes_fail : (boxes : List ℕ) (a : ℕ) (g : Fault) → structure.boxes_fault boxes a ≡ Some g → g ≡ fault_at a 6
+boxes_fail [] a g h = absurd cc
+boxes_fail (b ∷ boxes) a g h = same_fault (fault_at a 6) g h
+
+end_phase : (phase : Phase) (at : ℕ) (boxes : List ℕ) (nested : Bool) (a : ℕ) (n : Seen) (b : Line) (g : Fault) → Placed phase nested at n → n.base ≡ Some b
+    → structure.fault_in_phase phase (open_at at phase boxes) nested a ≡ Some g → g ≡ end_fault b b.form n.first a
+end_phase phases.Empty at boxes true a n b g h is e =
+    let k = same_base n h.0 b h.1 is in
+    let P : Line → Type 0 = λ l. g ≡ end_fault l l.form n.first a in
+    subst P k (same_fault (fault_at at 6) g e ∙ ap (λ (m : ℕ). fault_at m 6) (sym h.3) ∙ sym (opens_end true h.0 h.0.form n.first a h.4))
+end_phase phases.Empty at boxes false a n b g h is e = absurd cc
+end_phase (phases.Leading c) at boxes true a n b g h is e =
+    let k = same_base n h.0 b h.2 is in
+    let P : Line → Type 0 = λ l. g ≡ end_fault l l.form n.first a in
+    subst P k (same_fault (fault_at at 6) g e ∙ ap (λ (m : ℕ). fault_at m 6) (sym h.5) ∙ sym (opens_end true h.0 h.0.form n.first a h.6))
+end_phase (phases.Leading c) at boxes false a n b g h is e =
+    let k = same_base n h.0 b h.2 is in
+    let P : Line → Type 0 = λ l. g ≡ end_fault l l.form n.first a in
+    subst P k (same_fault (fault_at c 5) g e ∙ ap (λ (m : ℕ). fault_at m 5) (sym h.4) ∙ ap (end_behind a) (sym h.3) ∙ sym (opens_end false h.0 h.0.form n.first a h.6))
+end_phase phases.Filled at boxes nested a n b g h is e =
+    let k = same_base n h.0 b h.1 is in
+    let P : Line → Type 0 = λ l. g ≡ end_fault l l.form n.first a in
+    subst P k (boxes_fail boxes a g e ∙ sym (item_end h.0 h.0.form n.first a h.2))
+end_phase (phases.Behind c) at boxes nested a n b g h is e =
+    let k = same_base n h.0 b h.1 is in
+    let P : Line → Type 0 = λ l. g ≡ end_fault l l.form n.first a in
+    subst P k (same_fault (fault_at c 5) g e ∙ ap (λ (m : ℕ). fault_at m 5) (sym h.2) ∙ sym (break_end h.0 h.0.form n.first a h.3))
+
+unless_failed : (o : Option Fault) (x : Reading) (g : Fault) → unless o (Ok x) ≡ failed g → o ≡ Some g
+unless_failed None x g h = absurd cc
+unless_failed (Some f) x g h = let same : f ≡ g = cc in ap some_fault same
+
+close_fails : (s : Rows) (n : Seen) (b : Line) (a : ℕ) (g : Fault) → (outer : List OpenRow) → Placed s.row.phase (is_nested outer) s.row.at n → n.base ≡ Some b → structure.close_in outer s a ≡ failed g → g ≡ end_fault b b.form n.first a
+close_fails s n b a g [] h is e = end_phase s.row.phase s.row.at s.row.boxes false a n b g h is (unless_failed _ _ g e)
+close_fails s n b a g (o ∷ os) h is e = end_phase s.row.phase s.row.at s.row.boxes true a n b g h is (unless_failed _ _ g e)
+
+rows_fault : (front : List Line) (s : Rows) (n : Seen) (b : Line) (a : ℕ) (f : Form) (g : Fault) → run readings.Opening front ≡ passed (readings.Within s) → Known s n → n.base ≡ Some b → is_item_end b.form ≡ is_filled s.row.phase → s.due ≡ None
+    → step s a f ≡ failed g → RowsFault front n b a f g
+rows_fault front s n b a forms.Flow g h k is items none e = let e' : fault {A = Reading} a 5 ≡ Err g = e in fault_is a 5 g e'
+rows_fault front s n b a (forms.First c w st available auto) g h k is items none e = let e' : fault {A = Reading} a 5 ≡ Err g = e in fault_is a 5 g e'
+rows_fault front s n b a (forms.Margin u) g h k is items none e = absurd cc
+rows_fault front s n b a (forms.Solid u) g h k is items none e = absurd cc
+rows_fault front s n b a forms.Wall g h k is items none e = absurd cc
+rows_fault front s n b a (forms.Start number x w avoid top bottom) g h k is items none e = rw items (two_failed (is_filled s.row.phase) (eqb number (length s.bottoms)) _ a g e)
+rows_fault front s n b a (forms.End number) g h k is items none e = rw items (end_fails front s a number g n.bottoms h k.bottoms none (is_filled s.row.phase) refl e)
+rows_fault front s n b a (forms.Atom u) g h k is items none e = one_failed (is_filled s.row.phase) _ (fault_at a 5) g e
+rows_fault front s n b a (forms.Row c w st x) g h k is items none e = one_failed (is_filled s.row.phase) _ (fault_at a 5) g e
+rows_fault front s n b a (forms.Break level) g h k is items none e = other_failed (is_filled s.row.phase) _ (fault_at a 5) g e
+rows_fault front s n b a forms.Close g h k is items none e = close_fails s n b a g s.outer k.placed is e
+
+first_fails : (a : ℕ) (f : Form) (g : Fault) → take_first a f ≡ failed g → g ≡ fault_at a 3
+first_fails a forms.Flow g e = absurd cc
+first_fails a (forms.First c w st available auto) g e = fault_is {A = Reading} a 3 g e
+first_fails a (forms.Margin u) g e = fault_is {A = Reading} a 3 g e
+first_fails a (forms.Solid u) g e = fault_is {A = Reading} a 3 g e
+first_fails a forms.Wall g e = fault_is {A = Reading} a 3 g e
+first_fails a (forms.Start number x w avoid top bottom) g e = fault_is {A = Reading} a 3 g e
+first_fails a (forms.End number) g e = fault_is {A = Reading} a 3 g e
+first_fails a (forms.Atom u) g e = fault_is {A = Reading} a 3 g e
+first_fails a (forms.Row c w st x) g e = fault_is {A = Reading} a 3 g e
+first_fails a (forms.Break level) g e = fault_is {A = Reading} a 3 g e
+first_fails a forms.Close g e = fault_is {A = Reading} a 3 g e
+
+second_fails : (a : ℕ) (f : Form) (g : Fault) → take_second a f ≡ failed g → g ≡ fault_at a 5
+second_fails a forms.Flow g e = fault_is {A = Reading} a 5 g e
+second_fails a (forms.First c w st available auto) g e = absurd cc
+second_fails a (forms.Margin u) g e = fault_is {A = Reading} a 5 g e
+second_fails a (forms.Solid u) g e = fault_is {A = Reading} a 5 g e
+second_fails a forms.Wall g e = fault_is {A = Reading} a 5 g e
+second_fails a (forms.Start number x w avoid top bottom) g e = fault_is {A = Reading} a 5 g e
+second_fails a (forms.End number) g e = fault_is {A = Reading} a 5 g e
+second_fails a (forms.Atom u) g e = fault_is {A = Reading} a 5 g e
+second_fails a (forms.Row c w st x) g e = fault_is {A = Reading} a 5 g e
+second_fails a (forms.Break level) g e = fault_is {A = Reading} a 5 g e
+second_fails a forms.Close g e = fault_is {A = Reading} a 5 g e
+
+-- a start whose amount is due
+due_fails : (d : Due) (s : Rows) (a : ℕ) (f : Form) (g : Fault) → (b : Bool) → is_solid d.top (Some f) ≡ b → unless (cond b None (Some (fault_at d.at 8))) (step s a f) ≡ failed g → g ≡ fault_at d.at 8
+due_fails d s a f g false is e = let e' : fault {A = Reading} d.at 8 ≡ Err g = e in fault_is d.at 8 g e'
+due_fails d s a f g true is e =
+    let same = is_some_solid d.top f is in
+    let no : step s a (forms.Solid d.top) ≡ failed g = subst (λ (x : Form). step s a x ≡ failed g) same e in
+    absurd cc
+
+not_over : (front : List Line) (s : Rows) → run readings.Opening front ≡ passed (readings.Within s) → IsOver front → ⊥
+not_over front s h over = let e = file_is_read front over.0 over.1 in let two : passed readings.Ended ≡ passed (readings.Within s) = sym e ∙ h in cc
+
+within_fault : (front : List Line) (s : Rows) (n : Seen) (l : Line) (g : Fault) → run readings.Opening front ≡ passed (readings.Within s) → Known s n → (d : Option Due) → s.due ≡ d → unless (fault_of_due d (Some l.form)) (step s l.at l.form) ≡ failed g → DueFault d front n l g
+within_fault front s n l g h k (Some d) is e = due_fails d s l.at l.form g (is_solid d.top (Some l.form)) refl e
+within_fault front s n l g h k None is e =
+    let b = base_of s.row.phase (is_nested s.outer) s.row.at n k.placed in
+    rw (b.is, b.no_flow) (inr (not_over front s h, rows_fault front s n b.base l.at l.form g h k b.is b.items is e))
+
+line_fault : (front : List Line) (r : Reading) (n : Seen) (l : Line) (g : Fault) → run readings.Opening front ≡ passed r → Knows r n → take r l ≡ failed g → DueFault n.due front n l g
+line_fault front readings.Opening n l g h k e = rw k (first_fails l.at l.form g e)
+line_fault front readings.Heading n l g h k e = rw (k.3, k.1, k.2) (second_fails l.at l.form g e)
+line_fault front (readings.Within s) n l g h k e = subst (λ (d : Option Due). DueFault d front n l g) (sym k.due) (within_fault front s n l g h k s.due refl e)
+line_fault front readings.Ended n l g h k e =
+    let e' : fault {A = Reading} l.at 7 ≡ Err g = e in
+    rw (k.3, k.1, k.2) (inl (read_is_file front h, fault_is l.at 7 g e'))
+
+-- the fault of a line that may not follow, by the grammar
+pub why : (front : List Line) (r : Reading) (l : Line) (g : Fault) → run readings.Opening front ≡ passed r → take r l ≡ failed g → LineFault front l g
+why front r l g h e = line_fault front r (seen front) l g h (knows_run front readings.Opening r nothing_seen refl h) e
+
+pub one_more : (front : List Line) (r : Reading) (l : Line) → run readings.Opening front ≡ passed r → run readings.Opening (front ++ l ∷ []) ≡ take r l
+one_more front r l h = in_turn readings.Opening front (l ∷ []) ∙ rw h (by_result (take r l))
+  where
+    by_result : (t : Result Reading Fault) → (t >>= λ next. run next []) ≡ t
+    by_result (Ok x) = refl
+    by_result (Err f) = refl

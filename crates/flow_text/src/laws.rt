@@ -1,13 +1,14 @@
 //! What the reader's functions on lists mean: laws, each the contract of a function without a body.
 
-ghost use Rattle.std.specs.Prelude.{◌≡◌, ℕ, List, Ok, Some};
+ghost use Rattle.std.specs.Prelude.{◌≡◌, ℕ, List, [], ◌∷◌, ◌++◌, Ok, Err, Some};
+ghost use Rattle.flow_text.specs.declared.fault.Fault.{Fault};
 ghost use Rattle.flow_text.specs.declared.line.Form.{Form};
 ghost use Rattle.flow_text.specs.Forms.{IsForm, form_of};
 ghost use Rattle.flow_text.specs.declared.line.Line.{Line};
 ghost use Rattle.flow_text.specs.declared.structure.Reading.TheVariants as readings;
 ghost use Rattle.flow_text.specs.Grammar.{FlowFile, IsFlowFile};
 ghost use Rattle.flow_text.specs.declared.structure.Reading.{Reading};
-ghost use Rattle.flow_text.specs.Faults.{IsFront};
+ghost use Rattle.flow_text.specs.Faults.{IsFront, LineFault};
 ghost use Rattle.flow_text.specs.Run.{run};
 ghost use Rattle.flow_text.specs.Text.{IsText, lines_of};
 
@@ -50,5 +51,11 @@ pub fn what_is_read_is_the_text_of_a_flow_file()
 /// What may be read of the lines so far begins a flow file.
 pub fn what_is_read_so_far_begins_a_flow_file()
     ensures { (front : List Line) (reading : Reading) → run readings.Opening front ≡ Ok reading → IsFront front }
+{
+}
+
+/// The fault of a line that may not follow those before it is the one that the grammar says.
+pub fn a_line_that_may_not_follow_is_a_fault()
+    ensures { (front : List Line) (reading : Reading) (next : Line) (fault : Fault) → run readings.Opening front ≡ Ok reading → run readings.Opening (front ++ next ∷ []) ≡ Err fault → IsFront front × (IsFront (front ++ next ∷ []) → ⊥) × LineFault front next fault }
 {
 }
