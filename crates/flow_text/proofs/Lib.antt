@@ -6,3 +6,4 @@ pub mod Complete
 pub mod Sound
 pub mod AnswerLaws
 pub mod Stands
+pub mod FaultLaws

@@ -530,3 +530,28 @@ one_more front r l h = in_turn readings.Opening front (l ∷ []) ∙ rw h (by_re
     by_result : (t : Result Reading Fault) → (t >>= λ next. run next []) ≡ t
     by_result (Ok x) = refl
     by_result (Err f) = refl
+
+-- what is known behind these lines
+abbrev pub BaseIs : Reading → Option Line → Type 0
+BaseIs readings.Opening base = base ≡ None
+BaseIs readings.Heading base = (b : Line) × (base ≡ Some b)
+BaseIs (readings.Within s) base = (b : Line) × (base ≡ Some b)
+BaseIs readings.Ended base = (b : Line) × (base ≡ Some b)
+
+due_known : (r : Reading) (n : Seen) → Knows r n → n.due ≡ structure.what_is_due r
+due_known readings.Opening n h = ap (λ (m : Seen). m.due) h
+due_known readings.Heading n h = h.3
+due_known (readings.Within s) n h = h.due
+due_known readings.Ended n h = h.3
+
+base_known : (r : Reading) (n : Seen) → Knows r n → BaseIs r n.base
+base_known readings.Opening n h = ap (λ (m : Seen). m.base) h
+base_known readings.Heading n h = (h.0, h.1)
+base_known (readings.Within s) n h = let b = base_of s.row.phase (is_nested s.outer) s.row.at n h.placed in (b.base, b.is)
+base_known readings.Ended n h = (h.0, h.1)
+
+pub due_behind_lines : (front : List Line) (r : Reading) → run readings.Opening front ≡ passed r → (seen front).due ≡ structure.what_is_due r
+due_behind_lines front r h = due_known r (seen front) (knows_run front readings.Opening r nothing_seen refl h)
+
+pub base_behind_lines : (front : List Line) (r : Reading) → run readings.Opening front ≡ passed r → BaseIs r (seen front).base
+base_behind_lines front r h = base_known r (seen front) (knows_run front readings.Opening r nothing_seen refl h)

@@ -31,7 +31,7 @@ use Rattle.flow_text.proofs.FormLemmas.{own, form_takes, form_again}
 use Rattle.flow_text.proofs.TextLemmas.{first_line}
 
 -- bytes from space to `~`
-abbrev printable : List ℕ → Bool
+abbrev pub printable : List ℕ → Bool
 printable [] = true
 printable (b ∷ bytes) = (leb 32 b && leb b 126) && printable bytes
 
@@ -75,7 +75,7 @@ printable_amounts top bottom text t b (inl e) = rw e (both (field top) (field bo
 printable_amounts top bottom text t b (inr e) = rw e.2 refl
 
 -- each form has such bytes alone
-printable_form : (form : Form) (text : List ℕ) → IsForm form text → printable text ≡ true
+pub printable_form : (form : Form) (text : List ℕ) → IsForm form text → printable text ≡ true
 printable_form Flow text h = rw h refl
 printable_form (First n w st available auto) text h =
     rw h.5 (both (codes "row") (field n ++ (field w ++ (field st ++ (available_text available ++ fill_text auto)))) refl (both (field n) (field w ++ (field st ++ (available_text available ++ fill_text auto))) (printable_field n h.1)
@@ -97,7 +97,7 @@ abbrev placed : ℕ → Form → Line
 placed n f = record { at = n; form = f }
 
 -- a line and its line feed are cut off
-no_feed : (b : ℕ) → (leb 32 b && leb b 126) ≡ true → eqb b 10 ≡ false
+pub no_feed : (b : ℕ) → (leb 32 b && leb b 126) ≡ true → eqb b 10 ≡ false
 no_feed b h = grind (arith, nat_tests)
 
 cut_again : (at : ℕ) (text rest : List ℕ) → printable text ≡ true → cuts at (text ++ 10 ∷ rest) ≡ record { at = at; text = text; ended = true } ∷ cuts (at + length text + 1) rest
@@ -183,7 +183,7 @@ text_again text lines h e = rw (sound text (plain_text lines 0 text h), read_aga
 -- and the other way
 
 -- where a line feed ends the first line
-feed_at : (bytes : List ℕ) → not (eqb (length (drop (line_len bytes) bytes)) 0) ≡ true → bytes ≡ take (line_len bytes) bytes ++ 10 ∷ drop (suc (line_len bytes)) bytes
+pub feed_at : (bytes : List ℕ) → not (eqb (length (drop (line_len bytes) bytes)) 0) ≡ true → bytes ≡ take (line_len bytes) bytes ++ 10 ∷ drop (suc (line_len bytes)) bytes
 feed_at [] h = absurd cc
 feed_at (b ∷ bytes) h = by_feed (eqb b 10) refl (feed_at bytes) h
   where
@@ -192,7 +192,7 @@ feed_at (b ∷ bytes) h = by_feed (eqb b 10) refl (feed_at bytes) h
     by_feed true is below h = rw is (ap (λ (c : ℕ). c ∷ bytes) (eqb-true b 10 is))
     by_feed false is below h = rw is (ap (λ (t : List ℕ). b ∷ t) (below h))
 
-line_len_le : (bytes : List ℕ) → line_len bytes ≤ length bytes
+pub line_len_le : (bytes : List ℕ) → line_len bytes ≤ length bytes
 line_len_le [] = omega arith
 line_len_le (b ∷ bytes) = by_feed (eqb b 10) (line_len_le bytes)
   where
@@ -205,7 +205,7 @@ ended_line true x y f at h = (refl, cc)
 ended_line false x y None at h = absurd cc
 ended_line false x y (Some f) at h = absurd cc
 
-line_takes : (r : Reading) (at : ℕ) (text : List ℕ) (ended : Bool) (l : Line) → line_at r at text ended ≡ Ok l → (ended ≡ true) × IsForm l.form text × (l.at ≡ at)
+pub line_takes : (r : Reading) (at : ℕ) (text : List ℕ) (ended : Bool) (l : Line) → line_at r at text ended ≡ Ok l → (ended ≡ true) × IsForm l.form text × (l.at ≡ at)
 line_takes r at text ended l h = by_form (form_of text) refl h
   where
     by_form : (o : Option Form) → form_of text ≡ o → line_of o r at text ended ≡ Ok l → (ended ≡ true) × IsForm l.form text × (l.at ≡ at)

@@ -1,6 +1,6 @@
 -- Which fault of a flow file is the first, told by the grammar: some flow file begins with the lines before it, and none
 -- goes on so. The rule that is broken is told by where the line stands.
-use Rattle.std.specs.Prelude.{◌≡◌, ℕ, ◌+◌, ◌<◌, nat_lt, slice_index, List, [], ◌∷◌, ◌++◌, length, Bool, true, false, if◌then◌else◌, Option, Some, None, MatchBool, ◌⊎◌}
+use Rattle.std.specs.Prelude.{◌≡◌, ℕ, ◌+◌, ◌<◌, nat_lt, slice_index, List, [], ◌∷◌, ◌++◌, length, take, Bool, true, false, if◌then◌else◌, Option, Some, None, MatchBool, ◌⊎◌}
 use Rattle.flow_text.specs.declared.line.Line.{Line}
 use Rattle.flow_text.specs.declared.line.Form.{Form}
 use Rattle.flow_text.specs.declared.line.Form.TheVariants as forms
@@ -119,3 +119,58 @@ DueFault None front s l f = BaseFault s.base front s l f
 -- rule 3; behind the last `end` rule 7.
 abbrev pub LineFault : List Line → Line → Fault → Type 0
 LineFault front l f = DueFault (seen front).due front (seen front) l f
+
+-- These bytes, which begin at an offset, begin with these lines, each with its line feed; what follows them, and where.
+abbrev pub Begins : ℕ → List Line → List ℕ → ℕ → List ℕ → Type 0
+Begins at [] bytes end rest = (end ≡ at) × (rest ≡ bytes)
+Begins at (l ∷ lines) bytes end rest =
+    (l.at ≡ at) × (text : List ℕ) × (more : List ℕ) × IsForm l.form text × (bytes ≡ text ++ 10 ∷ more) × Begins (at + length text + 1) lines more end rest
+
+-- a text of this size ends behind these lines
+abbrev pub ending_fault : Option Due → Option Line → ℕ → Fault
+ending_fault (Some d) base size = fault_at d.at 8
+ending_fault None None size = fault_at 0 3
+ending_fault None (Some base) size = fault_at size 7
+
+-- a line that is of no form or lacks its line feed
+abbrev pub byte_fault : Option ℕ → Option Line → ℕ → Bool → Fault
+byte_fault (Some i) base at ended = fault_at (at + i) 2
+byte_fault None base at false = fault_at at 2
+byte_fault None None at true = fault_at at 3
+byte_fault None (Some base) at true = fault_at at 4
+
+abbrev pub ShapeFault : Option Due → Option Line → ℕ → List ℕ → Bool → Fault → Type 0
+ShapeFault (Some d) base at text ended f =
+    (IsForm (forms.Solid d.top) text × (f ≡ fault_at at 2)) ⊎ ((IsForm (forms.Solid d.top) text → ⊥) × (f ≡ fault_at d.at 8))
+ShapeFault None base at text ended f = f ≡ byte_fault (bad_byte text) base at ended
+
+-- no line with its line feed stands at the front
+abbrev pub NoLine : List ℕ → Type 0
+NoLine bytes = (form : Form) (text more : List ℕ) → IsForm form text → bytes ≡ text ++ 10 ∷ more → ⊥
+
+-- the text ends here, though no flow file does
+abbrev pub IsCutShort : List Line → List ℕ → ℕ → Fault → Type 0
+IsCutShort front rest size f = (rest ≡ []) × (IsOver front → ⊥) × (f ≡ ending_fault (seen front).due (seen front).base size)
+
+-- no line stands here
+abbrev pub IsMisshapen : List Line → ℕ → List ℕ → Fault → Type 0
+IsMisshapen front at rest f =
+    (0 < length rest) × NoLine rest × ShapeFault (seen front).due (seen front).base at (take (line_len rest) rest) (nat_lt (line_len rest) (length rest)) f
+
+-- a line stands here that no flow file has here
+abbrev pub IsMisplaced : List Line → ℕ → List ℕ → Fault → Type 0
+IsMisplaced front at rest f =
+    (l : Line) × (text : List ℕ) × (more : List ℕ) × (l.at ≡ at) × IsForm l.form text × (rest ≡ text ++ 10 ∷ more) × (IsFront (front ++ l ∷ []) → ⊥) × LineFault front l f
+
+-- The first fault of the lines of a text, of this size: some flow file begins with the lines before it.
+pub record IsFaultOfLines (text : List ℕ) (f : Fault) : Type 0 where
+  pub front : List Line
+  pub at : ℕ
+  pub rest : List ℕ
+  pub begins : Begins 0 front text at rest
+  pub goes_on : IsFront front
+  pub which : IsCutShort front rest (length text) f ⊎ (IsMisshapen front at rest f ⊎ IsMisplaced front at rest f)
+
+-- The first fault of a text: U+0000 and bad sequences of UTF-8 come before all others.
+abbrev pub IsFirstFault : List ℕ → Fault → Type 0
+IsFirstFault text f = MatchBool (nat_lt (sound_len text) (length text)) (f ≡ fault_at (sound_len text) 1) (IsFaultOfLines text f)

@@ -8,7 +8,7 @@ ghost use Rattle.flow_text.specs.declared.line.Line.{Line};
 ghost use Rattle.flow_text.specs.declared.structure.Reading.TheVariants as readings;
 ghost use Rattle.flow_text.specs.Grammar.{FlowFile, IsFlowFile};
 ghost use Rattle.flow_text.specs.declared.structure.Reading.{Reading};
-ghost use Rattle.flow_text.specs.Faults.{IsFront, LineFault};
+ghost use Rattle.flow_text.specs.Faults.{IsFirstFault, IsFront, LineFault};
 ghost use Rattle.flow_text.specs.Run.{run};
 ghost use Rattle.flow_text.specs.Text.{IsText, lines_of};
 
@@ -57,5 +57,11 @@ pub fn what_is_read_so_far_begins_a_flow_file()
 /// The fault of a line that may not follow those before it is the one that the grammar says.
 pub fn a_line_that_may_not_follow_is_a_fault()
     ensures { (front : List Line) (reading : Reading) (next : Line) (fault : Fault) → run readings.Opening front ≡ Ok reading → run readings.Opening (front ++ next ∷ []) ≡ Err fault → IsFront front × (IsFront (front ++ next ∷ []) → ⊥) × LineFault front next fault }
+{
+}
+
+/// The fault of a text is its first one, by the grammar.
+pub fn the_fault_of_a_text_is_the_first()
+    ensures { (text : List ℕ) (fault : Fault) → lines_of text ≡ Err fault → IsFirstFault text fault }
 {
 }
