@@ -7,3 +7,4 @@ pub mod Sound
 pub mod AnswerLaws
 pub mod Stands
 pub mod FaultLaws
+pub mod LimitLaws

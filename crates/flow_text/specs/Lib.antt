@@ -7,3 +7,4 @@ pub mod Answer
 pub mod Grammar
 pub mod Run
 pub mod Faults
+pub mod TreeLimits

@@ -1,6 +1,6 @@
 //! What the reader's functions on lists mean: laws, each the contract of a function without a body.
 
-ghost use Rattle.std.specs.Prelude.{◌≡◌, ℕ, List, [], ◌∷◌, ◌++◌, Ok, Err, Some};
+ghost use Rattle.std.specs.Prelude.{◌≡◌, ℕ, List, [], ◌∷◌, ◌++◌, nat_lt, Ok, Err, Some};
 ghost use Rattle.flow_text.specs.declared.fault.Fault.{Fault};
 ghost use Rattle.flow_text.specs.declared.line.Form.{Form};
 ghost use Rattle.flow_text.specs.Forms.{IsForm, form_of};
@@ -9,8 +9,10 @@ ghost use Rattle.flow_text.specs.declared.structure.Reading.TheVariants as readi
 ghost use Rattle.flow_text.specs.Grammar.{FlowFile, IsFlowFile};
 ghost use Rattle.flow_text.specs.declared.structure.Reading.{Reading};
 ghost use Rattle.flow_text.specs.Faults.{IsFirstFault, IsFront, LineFault};
+ghost use Rattle.flow_text.specs.Limits.{has_crowded_row, is_deep, items, no_counts};
 ghost use Rattle.flow_text.specs.Run.{run};
 ghost use Rattle.flow_text.specs.Text.{IsText, lines_of};
+ghost use Rattle.flow_text.specs.TreeLimits.{file_depth, file_items, file_most_inner};
 
 /// What is a flow file is read to its end.
 pub fn flow_files_are_read()
@@ -63,5 +65,13 @@ pub fn a_line_that_may_not_follow_is_a_fault()
 /// The fault of a text is its first one, by the grammar.
 pub fn the_fault_of_a_text_is_the_first()
     ensures { (text : List ℕ) (fault : Fault) → lines_of text ≡ Err fault → IsFirstFault text fault }
+{
+}
+
+/// The limits that are tested on lines are those of the file's rows.
+pub fn limits_are_those_of_the_rows()
+    ensures nest { (lines : List Line) (file : FlowFile) → IsFlowFile lines file → is_deep 0 lines ≡ nat_lt 3 (file_depth file) }
+    ensures items { (lines : List Line) (file : FlowFile) → IsFlowFile lines file → items lines ≡ file_items file }
+    ensures inner_items { (lines : List Line) (file : FlowFile) → IsFlowFile lines file → has_crowded_row no_counts lines ≡ nat_lt 2000 (file_most_inner file) }
 {
 }

@@ -17,6 +17,7 @@ mod structure;
 
 pub use form::form_of;
 pub use laws::{
+    limits_are_those_of_the_rows,
     the_fault_of_a_text_is_the_first,
     a_line_that_may_not_follow_is_a_fault,
     flow_files_are_read, forms_are_read, texts_of_flow_files_are_read, what_is_read_is_a_flow_file,

@@ -4,7 +4,9 @@ ghost use Rattle.std.specs.Prelude.{◌≡◌, ◌+◌, ◌≤◌, ◌<◌, ◌^
 ghost use Rattle.flow_text.specs.Structure.{Gives};
 ghost use Rattle.flow_text.specs.Text as texts;
 ghost use Rattle.flow_text.specs.Answer as answers;
-ghost use Rattle.std.specs.Prelude.{List, IfOk};
+ghost use Rattle.std.specs.Prelude.{List, IfOk, IsErrOf};
+ghost use Rattle.flow_text.specs.declared.fault.Fault.{Fault};
+ghost use Rattle.flow_text.specs.Faults.{IsFirstFault};
 ghost use Rattle.flow_text.specs.declared.line.Line.{Line};
 ghost use Rattle.flow_text.specs.Text.{IsText};
 ghost use Rattle.flow_text.specs.Grammar.{FlowFile, IsFlowFile};
@@ -136,7 +138,9 @@ pub fn read(alloc: Global, text: &[u8]) -> Result<List<Line>, Refusal>
     ensures found { IfOk result (λ lines. IsRead text.now lines) }
     // A flow file is read, or refused by the first limit that it passes.
     ensures only { (lines : List Line) (file : FlowFile) → IsText 0 lines text.now → IsFlowFile lines file → IsAnswer result (answers.within_limits lines) }
-    // Which fault it is, line by line from the front.
+    // The fault that is answered is the first, by the grammar.
+    ensures first { (fault : Fault) → IsErrOf result (answers.refusal_of fault) → IsFirstFault text.now fault }
+    // Which answer it is, line by line from the front.
     ensures exact { IsAnswer result (answer_of text.now) }
 {
     answer(alloc, text)
