@@ -1,5 +1,5 @@
 -- What an answer says of the text.
-use Rattle.std.proofs.Common.{◌≡◌, ℕ, List, [], ◌∷◌, Bool, true, false, cond, ltb, Option, Some, None, Result, Ok, Err, refl, sym, ap, ◌∙◌, subst}
+use Rattle.std.proofs.Common.{◌≡◌, ℕ, List, Bool, true, false, cond, ltb, Option, Some, None, Result, Ok, Err, refl, ap, ◌∙◌, subst}
 use Rattle.std.specs.Prelude.{IfOk, IsErrOf}
 use Rattle.mc_base.specs.declared.refusal.Refusal.{Refusal}
 use Rattle.mc_base.specs.declared.refusal.Refusal.TheVariants as refusals
@@ -14,7 +14,7 @@ use Rattle.flow_text.proofs.FaultLaws.{first_fault}
 use Rattle.flow_text.specs.Answer.{IsAnswer, refusal_of, or_lines, within_limits, answered, answer_of, IsRead}
 use Rattle.flow_text.proofs.Complete.{file_is_read}
 use Rattle.flow_text.proofs.Sound.{read_is_file}
-use Rattle.flow_text.proofs.TextLaws.{text_again, text_takes, lines_are}
+use Rattle.flow_text.proofs.TextLaws.{text_again, text_takes}
 
 abbrev given : List Line → Result (List Line) Refusal
 given lines = Ok lines
@@ -22,7 +22,6 @@ given lines = Ok lines
 limits_ok : (o : Option Refusal) (lines got : List Line) → or_lines o lines ≡ given got → (o ≡ None) × (lines ≡ got)
 limits_ok None lines got h = (refl, cc)
 limits_ok (Some r) lines got h = absurd cc
-
 
 is_read : (text : List ℕ) (lines : List Line) → answer_of text ≡ given lines → IsRead text lines
 is_read text lines h = by_lines (lines_of text) refl h

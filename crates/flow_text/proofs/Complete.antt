@@ -1,6 +1,6 @@
 -- What is a flow file is read to its end.
-use Rattle.std.proofs.Common.{◌≡◌, ℕ, zero, suc, ◌+◌, ◌<◌, ◌≤◌, List, [], ◌∷◌, ◌++◌, length, get_or, eqb, ltb, cond, Bool, true, false, Option, Some, None, Result, Ok, Err, refl, sym, ap, subst, ◌∙◌, arith, length-append, inl, inr}
-use Rattle.std.specs.Prelude.{◌⊎◌, slice_index}
+use Rattle.std.proofs.Common.{◌≡◌, ℕ, zero, suc, ◌<◌, List, [], ◌∷◌, ◌++◌, length, eqb, cond, Bool, true, false, Option, Some, None, Result, Ok, refl, sym, ap, subst, ◌∙◌, arith, length-append}
+use Rattle.std.specs.Prelude.{slice_index}
 use Rattle.std.proofs.Math.Dec.{eqb-suc-zero}
 use Rattle.std.proofs.lemmas.Bool.{eq-eqb, lt-ltb}
 use Rattle.flow_text.specs.declared.line.Line.{Line}
@@ -11,11 +11,10 @@ use Rattle.flow_text.specs.declared.structure.Phase.{Phase}
 use Rattle.flow_text.specs.declared.structure.Phase.TheVariants as phases
 use Rattle.flow_text.specs.declared.structure.OpenRow.{OpenRow}
 use Rattle.flow_text.specs.declared.structure.Due.{Due}
-use Rattle.flow_text.specs.declared.structure.Rows.{Rows}
 use Rattle.flow_text.specs.declared.structure.Reading.{Reading}
 use Rattle.flow_text.specs.declared.structure.Reading.TheVariants as readings
-use Rattle.flow_text.specs.Structure.{◌>>=◌, is_filled, touched, bottom_of, is_cloned, due_of, fault_of_due, is_solid, take}
-use Rattle.flow_text.specs.Grammar.{Rest, no_more, edge, place, atom, row, line, lines_of, ended_box, boxes_behind, IsRest, HasNumber, number_behind, Numbered, BeginsSolid, IsFollowed, StartsCloned, IsPreceded, bottoms_behind, solid_of, EndsCloned, FlowFile, content_lines, IsContent, file_lines, IsFlowFile}
+use Rattle.flow_text.specs.Structure.{is_filled, touched, is_cloned, due_of, fault_of_due, take}
+use Rattle.flow_text.specs.Grammar.{Rest, no_more, edge, place, atom, row, line, lines_of, boxes_behind, IsRest, Numbered, BeginsSolid, StartsCloned, bottoms_behind, solid_of, EndsCloned, FlowFile, content_lines, IsContent, IsFlowFile}
 use Rattle.flow_text.specs.Run.{run}
 
 abbrev pub open_at : ℕ → Phase → List ℕ → OpenRow
@@ -91,27 +90,38 @@ Onward at phase boxes outer bottoms due solid a f ts next =
 
 over_edge : (a : ℕ) (f : Form) (at : ℕ) (phase : Phase) (boxes : List ℕ) (outer : List OpenRow) (bottoms : List ℕ) (due : Option Due) (solid : Option ℕ) (ts : List Line) (next : List ℕ)
     (t : Bool) → is_filled phase ≡ t → boxes_behind f t boxes ≡ Some next → Flat bottoms due solid (line a f ∷ ts) → Onward at phase boxes outer bottoms due solid a f ts next
-over_edge a (forms.Margin u) at phase boxes outer bottoms due solid ts next t is e h =
-    (None, rw (not_due due a (forms.Margin u) ts h.met) (ap (λ (b : List ℕ). passed (within (open_at at (touched phase a) b) outer bottoms None None)) (some_boxes boxes next e)),
-    record { numbered = h.numbered.1; met = tt; starts = h.starts.1; ends = h.ends.1 })
-over_edge a (forms.Solid u) at phase boxes outer bottoms due solid ts next t is e h =
-    (None, rw (not_due due a (forms.Solid u) ts h.met) (ap (λ (b : List ℕ). passed (within (open_at at (touched phase a) b) outer bottoms None (Some u))) (some_boxes boxes next e)),
-    record { numbered = h.numbered.1; met = tt; starts = h.starts.1; ends = h.ends.1 })
-over_edge a forms.Wall at phase boxes outer bottoms due solid ts next t is e h =
-    (None, rw (not_due due a forms.Wall ts h.met) (ap (λ (b : List ℕ). passed (within (open_at at (touched phase a) b) outer bottoms None None)) (some_boxes boxes next e)),
-    record { numbered = h.numbered.1; met = tt; starts = h.starts.1; ends = h.ends.1 })
+over_edge a (forms.Margin u) at phase boxes outer bottoms due solid ts next t is e h = (
+  None,
+  rw (not_due due a (forms.Margin u) ts h.met) (ap (λ (b : List ℕ). passed (within (open_at at (touched phase a) b) outer bottoms None None)) (some_boxes boxes next e)),
+  record { numbered = h.numbered.1; met = tt; starts = h.starts.1; ends = h.ends.1 },
+)
+over_edge a (forms.Solid u) at phase boxes outer bottoms due solid ts next t is e h = (
+  None,
+  rw (not_due due a (forms.Solid u) ts h.met) (ap (λ (b : List ℕ). passed (within (open_at at (touched phase a) b) outer bottoms None (Some u))) (some_boxes boxes next e)),
+  record { numbered = h.numbered.1; met = tt; starts = h.starts.1; ends = h.ends.1 },
+)
+over_edge a forms.Wall at phase boxes outer bottoms due solid ts next t is e h = (
+  None,
+  rw (not_due due a forms.Wall ts h.met) (ap (λ (b : List ℕ). passed (within (open_at at (touched phase a) b) outer bottoms None None)) (some_boxes boxes next e)),
+  record { numbered = h.numbered.1; met = tt; starts = h.starts.1; ends = h.ends.1 },
+)
 over_edge a (forms.Start number x w avoid top bottom) at phase boxes outer bottoms due solid ts next true is e h = absurd cc
 over_edge a (forms.Start number x w avoid top bottom) at phase boxes outer bottoms due solid ts next false is e h =
     let counted = eq-eqb number (length bottoms) h.numbered.0 in
-    let more : length (bottoms ++ bottom ∷ []) ≡ suc (length bottoms) = simp length-append (omega arith) in
-    (due_of a top, rw (not_due due a (forms.Start number x w avoid top bottom) ts h.met, is, counted) (ap (λ (b : List ℕ). passed (within (open_at at (touched phase a) b) outer (bottoms ++ bottom ∷ []) (due_of a top) None)) (some_boxes (number ∷ boxes) next e)),
-    record { numbered = subst (λ (k : ℕ). Numbered k ts) (sym more) h.numbered.1; met = met_behind a top ts h.starts.0; starts = h.starts.1; ends = h.ends.1 })
+    let more : length (bottoms ++ bottom ∷ []) ≡ suc (length bottoms) = simp length-append (omega arith) in (
+      due_of a top,
+      rw (not_due due a (forms.Start number x w avoid top bottom) ts h.met, is, counted) (ap (λ (b : List ℕ). passed (within (open_at at (touched phase a) b) outer (bottoms ++ bottom ∷ []) (due_of a top) None)) (some_boxes (number ∷ boxes) next e)),
+      record { numbered = subst (λ (k : ℕ). Numbered k ts) (sym more) h.numbered.1; met = met_behind a top ts h.starts.0; starts = h.starts.1; ends = h.ends.1 },
+    )
 over_edge a (forms.End number) at phase [] outer bottoms due solid ts next true is e h = absurd cc
 over_edge a (forms.End number) at phase (b ∷ boxes) outer bottoms due solid ts next true is e h = by_name (eqb b number) refl e
   where
     by_name : (v : Bool) → eqb b number ≡ v → cond v (Some boxes) None ≡ Some next → Onward at phase (b ∷ boxes) outer bottoms due solid a (forms.End number) ts next
-    by_name true same e = (None, rw (not_due due a (forms.End number) ts h.met, is, same, cloned_ok (slice_index bottoms number) solid h.ends.0, touched_filled phase a is) (ap (λ (b : List ℕ). passed (within (open_at at phase b) outer bottoms None None)) (some_boxes boxes next e)),
-        record { numbered = h.numbered.1; met = tt; starts = h.starts.1; ends = h.ends.1 })
+    by_name true same e = (
+      None,
+      rw (not_due due a (forms.End number) ts h.met, is, same, cloned_ok (slice_index bottoms number) solid h.ends.0, touched_filled phase a is) (ap (λ (b : List ℕ). passed (within (open_at at phase b) outer bottoms None None)) (some_boxes boxes next e)),
+      record { numbered = h.numbered.1; met = tt; starts = h.starts.1; ends = h.ends.1 },
+    )
     by_name false same e = absurd cc
 over_edge a (forms.End number) at phase boxes outer bottoms due solid ts next false is e h = absurd cc
 over_edge a forms.Flow at phase boxes outer bottoms due solid ts next t is e h = absurd cc

@@ -1,5 +1,5 @@
 -- The fault that is answered is the first.
-use Rattle.std.proofs.Common.{◌≡◌, ℕ, zero, suc, ◌+◌, ◌-◌, ◌<◌, ◌≤◌, List, [], ◌∷◌, ◌++◌, length, take, drop, Bool, true, false, eqb, ltb, leb, cond, not, ◌&&◌, ◌||◌, Option, Some, None, Result, Ok, Err, refl, sym, ap, ◌∙◌, subst, arith, length-drop, append_assoc, inl, inr}
+use Rattle.std.proofs.Common.{◌≡◌, ℕ, zero, suc, ◌+◌, ◌-◌, ◌<◌, ◌≤◌, List, [], ◌∷◌, ◌++◌, length, take, drop, Bool, true, false, eqb, ltb, leb, cond, not, ◌&&◌, Option, Some, None, Result, Ok, Err, refl, sym, ap, ◌∙◌, subst, arith, length-drop, append_assoc, inl, inr}
 use Rattle.std.specs.Prelude.{◌⊎◌, MatchBool}
 use Rattle.std.proofs.Math.Dec.{eqb-suc-zero}
 use Rattle.std.proofs.lemmas.Bool.{eq-eqb, and_parts, leb-true, le-ltb, lt-ltb, cases_lt}
@@ -14,15 +14,15 @@ use Rattle.flow_text.specs.declared.structure.Reading.TheVariants as readings
 use Rattle.flow_text.specs.Forms.{IsForm, form_of}
 use Rattle.flow_text.specs.Structure as structure
 use Rattle.flow_text.specs.Structure.{◌>>=◌, fault, unless, fault_of_due, fault_of_rows, what_is_due, fault_of_ending, is_solid}
-use Rattle.flow_text.specs.Text.{len_before, line_len, first_bad, bad_byte, sound_len, Cut, cuts, or_fault, no_byte_bad, fault_of_no_form, line_of, line_at, Read, read_on, ended_at, lines_in, lines_of}
+use Rattle.flow_text.specs.Text.{line_len, first_bad, bad_byte, sound_len, cuts, or_fault, no_byte_bad, line_of, line_at, read_on, ended_at, lines_in, lines_of}
 use Rattle.flow_text.specs.Run.{run}
-use Rattle.flow_text.specs.Faults.{fault_at, IsFront, IsOver, Seen, nothing_seen, seen, LineFault, Begins, ending_fault, byte_fault, ShapeFault, NoLine, IsCutShort, IsMisshapen, IsMisplaced, IsFaultOfLines, IsFirstFault}
+use Rattle.flow_text.specs.Faults.{fault_at, IsFront, seen, Begins, ending_fault, byte_fault, ShapeFault, NoLine, IsCutShort, IsMisshapen, IsMisplaced, IsFaultOfLines, IsFirstFault}
 use Rattle.flow_text.proofs.Complete.{passed, file_is_read}
 use Rattle.flow_text.proofs.Sound.{is_some_solid}
 use Rattle.flow_text.proofs.FormLemmas.{form_takes, form_again}
 use Rattle.flow_text.proofs.TextLemmas.{first_line}
 use Rattle.flow_text.proofs.TextLaws.{printable, printable_form, no_feed, line_takes, feed_at, line_len_le}
-use Rattle.flow_text.proofs.Stands.{is_front, no_front, failed, why, one_more, in_turn, BaseIs, due_behind_lines, base_behind_lines}
+use Rattle.flow_text.proofs.Stands.{is_front, no_front, failed, why, one_more, BaseIs, due_behind_lines, base_behind_lines}
 
 -- a line of a form ends at its line feed
 line_len_at : (text rest : List ℕ) → printable text ≡ true → line_len (text ++ 10 ∷ rest) ≡ length text
@@ -110,14 +110,16 @@ no_feed_behind base at text form g is (Some d) h = by_solid (is_solid d.top (Som
     by_solid : (b : Bool) → is_solid d.top (Some form) ≡ b → unless (cond b None (Some (fault_at d.at 8))) (bad_line (fault_at at 2)) ≡ bad_line g → ShapeFault (Some d) base at text false g
     by_solid true same h = inl (subst (λ (f : Form). IsForm f text) (is_some_solid d.top form same) is, line_fault_is (fault_at at 2) g h)
     by_solid false same h =
-        inr (λ f.
-            let one = form_again (forms.Solid d.top) text f in
-            let other = form_again form text is in
-            let e : form ≡ forms.Solid d.top = form_is form (forms.Solid d.top) (sym other ∙ one) in
-            let yes : is_solid d.top (Some form) ≡ true = rw e (eq-eqb d.top d.top refl) in
-            let two : true ≡ false = sym yes ∙ same in
-            cc,
-        line_fault_is (fault_at d.at 8) g h)
+        inr (
+          λ f.
+              let one = form_again (forms.Solid d.top) text f in
+              let other = form_again form text is in
+              let e : form ≡ forms.Solid d.top = form_is form (forms.Solid d.top) (sym other ∙ one) in
+              let yes : is_solid d.top (Some form) ≡ true = rw e (eq-eqb d.top d.top refl) in
+              let two : true ≡ false = sym yes ∙ same in
+              cc,
+          line_fault_is (fault_at d.at 8) g h,
+        )
 
 shape_fault : (r : Reading) (base : Option Line) (at : ℕ) (text : List ℕ) (ended : Bool) (g : Fault) → BaseIs r base → (o : Option Form) → form_of text ≡ o → line_of o r at text ended ≡ bad_line g → ShapeFault (what_is_due r) base at text ended g
 shape_fault r base at text ended g b None is h = no_form r base at text ended g b is (what_is_due r) refl h
@@ -148,10 +150,11 @@ not_ended r size g h e = let no : fault_of_ending readings.Ended size ≡ Some g
 cut_short : (front : List Line) (r : Reading) (so_far : List Line) (size : ℕ) (g : Fault) → run readings.Opening front ≡ passed r → unless (fault_of_ending r size) (Ok so_far) ≡ failed_lines g → IsCutShort front [] size g
 cut_short front r so_far size g h e =
     let some = unless_bad (fault_of_ending r size) so_far g e in
-    let due = due_behind_lines front r h in
-    (refl,
-    λ over. let ok = file_is_read front over.0 over.1 in let same : passed r ≡ passed readings.Ended = sym h ∙ ok in let is : r ≡ readings.Ended = cc in not_ended r size g some is,
-    rw due (ending_is r (seen front).base size g (base_behind_lines front r h) some))
+    let due = due_behind_lines front r h in (
+      refl,
+      λ over. let ok = file_is_read front over.0 over.1 in let same : passed r ≡ passed readings.Ended = sym h ∙ ok in let is : r ≡ readings.Ended = cc in not_ended r size g some is,
+      rw due (ending_is r (seen front).base size g (base_behind_lines front r h) some),
+    )
 
 -- line after line
 abbrev Reached : ℕ → List ℕ → List Line → ℕ → Fault → Type 0

@@ -1,16 +1,14 @@
 -- What a line says is what is read in it.
-use Rattle.std.proofs.Common.{◌≡◌, ℕ, zero, suc, ◌+◌, ◌*◌, ◌-◌, ◌^◌, ◌<◌, ◌≤◌, List, [], ◌∷◌, ◌++◌, length, take, drop, get_or, Bool, true, false, eqb, ltb, leb, cond, not, ◌&&◌, Option, Some, None, refl, sym, ap, ◌∙◌, subst, arith, append_assoc, inl, inr}
-use Rattle.std.specs.Prelude.{◌⊎◌, IfSome, codes, nat_eq}
+use Rattle.std.proofs.Common.{◌≡◌, ℕ, zero, suc, ◌^◌, ◌<◌, ◌≤◌, List, [], ◌∷◌, ◌++◌, length, take, drop, get_or, Bool, true, false, eqb, ltb, leb, cond, not, Option, Some, None, refl, sym, ap, ◌∙◌, subst, arith, inl, inr}
+use Rattle.std.specs.Prelude.{IfSome, codes, nat_eq}
 use Rattle.std.specs.Char.{is_ascii_digit}
 use Rattle.std.specs.Int.{IsInRange}
-use Rattle.std.specs.List.{prefix_len, starts_with}
+use Rattle.std.specs.List.{starts_with}
 use Rattle.std.specs.Str.{bytes_eq}
 use Rattle.std.specs.Fmt.{decimal}
 use Rattle.std.specs.Str.Parse.{digits_value, AllDigits}
 use Rattle.std.proofs.Math.Nat.{pow-le-pow_right}
-use Rattle.std.proofs.lemmas.List.{take-append-drop, take_at, drop_at, append-nil, length-take-le}
-use Rattle.std.proofs.lemmas.List.Sums.{prefix_len-le-length}
-use Rattle.std.proofs.lemmas.List.Folds.{length-prefix_len}
+use Rattle.std.proofs.lemmas.List.{take-append-drop, take_at, drop_at, append-nil}
 use Rattle.std.proofs.lemmas.Bool.{eqb-true, eqb-false, ne_eqb, eq-eqb, and_parts, leb-true, le-leb, ltb-false, le-ltb}
 use Rattle.std.proofs.lemmas.Bool.Decides.{nat_tests, Decides-eqb}
 use Rattle.std.proofs.lemmas.Slice.Eq.{bytes_eq-Decides, starts_is}
@@ -22,7 +20,7 @@ use Rattle.mc_base.specs.declared.level.Level.TheVariants.{Forced, L0, L1, L2}
 use Rattle.flow_text.specs.declared.line.Form.{Form}
 use Rattle.flow_text.specs.declared.line.Form.TheVariants.{Flow, First, Margin, Solid, Wall, Start, End, Atom, Row, Break, Close}
 use Rattle.flow_text.specs.Numbers.{IsNumber, field, digits_len, is_numeral, number_at, field_at}
-use Rattle.flow_text.specs.Forms.{level_text, available_text, fill_text, inside_text, IsAmounts, IsForm, ◌>>=◌, behind, alone, last_field, last_byte, level_of, level_at, fill_at, or_else, inside_at, both_at, amounts_at, start_at, row_end, row_open, row_behind, row_at, word_of, form_of}
+use Rattle.flow_text.specs.Forms.{level_text, available_text, fill_text, inside_text, IsAmounts, IsForm, ◌>>=◌, behind, alone, last_field, level_of, level_at, fill_at, or_else, inside_at, amounts_at, start_at, row_end, row_open, row_behind, row_at, word_of, form_of}
 use Rattle.flow_text.proofs.NumberLemmas.{all_digits_front}
 
 pub own : IsNumeralModel (AllDigits 10) (digits_value 10)
@@ -233,8 +231,16 @@ start_takes bytes form h = step (field_at bytes) _ form h (λ number e1 h1. step
     let f4 = inside_takes w.1 inside e4 in
     let f5 = amounts_takes inside.1 amounts e5 in
     let P : Form → Type 0 = λ f. IsForm f (40 ∷ bytes) in
-    subst P (some_is _ form h5) (f1.1, f2.1, f3.1, f5.0, f5.1, inside.1, f5.2,
-        ap (λ (t : List ℕ). 40 ∷ t) (f1.0 ∙ ap (λ (t : List ℕ). field number.0 ++ t) (f2.0 ∙ ap (λ (t : List ℕ). field x.0 ++ t) (f3.0 ∙ ap (λ (t : List ℕ). field w.0 ++ t) f4)))))))))
+    subst P (some_is _ form h5) (
+      f1.1,
+      f2.1,
+      f3.1,
+      f5.0,
+      f5.1,
+      inside.1,
+      f5.2,
+      ap (λ (t : List ℕ). 40 ∷ t) (f1.0 ∙ ap (λ (t : List ℕ). field number.0 ++ t) (f2.0 ∙ ap (λ (t : List ℕ). field x.0 ++ t) (f3.0 ∙ ap (λ (t : List ℕ). field w.0 ++ t) f4))),
+    ))))))
 
 start_again : (number x w top bottom : ℕ) (avoid : Bool) (amounts : List ℕ) → IsNumber number → IsNumber x → IsNumber w → IsNumber top → IsNumber bottom → IsAmounts top bottom amounts
     → start_at (field number ++ (field x ++ (field w ++ (inside_text avoid ++ amounts)))) ≡ pass (Start number x w avoid top bottom)
@@ -339,7 +345,7 @@ form_takes (b ∷ rest) form h =
     tested (eqb b 109) _ _ form h (λ is e. one_takes (λ u. Margin u) b 109 rest form (λ u n t. (n, t)) is e) (λ _ h.
     tested (eqb b 115) _ _ form h (λ is e. one_takes (λ u. Solid u) b 115 rest form (λ u n t. (n, t)) is e) (λ _ h.
     tested (eqb b 124) _ _ form h (λ is e. step (level_at rest) _ form e (λ level i g.
-        subst (λ (f : Form). IsForm f (b ∷ rest)) (some_is (Break level) form g) (ap (λ (c : ℕ). c ∷ rest) (eqb-true b 124 is) ∙ ap (λ (t : List ℕ). 124 ∷ t) (level_takes rest level i)))) (λ _ h.
+    subst (λ (f : Form). IsForm f (b ∷ rest)) (some_is (Break level) form g) (ap (λ (c : ℕ). c ∷ rest) (eqb-true b 124 is) ∙ ap (λ (t : List ℕ). 124 ∷ t) (level_takes rest level i)))) (λ _ h.
     tested (eqb b 40) _ _ form h (λ is e. subst (λ (c : ℕ). IsForm form (c ∷ rest)) (sym (eqb-true b 40 is)) (start_takes rest form e)) (λ _ h.
     tested (eqb b 41) _ _ form h (λ is e. one_takes (λ u. End u) b 41 rest form (λ u n t. (n, t)) is e) (λ _ h. word_takes (b ∷ rest) form h))))))
 

@@ -8,3 +8,4 @@ pub mod AnswerLaws
 pub mod Stands
 pub mod FaultLaws
 pub mod LimitLaws
+pub mod Unique

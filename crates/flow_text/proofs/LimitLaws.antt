@@ -1,5 +1,5 @@
 -- The limits on lines are those on rows.
-use Rattle.std.proofs.Common.{◌≡◌, ℕ, zero, suc, ◌+◌, ◌-◌, ◌<◌, ◌≤◌, List, [], ◌∷◌, ◌++◌, length, eqb, ltb, cond, not, ◌&&◌, ◌||◌, Bool, true, false, Option, Some, None, refl, sym, ap, ◌∙◌, subst, arith, inl, inr}
+use Rattle.std.proofs.Common.{◌≡◌, ℕ, suc, ◌+◌, ◌-◌, ◌<◌, ◌≤◌, List, [], ◌∷◌, length, ltb, ◌||◌, Bool, true, false, Option, Some, None, refl, sym, ap, ◌∙◌, arith, inl, inr}
 use Rattle.std.specs.Prelude.{◌⊎◌, max}
 use Rattle.std.proofs.Math.Dec.{eqb-suc-zero}
 use Rattle.std.proofs.lemmas.Bool.{lt-ltb, le-ltb, cases_lt}
@@ -7,8 +7,8 @@ use Rattle.flow_text.specs.declared.line.Line.{Line}
 use Rattle.flow_text.specs.declared.line.Form.{Form}
 use Rattle.flow_text.specs.declared.line.Form.TheVariants as forms
 use Rattle.flow_text.specs.declared.limit.Counts.{Counts}
-use Rattle.flow_text.specs.Grammar.{Rest, no_more, edge, place, atom, row, line, lines_of, boxes_behind, IsRest, FlowFile, content_lines, IsContent, file_lines, IsFlowFile}
-use Rattle.flow_text.specs.Limits.{is_item, items, open_behind, is_deep, one_more, no_counts, popped, counted, crowded, has_crowded_row}
+use Rattle.flow_text.specs.Grammar.{Rest, no_more, edge, place, atom, row, line, lines_of, boxes_behind, IsRest, FlowFile, content_lines, IsContent, IsFlowFile}
+use Rattle.flow_text.specs.Limits.{is_item, items, open_behind, is_deep, one_more, no_counts, counted, crowded, has_crowded_row}
 use Rattle.flow_text.specs.TreeLimits.{depth, own_items, all_items, most_inner, of_content, file_depth, file_items, file_most_inner}
 
 -- an edge opens and ends no row, and is no item
@@ -172,13 +172,14 @@ first_crowd (atom a u r) t boxes i after h = first_crowd r true boxes (one_more 
 first_crowd (row a n w st x content ended r) t boxes i after h =
     let inside = crowd_are content false [] 0 (one_more i) [] (line ended forms.Close ∷ lines_of r after) h.1 (omega arith) in
     let e : 0 + own_items content ≡ own_items content = omega arith in
-    let m = first_crowd r true boxes (one_more i) after h.2 in
-    (m.0,
-    rw (inside, e)
-    (ap (λ (b : Bool). (ltb 2000 (own_items content) || ltb 2000 (most_inner content)) || b) m.1
-    ∙ or_or (ltb 2000 (own_items content) || ltb 2000 (most_inner content)) (ltb 2000 (most_inner r)) (has_crowded_row (counts m.0 []) after)
-    ∙ ap (λ (b : Bool). (b || ltb 2000 (most_inner r)) || has_crowded_row (counts m.0 []) after) (or_max (own_items content) (most_inner content))
-    ∙ ap (λ (b : Bool). b || has_crowded_row (counts m.0 []) after) (or_max (max (own_items content) (most_inner content)) (most_inner r))))
+    let m = first_crowd r true boxes (one_more i) after h.2 in (
+      m.0,
+      rw (inside, e)
+          (ap (λ (b : Bool). (ltb 2000 (own_items content) || ltb 2000 (most_inner content)) || b) m.1
+          ∙ or_or (ltb 2000 (own_items content) || ltb 2000 (most_inner content)) (ltb 2000 (most_inner r)) (has_crowded_row (counts m.0 []) after)
+          ∙ ap (λ (b : Bool). (b || ltb 2000 (most_inner r)) || has_crowded_row (counts m.0 []) after) (or_max (own_items content) (most_inner content))
+          ∙ ap (λ (b : Bool). b || has_crowded_row (counts m.0 []) after) (or_max (max (own_items content) (most_inner content)) (most_inner r))),
+    )
 
 -- of a file
 content_deep : (content : Option Rest) (ended : ℕ) → IsContent content → is_deep 1 (content_lines content (line ended forms.Close ∷ [])) ≡ ltb 3 (suc (of_content depth content))

@@ -1,5 +1,5 @@
 -- What is read to its end is a flow file.
-use Rattle.std.proofs.Common.{◌≡◌, ℕ, zero, suc, ◌+◌, ◌<◌, ◌≤◌, List, [], ◌∷◌, ◌++◌, length, eqb, ltb, cond, Bool, true, false, Option, Some, None, Result, Ok, Err, refl, sym, ap, subst, ◌∙◌, arith, length-append, inl, inr}
+use Rattle.std.proofs.Common.{◌≡◌, ℕ, zero, suc, ◌<◌, List, [], ◌∷◌, ◌++◌, length, eqb, cond, Bool, true, false, Option, Some, None, Result, Ok, Err, refl, sym, ap, subst, ◌∙◌, arith, length-append, inl, inr}
 use Rattle.std.specs.Prelude.{◌⊎◌, slice_index}
 use Rattle.std.proofs.Math.Dec.{eqb-suc-zero}
 use Rattle.std.proofs.lemmas.Bool.{eqb-true, lt-ltb}
@@ -17,9 +17,9 @@ use Rattle.flow_text.specs.declared.structure.Reading.{Reading}
 use Rattle.flow_text.specs.declared.structure.Reading.TheVariants as readings
 use Rattle.flow_text.specs.Structure as structure
 use Rattle.flow_text.specs.Structure.{◌>>=◌, fault, unless, is_filled, touched, bottom_of, is_cloned, due_of, in_phase, in_row, fault_of_due, fault_at_end, is_solid, step, take, take_first, take_second, begun}
-use Rattle.flow_text.specs.Grammar.{Rest, no_more, edge, place, atom, row, line, lines_of, boxes_behind, IsRest, Numbered, BeginsSolid, IsFollowed, StartsCloned, IsPreceded, bottoms_behind, solid_of, EndsCloned, FlowFile, content_lines, IsContent, file_lines, IsFlowFile}
+use Rattle.flow_text.specs.Grammar.{Rest, no_more, edge, place, atom, row, line, lines_of, boxes_behind, IsRest, Numbered, BeginsSolid, StartsCloned, EndsCloned, FlowFile, content_lines, IsContent, IsFlowFile}
 use Rattle.flow_text.specs.Run.{run}
-use Rattle.flow_text.proofs.Complete.{open_at, within, DueMet, Flat, filled_touched, touched_filled, passed}
+use Rattle.flow_text.proofs.Complete.{open_at, DueMet, Flat, filled_touched, touched_filled, passed}
 
 abbrev some_rest : Rest → Option Rest
 some_rest r = Some r
@@ -311,15 +311,16 @@ rows_are_file : (a : ℕ) (b n w st : ℕ) (available : Option ℕ) (auto : Bool
     → (file : FlowFile) × IsFlowFile (line a forms.Flow ∷ line b (forms.First n w st available auto) ∷ toks) file
 rows_are_file a b n w st available auto toks e =
     let f = sound toks (readings.Within (begun b)) e in
-    let c = content_of b toks f.remains in
-    (record { at = a; first_at = b; n = n; w = w; step = st; available = available; auto = auto; content = c.0; ended = c.1 },
-    record {
-      whole = ap (λ (x : List Line). line a forms.Flow ∷ line b (forms.First n w st available auto) ∷ x) c.3;
-      content = c.2;
-      numbered = (tt, (tt, f.flat.numbered));
-      starts = (tt, (tt, f.flat.starts));
-      ends = (tt, (tt, f.flat.ends));
-    })
+    let c = content_of b toks f.remains in (
+      record { at = a; first_at = b; n = n; w = w; step = st; available = available; auto = auto; content = c.0; ended = c.1 },
+      record {
+        whole = ap (λ (x : List Line). line a forms.Flow ∷ line b (forms.First n w st available auto) ∷ x) c.3;
+        content = c.2;
+        numbered = (tt, (tt, f.flat.numbered));
+        starts = (tt, (tt, f.flat.starts));
+        ends = (tt, (tt, f.flat.ends));
+      },
+    )
 
 second : (a b : ℕ) (f : Form) (toks : List Line) → (take_second b f >>= λ next. run next toks) ≡ passed readings.Ended → (file : FlowFile) × IsFlowFile (line a forms.Flow ∷ line b f ∷ toks) file
 second a b (forms.First n w st available auto) toks e = rows_are_file a b n w st available auto toks e

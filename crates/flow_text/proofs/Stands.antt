@@ -1,8 +1,7 @@
 -- What reading knows of where the next line stands.
-use Rattle.std.proofs.Common.{◌≡◌, ℕ, zero, suc, ◌+◌, ◌<◌, ◌≤◌, List, [], ◌∷◌, ◌++◌, length, eqb, ltb, cond, Bool, true, false, ◌||◌, Option, Some, None, Result, Ok, Err, refl, sym, ap, subst, ◌∙◌, arith, append_assoc, inl, inr}
+use Rattle.std.proofs.Common.{◌≡◌, ℕ, List, [], ◌∷◌, ◌++◌, length, eqb, cond, Bool, true, false, ◌||◌, Option, Some, None, Result, Ok, Err, refl, sym, ap, subst, ◌∙◌, inl, inr}
 use Rattle.std.specs.Prelude.{◌⊎◌, slice_index, MatchBool}
 use Rattle.std.proofs.lemmas.Bool.{eq-eqb}
-use Rattle.std.proofs.lemmas.List.{append-nil}
 use Rattle.flow_text.specs.declared.line.Line.{Line}
 use Rattle.flow_text.specs.declared.line.Form.{Form}
 use Rattle.flow_text.specs.declared.line.Form.TheVariants as forms
@@ -16,9 +15,9 @@ use Rattle.flow_text.specs.declared.structure.Reading.{Reading}
 use Rattle.flow_text.specs.declared.structure.Reading.TheVariants as readings
 use Rattle.flow_text.specs.Structure as structure
 use Rattle.flow_text.specs.Structure.{◌>>=◌, fault, unless, is_filled, touched, bottom_of, is_cloned, due_of, in_phase, in_row, fault_of_due, fault_at_end, is_solid, step, take, take_first, take_second, begun}
-use Rattle.flow_text.specs.Grammar.{line, bottoms_behind, FlowFile, IsFlowFile}
+use Rattle.flow_text.specs.Grammar.{line}
 use Rattle.flow_text.specs.Run.{run}
-use Rattle.flow_text.specs.Faults.{fault_at, IsFront, IsOver, is_edge, Seen, nothing_seen, or_line, base_behind, first_behind, due_behind, seen_behind, seen_from, seen, is_item_end, end_behind, end_fault, EndFault, RowsFault, is_flow, BaseFault, DueFault, LineFault}
+use Rattle.flow_text.specs.Faults.{fault_at, IsFront, IsOver, is_edge, Seen, nothing_seen, seen_behind, seen_from, seen, is_item_end, end_behind, end_fault, EndFault, RowsFault, is_flow, DueFault, LineFault}
 use Rattle.flow_text.proofs.Complete.{open_at, within, passed, filled_touched, touched_filled, file_is_read}
 use Rattle.flow_text.proofs.Sound.{seen as seen_result, reading_is, unless_ok, one_test, two_tests, three_tests, other_test, no_box, is_some_solid, read_is_file}
 

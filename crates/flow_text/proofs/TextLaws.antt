@@ -1,12 +1,11 @@
 -- What is read in a text is its lines, and its lines are read.
-use Rattle.std.proofs.Common.{◌≡◌, ℕ, zero, suc, ◌+◌, ◌-◌, ◌^◌, ◌<◌, ◌≤◌, List, [], ◌∷◌, ◌++◌, length, take, drop, get_or, Bool, true, false, eqb, ltb, leb, cond, not, ◌&&◌, ◌||◌, Option, Some, None, Result, Ok, Err, refl, sym, ap, ◌∙◌, subst, arith, length-take, length-drop, append_assoc, inl, inr}
-use Rattle.std.specs.Prelude.{◌⊎◌, codes, min, IfSome}
+use Rattle.std.proofs.Common.{◌≡◌, ℕ, zero, suc, ◌+◌, ◌^◌, ◌<◌, ◌≤◌, List, [], ◌∷◌, ◌++◌, length, take, drop, get_or, Bool, true, false, eqb, ltb, leb, cond, not, ◌&&◌, ◌||◌, Option, Some, None, Result, Ok, Err, refl, sym, ap, ◌∙◌, subst, arith, length-drop, append_assoc, inl, inr}
+use Rattle.std.specs.Prelude.{codes, min, IfSome}
 use Rattle.std.specs.Fmt.{decimal}
-use Rattle.std.specs.Str.{IsAscii}
 use Rattle.std.specs.Int.{IsInRange}
 use Rattle.std.specs.Str.Parse.{AllDigits}
 use Rattle.std.specs.Str.Lossy.{utf8_valid_len}
-use Rattle.std.proofs.lemmas.Bool.{eqb-true, eqb-false, ne_eqb, eq-eqb, and_parts, leb-true, le-leb, le-ltb}
+use Rattle.std.proofs.lemmas.Bool.{eqb-true, ne_eqb, and_parts, leb-true, le-ltb}
 use Rattle.std.proofs.lemmas.Bool.Decides.{nat_tests}
 use Rattle.std.proofs.lemmas.List.{append-nil, length-take-le}
 use Rattle.std.proofs.lemmas.Fmt.{digits_decimal}
@@ -25,7 +24,7 @@ use Rattle.flow_text.specs.Numbers.{IsNumber, field}
 use Rattle.flow_text.specs.Forms.{level_text, available_text, fill_text, inside_text, IsAmounts, IsForm, form_of}
 use Rattle.flow_text.specs.Structure as structure
 use Rattle.flow_text.specs.Structure.{◌>>=◌, fault, unless, fault_of_due, fault_of_rows, what_is_due, fault_of_ending}
-use Rattle.flow_text.specs.Text.{IsText, len_before, line_len, sound_len, Cut, grown, cuts, line_of, line_at, Read, read_on, ended_at, lines_in, lines_of}
+use Rattle.flow_text.specs.Text.{IsText, len_before, line_len, sound_len, cuts, line_of, line_at, Read, read_on, ended_at, lines_of}
 use Rattle.flow_text.specs.Run.{run}
 use Rattle.flow_text.proofs.FormLemmas.{own, form_takes, form_again}
 use Rattle.flow_text.proofs.TextLemmas.{first_line}
@@ -79,13 +78,13 @@ pub printable_form : (form : Form) (text : List ℕ) → IsForm form text → pr
 printable_form Flow text h = rw h refl
 printable_form (First n w st available auto) text h =
     rw h.5 (both (codes "row") (field n ++ (field w ++ (field st ++ (available_text available ++ fill_text auto)))) refl (both (field n) (field w ++ (field st ++ (available_text available ++ fill_text auto))) (printable_field n h.1)
-        (both (field w) (field st ++ (available_text available ++ fill_text auto)) (printable_field w h.2) (both (field st) (available_text available ++ fill_text auto) (printable_field st h.3) (both (available_text available) (fill_text auto) (printable_available available h.4) (printable_fill auto))))))
+    (both (field w) (field st ++ (available_text available ++ fill_text auto)) (printable_field w h.2) (both (field st) (available_text available ++ fill_text auto) (printable_field st h.3) (both (available_text available) (fill_text auto) (printable_available available h.4) (printable_fill auto))))))
 printable_form (Margin u) text h = rw h.1 (printable_field u h.0)
 printable_form (Solid u) text h = rw h.1 (printable_field u h.0)
 printable_form Wall text h = rw h refl
 printable_form (Start number x w avoid top bottom) text h =
     rw h.7 (both (codes "(") (field number ++ (field x ++ (field w ++ (inside_text avoid ++ h.5)))) refl (both (field number) (field x ++ (field w ++ (inside_text avoid ++ h.5))) (printable_field number h.0)
-        (both (field x) (field w ++ (inside_text avoid ++ h.5)) (printable_field x h.1) (both (field w) (inside_text avoid ++ h.5) (printable_field w h.2) (both (inside_text avoid) h.5 (printable_inside avoid) (printable_amounts top bottom h.5 h.3 h.4 h.6))))))
+    (both (field x) (field w ++ (inside_text avoid ++ h.5)) (printable_field x h.1) (both (field w) (inside_text avoid ++ h.5) (printable_field w h.2) (both (inside_text avoid) h.5 (printable_inside avoid) (printable_amounts top bottom h.5 h.3 h.4 h.6))))))
 printable_form (End number) text h = rw h.1 (printable_field number h.0)
 printable_form (Atom u) text h = rw h.1 (printable_field u h.0)
 printable_form (Row n w st x) text h =

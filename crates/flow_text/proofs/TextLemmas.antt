@@ -1,5 +1,5 @@
 -- Reading the lines of a text one after the other, as a loop does.
-use Rattle.std.proofs.Common.{◌≡◌, ℕ, zero, suc, ◌+◌, ◌-◌, ◌<◌, ◌≤◌, List, [], ◌∷◌, ◌++◌, length, take, drop, Bool, true, false, eqb, cond, not, Option, Some, None, Result, Ok, Err, refl, sym, ap, ◌∙◌, subst, arith, length-take, length-drop}
+use Rattle.std.proofs.Common.{◌≡◌, ℕ, suc, ◌+◌, ◌<◌, ◌≤◌, List, [], ◌∷◌, ◌++◌, length, take, drop, Bool, true, false, eqb, cond, not, Some, None, Result, Ok, Err, refl, sym, ap, ◌∙◌, arith, length-drop}
 use Rattle.std.proofs.Math.Dec.{eqb-suc-zero}
 use Rattle.std.proofs.lemmas.List.{drop-drop, drop_all}
 use Rattle.flow_text.specs.declared.line.Line.{Line}
@@ -10,7 +10,7 @@ use Rattle.flow_text.specs.declared.structure.Reading.{Reading}
 use Rattle.flow_text.specs.declared.structure.Reading.TheVariants as readings
 use Rattle.flow_text.specs.Structure as structure
 use Rattle.flow_text.specs.Structure.{◌>>=◌, Fails, fault_of_ending}
-use Rattle.flow_text.specs.Text.{len_before, line_len, Cut, grown, cuts, line_at, Read, read_on, ended_at, lines_in}
+use Rattle.flow_text.specs.Text.{line_len, Cut, cuts, line_at, Read, read_on, ended_at, lines_in}
 
 -- the first line is n bytes long
 abbrev cut_at : ℕ → ℕ → List ℕ → Cut

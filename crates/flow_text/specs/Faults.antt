@@ -6,7 +6,7 @@ use Rattle.flow_text.specs.declared.line.Form.{Form}
 use Rattle.flow_text.specs.declared.line.Form.TheVariants as forms
 use Rattle.flow_text.specs.declared.fault.Fault.{Fault}
 use Rattle.flow_text.specs.declared.structure.Due.{Due}
-use Rattle.flow_text.specs.Forms.{IsForm, form_of}
+use Rattle.flow_text.specs.Forms.{IsForm}
 use Rattle.flow_text.specs.Grammar.{FlowFile, IsFlowFile, line, bottoms_behind}
 use Rattle.flow_text.specs.Text.{line_len, bad_byte, sound_len}
 

@@ -1,5 +1,5 @@
 -- Reading line after line.
-use Rattle.std.specs.Prelude.{List, [], ◌∷◌, Result, Ok, Err}
+use Rattle.std.specs.Prelude.{List, [], ◌∷◌, Result, Ok}
 use Rattle.flow_text.specs.declared.line.Line.{Line}
 use Rattle.flow_text.specs.declared.fault.Fault.{Fault}
 use Rattle.flow_text.specs.declared.structure.Reading.{Reading}

@@ -1,16 +1,15 @@
 //! Reading a text line by line.
 
-ghost use Rattle.std.specs.Prelude.{◌≡◌, ◌+◌, ◌≤◌, ◌<◌, ◌^◌, length, nat_lt};
+ghost use Rattle.std.specs.Prelude.{◌≡◌, ◌+◌, ◌<◌, ◌^◌, List, length, IfOk, IsErrOf};
+ghost use Rattle.flow_text.specs.declared.fault.Fault.{Fault};
+ghost use Rattle.flow_text.specs.declared.line.Line.{Line};
+ghost use Rattle.flow_text.specs.Answer as answers;
+ghost use Rattle.flow_text.specs.Answer.{IsAnswer, answer_of, IsRead};
+ghost use Rattle.flow_text.specs.Faults.{IsFirstFault};
+ghost use Rattle.flow_text.specs.Grammar.{FlowFile, IsFlowFile};
 ghost use Rattle.flow_text.specs.Structure.{Gives};
 ghost use Rattle.flow_text.specs.Text as texts;
-ghost use Rattle.flow_text.specs.Answer as answers;
-ghost use Rattle.std.specs.Prelude.{List, IfOk, IsErrOf};
-ghost use Rattle.flow_text.specs.declared.fault.Fault.{Fault};
-ghost use Rattle.flow_text.specs.Faults.{IsFirstFault};
-ghost use Rattle.flow_text.specs.declared.line.Line.{Line};
 ghost use Rattle.flow_text.specs.Text.{IsText};
-ghost use Rattle.flow_text.specs.Grammar.{FlowFile, IsFlowFile};
-ghost use Rattle.flow_text.specs.Answer.{IsAnswer, answer_of, IsRead};
 
 use crate::cut::{bad_byte, len_before, sound_len};
 use crate::fault::{Fault, ReadError, fault_at};

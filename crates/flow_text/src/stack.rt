@@ -1,7 +1,5 @@
 //! What is open, the innermost first.
 
-ghost use Rattle.std.specs.Prelude.{reverse, List};
-
 use std::alloc::{AllocFailed, Global};
 use std::marker::Model;
 

@@ -40,12 +40,7 @@ fn file_of(alloc: Global, lines: &[u8]) -> Result<Vec<u8>, AllocError> {
 }
 
 /// These lines, and then so often one item more.
-fn with_items(
-    alloc: Global,
-    lines: &[u8],
-    count: u32,
-    end: &[u8],
-) -> Result<Vec<u8>, AllocError> {
+fn with_items(alloc: Global, lines: &[u8], count: u32, end: &[u8]) -> Result<Vec<u8>, AllocError> {
     let mut text = file_of(alloc, lines)?;
     for _ in 0..count {
         text.extend_from_slice(b"| 0\na 1\n")?;
@@ -114,7 +109,11 @@ fn lines_in_the_first_row(rt: HostRuntime) -> Result<(), Fail> {
         (b"( 0 0 1 auto 5\na 1\n) 0\nend\n", 31, 4),
         (b"a\t1\nend\n", 32, 2),
         (b"a 1\nen", 35, 2),
-        (b"( 0 0 100 auto 5 10\na 20\n| 0\na 20\ns 10\n) 0\nend\n", 31, 8),
+        (
+            b"( 0 0 100 auto 5 10\na 20\n| 0\na 20\ns 10\n) 0\nend\n",
+            31,
+            8,
+        ),
         (b"( 0 0 100 auto 5 10\n", 31, 8),
         (b"( 0 0 100 auto 5 10\ns 5", 51, 2),
         (b"( 0 0 100 auto 5 10\ns 5\na 20\ns 9\n) 0\nend\n", 64, 8),
@@ -131,7 +130,10 @@ fn files_that_are_read(rt: HostRuntime) -> Result<(), Fail> {
     let cases: [(&[u8], usize); 6] = [
         (b"end\n", 3),
         (b"m 5\na 1\ns 0\nend\n", 6),
-        (b"( 0 0 100 auto 5 10\ns 5\na 20\n| 0\na 20\ns 10\n) 0\nend\n", 10),
+        (
+            b"( 0 0 100 auto 5 10\ns 5\na 20\n| 0\na 20\ns 10\n) 0\nend\n",
+            10,
+        ),
         (b"( 0 0 100 avoid 0 0\na 1\n) 0\nend\n", 6),
         (b"row 1 1 1 0\na 1\nend\n| F\na 1\nend\n", 8),
         (b"a 9999999999999999999\nend\n", 4),
@@ -141,7 +143,10 @@ fn files_that_are_read(rt: HostRuntime) -> Result<(), Fail> {
         match read(rt.alloc(), &text) {
             Ok(lines) => assert_eq!(rt; lines.len(), count),
             Err(refusal) => {
-                assert_eq!(rt; Some(refusal), limit(LimitName::Length, 9999999999999999999, 16777216))
+                assert_eq!(rt;
+                    Some(refusal),
+                    limit(LimitName::Length, 9999999999999999999, 16777216)
+                )
             }
         }
     }
@@ -153,16 +158,51 @@ fn limits_at_and_past_their_numbers(rt: HostRuntime) -> Result<(), Fail> {
     let alloc = rt.alloc();
     let cases: [(&[u8], u32, &[u8], Option<Refusal>); 11] = [
         (b"a 16777216\n", 0, b"end\n", None),
-        (b"a 16777217\n", 0, b"end\n", limit(LimitName::Length, 16777217, 16777216)),
-        (b"row 33 16777217 1 0\na 1\nend\n", 0, b"end\n", limit(LimitName::Length, 16777217, 16777216)),
+        (
+            b"a 16777217\n",
+            0,
+            b"end\n",
+            limit(LimitName::Length, 16777217, 16777216),
+        ),
+        (
+            b"row 33 16777217 1 0\na 1\nend\n",
+            0,
+            b"end\n",
+            limit(LimitName::Length, 16777217, 16777216),
+        ),
         (b"row 32 1 1 0\na 1\nend\n", 0, b"end\n", None),
-        (b"row 33 1 1 0\na 1\nend\n", 0, b"end\n", limit(LimitName::Columns, 33, 32)),
-        (b"row 1 1 1 0\nrow 1 1 1 0\na 1\nend\nend\n", 0, b"end\n", None),
-        (b"row 1 1 1 0\nrow 1 1 1 0\nrow 1 1 1 0\na 1\nend\nend\nend\n", 0, b"end\n", limit(LimitName::Nest, 4, 3)),
+        (
+            b"row 33 1 1 0\na 1\nend\n",
+            0,
+            b"end\n",
+            limit(LimitName::Columns, 33, 32),
+        ),
+        (
+            b"row 1 1 1 0\nrow 1 1 1 0\na 1\nend\nend\n",
+            0,
+            b"end\n",
+            None,
+        ),
+        (
+            b"row 1 1 1 0\nrow 1 1 1 0\nrow 1 1 1 0\na 1\nend\nend\nend\n",
+            0,
+            b"end\n",
+            limit(LimitName::Nest, 4, 3),
+        ),
         (b"row 1 1 1 0\na 1\n", 1999, b"end\nend\n", None),
-        (b"row 1 1 1 0\na 1\n", 2000, b"end\nend\n", limit(LimitName::InnerItems, 2001, 2000)),
+        (
+            b"row 1 1 1 0\na 1\n",
+            2000,
+            b"end\nend\n",
+            limit(LimitName::InnerItems, 2001, 2000),
+        ),
         (b"a 1\n", 99999, b"end\n", None),
-        (b"a 1\n", 100000, b"end\n", limit(LimitName::Items, 100001, 100000)),
+        (
+            b"a 1\n",
+            100000,
+            b"end\n",
+            limit(LimitName::Items, 100001, 100000),
+        ),
     ];
     for (lines, count, end, wanted) in cases {
         let text = with_items(alloc, lines, count, end)?;

@@ -1,4 +1,4 @@
-use Rattle.std.proofs.Common.{◌≡◌, ◌+◌, drop}
+use Rattle.std.proofs.Common.{◌≡◌, drop}
 use Rattle.flow_text.specs.Text.{first_bad}
 use Rattle.flow_text.proofs.cut.bad_byte.Given as goal
 

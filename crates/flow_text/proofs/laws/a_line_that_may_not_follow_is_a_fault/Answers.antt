@@ -1,4 +1,4 @@
-use Rattle.std.proofs.Common.{◌≡◌, ◌∷◌, [], ◌++◌, ◌∙◌, sym, refl}
+use Rattle.std.proofs.Common.{◌∷◌, [], ◌++◌, ◌∙◌, sym}
 use Rattle.flow_text.proofs.Stands.{is_front, no_front, why, one_more}
 use Rattle.flow_text.proofs.laws.a_line_that_may_not_follow_is_a_fault.Goals as goal
 

@@ -1,6 +1,5 @@
-use Rattle.std.proofs.Common.{◌≡◌, ◌≤◌, take, arith, refl, sym, ap, ◌∙◌, subst, length}
+use Rattle.std.proofs.Common.{arith}
 use Rattle.std.specs.Char.{is_ascii_digit}
-use Rattle.std.specs.Str.Parse.{AllDigits}
 use Rattle.std.proofs.lemmas.List.Sums.{prefix_len-le-length}
 use Rattle.flow_text.proofs.NumberLemmas.{all_digits_front}
 use Rattle.flow_text.proofs.number.number.Goals as goal

@@ -1,6 +1,5 @@
-use Rattle.std.proofs.Common.{◌≡◌, ◌∷◌, [], ◌++◌, length, arith, refl, sym, ap, ◌∙◌, subst, not, ◌+◌, drop, take}
+use Rattle.std.proofs.Common.{refl, sym}
 use Rattle.std.proofs.lemmas.Result.{err_from_is_err_and}
-use Rattle.flow_text.specs.Text.{line_len}
 use Rattle.flow_text.proofs.TextLemmas.{goes_on, bad_line, bad_place, may_end, may_not_end}
 use Rattle.flow_text.proofs.reading.lines_in.Goals as goal
 
