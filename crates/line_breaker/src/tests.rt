@@ -11,7 +11,7 @@ ghost use Rattle.line_breaker.specs.Lines.{IsMeasurable, IsStyle};
 use crate::{Line, break_lines};
 use font_table::{FaceId, read_fonts};
 use inline_text::{Piece, RunStyle, Runs};
-use mc_base::List;
+use mc_base::{List, Refusal, Units};
 use std::alloc::{AllocError, Global};
 use std::fmt::Write;
 use std::test::Fail;
@@ -70,6 +70,16 @@ fn run(alloc: Global, face: FaceId, text: &str) -> Result<Runs, AllocError>
     })
 }
 
+/// The lines of a run in the notation above.
+fn lines_of(alloc: Global, text: &str, width: Units) -> Result<List<Line>, Refusal> {
+    let fonts = read_fonts(alloc, METRICS)?;
+    let runs = run(alloc, fonts.face(&[], 400, false), text)?;
+    if runs.pieces.len() > 1_000_000 {
+        return Err(Refusal::NoMemory);
+    }
+    Ok(break_lines(alloc, &runs, &fonts, width, 0)?)
+}
+
 /// For each line its end, its width and its height.
 fn written(alloc: Global, lines: &[Line]) -> Result<String, AllocError> {
     let mut text = String::new(alloc);
@@ -82,8 +92,6 @@ fn written(alloc: Global, lines: &[Line]) -> Result<String, AllocError> {
 
 #[test]
 fn cuts_runs_into_lines(rt: HostRuntime) -> Result<(), Fail> {
-    let fonts = read_fonts(rt.alloc(), METRICS)?;
-    let face = fonts.face(&[], 400, false);
     for (text, width, want) in [
         (
             "aaa bbb-ccc dddd\u{ad}dddd",
@@ -102,29 +110,19 @@ fn cuts_runs_into_lines(rt: HostRuntime) -> Result<(), Fail> {
         ("a\u{ad}#", 2560, "2 1024 1280;3 2560 2253;"),
         ("a\u{ad}<b", 512, "3 512 1280;4 512 1280;"),
     ] {
-        let runs = run(rt.alloc(), face, text)?;
-        assert!(rt; runs.pieces.len() < 1000);
-        let lines = break_lines(rt.alloc(), &runs, &fonts, width, 0)?;
-        assert_eq!(rt;
-            written(rt.alloc(), lines.as_slice())?.as_str(),
-            want,
-            "of {text}"
-        );
+        let lines = lines_of(rt.alloc(), text, width)?;
+        assert_eq!(rt; written(rt.alloc(), lines.as_slice())?.as_str(), want, "of {text}");
     }
     Ok(())
 }
 
 #[test]
 fn cuts_a_million_pieces(rt: HostRuntime) -> Result<(), Fail> {
-    let fonts = read_fonts(rt.alloc(), METRICS)?;
-    let face = fonts.face(&[], 400, false);
     let mut text = String::new(rt.alloc());
     for _ in 0..250_000 {
         text.push_str("aaa ")?;
     }
-    let runs = run(rt.alloc(), face, text.as_str())?;
-    assert!(rt; runs.pieces.len() == 1_000_000);
-    let lines = break_lines(rt.alloc(), &runs, &fonts, 3840, 0)?;
+    let lines = lines_of(rt.alloc(), text.as_str(), 3840)?;
     assert_eq!(rt; lines.len(), 125_000);
     Ok(())
 }
