@@ -119,7 +119,7 @@ beyond runs faces places opportunities ahead from base width best k s h lt befor
     let end = stretch_end runs.pieces from in
     let within : end ≤ length runs.pieces = let w = s.within in end_within runs.pieces from (omega (arith, w)) in
     let none : any_fits places opportunities base width next (drop next runs.pieces) ≡ false =
-      sym (least_is places opportunities base width next (drop next runs.pieces)) ∙ ap (λ (a : Ahead). fits_in base width a.least) (sym (s.ahead_is next (omega (arith, lt, before, within)))) ∙ h.no_more (omega (arith, lt, before)) in
+    sym (least_is places opportunities base width next (drop next runs.pieces)) ∙ ap (λ (a : Ahead). fits_in base width a.least) (sym (s.ahead_is next (omega (arith, lt, before, within)))) ∙ h.no_more (omega (arith, lt, before)) in
     let same = same_end runs.pieces from next (omega (arith, low)) (omega (arith, lt, before)) in
     let j = k - next in
     let at : next + j ≡ k = omega (arith, lt) in
@@ -140,7 +140,7 @@ best_fits runs faces places opportunities ahead from base width best s h lt =
     let end = stretch_end runs.pieces from in
     let within : end ≤ length runs.pieces = let w = s.within in end_within runs.pieces from (omega (arith, w)) in
     let some : any_fits places opportunities base width best (drop best runs.pieces) ≡ true =
-      sym (least_is places opportunities base width best (drop best runs.pieces)) ∙ ap (λ (a : Ahead). fits_in base width a.least) (sym (s.ahead_is best (omega (arith, high, within)))) ∙ h.fits lt in
+    sym (least_is places opportunities base width best (drop best runs.pieces)) ∙ ap (λ (a : Ahead). fits_in base width a.least) (sym (s.ahead_is best (omega (arith, high, within)))) ∙ h.fits lt in
     let found = some_fits places opportunities base width best (drop best runs.pieces) some in
     let same = same_end runs.pieces from best low high in
     by_place found.0 found.1 found.2 same
@@ -173,15 +173,15 @@ none_counted runs faces places opportunities ahead from width best k s h unfollo
     elim (cases_lt best k) [
       | inl later ↦ beyond runs faces places opportunities ahead from (place_at places from).before width best k s h later counted.before_end (counted_fits runs faces places opportunities ahead from width k s counted fits)
       | inr earlier ↦
-        let lt = counted.behind in
-        let high = h.high in
-        let within : best ≤ length runs.pieces = let w = s.within in omega (arith, high, end_within runs.pieces from (omega (arith, w))) in
-        let content = ltb-true _ _ ((counts_again runs faces places opportunities ahead from k s counted).0) in
-        let more = behind-contents runs.styles faces (place_behind runs.styles faces start (take k runs.pieces)) (part runs.pieces k best) in
-        let up_to : place_at places best ≡ place_behind runs.styles faces (place_behind runs.styles faces start (take k runs.pieces)) (part runs.pieces k best) = s.places_are best within ∙ behind-part runs.styles faces runs.pieces k best earlier in
-        let here = s.places_are k (omega (arith, earlier, within)) in
-        let less = ltb-false _ _ (unfollowed (omega (arith, lt, earlier))) in
-        omega (arith, content, more, less, ap (λ (p : Place). p.contents) up_to, ap (λ (p : Place). p.contents) here)
+          let lt = counted.behind in
+          let high = h.high in
+          let within : best ≤ length runs.pieces = let w = s.within in omega (arith, high, end_within runs.pieces from (omega (arith, w))) in
+          let content = ltb-true _ _ ((counts_again runs faces places opportunities ahead from k s counted).0) in
+          let more = behind-contents runs.styles faces (place_behind runs.styles faces start (take k runs.pieces)) (part runs.pieces k best) in
+          let up_to : place_at places best ≡ place_behind runs.styles faces (place_behind runs.styles faces start (take k runs.pieces)) (part runs.pieces k best) = s.places_are best within ∙ behind-part runs.styles faces runs.pieces k best earlier in
+          let here = s.places_are k (omega (arith, earlier, within)) in
+          let less = ltb-false _ _ (unfollowed (omega (arith, lt, earlier))) in
+          omega (arith, content, more, less, ap (λ (p : Place). p.contents) up_to, ap (λ (p : Place). p.contents) here)
     ]
 
 pub ends : (runs : Runs) (faces : List Face) (places : List Place) (opportunities : List Bool) (ahead : List Ahead) (from width to : ℕ) → Setting runs faces places opportunities ahead from
@@ -197,7 +197,11 @@ ends runs faces places opportunities ahead from width to s (last wide best lt co
     let some = sym (follows_is runs faces places opportunities ahead from to s (omega (arith, lt)) within) ∙ content in
     let reach = reaches_is runs faces places opportunities ahead from to s lt high some in
     let counted : Counts runs from to = record {
-      behind = lt; before_end = high; opportunity = sym (s.opportunities_are to (omega (arith, lt)) within) ∙ f.0; content_before = some; content_after = f.1;
+      behind = lt;
+      before_end = high;
+      opportunity = sym (s.opportunities_are to (omega (arith, lt)) within) ∙ f.0;
+      content_before = some;
+      content_after = f.1;
     } in
     last_that_fits (λ fits. omega (arith, fits, w, leb-false _ _ wide)) counted (omega (arith, reach, leb-true _ _ f.2))
     (λ k later h fits. beyond runs faces places opportunities ahead from (place_at places from).before width to k s best later h.before_end (counted_fits runs faces places opportunities ahead from width k s h fits))
@@ -208,12 +212,12 @@ ends runs faces places opportunities ahead from width to s (arrays.first best wi
     let low = is_first.low in
     elim (cases_lt to end) [
       | inl inner ↦ lines.first (λ fits. omega (arith, fits, w, leb-false _ _ wide))
-        (λ k h fits. none_counted runs faces places opportunities ahead from width best k s is_best unfollowed h fits)
-        (counts_true runs faces places opportunities ahead from to s low inner (is_first.found inner))
-        (λ k earlier h. let e = sym (counts_again runs faces places opportunities ahead from k s h).1 ∙ is_first.before k h.behind earlier in absurd cc)
+          (λ k h fits. none_counted runs faces places opportunities ahead from width best k s is_best unfollowed h fits)
+          (counts_true runs faces places opportunities ahead from to s low inner (is_first.found inner))
+          (λ k earlier h. let e = sym (counts_again runs faces places opportunities ahead from k s h).1 ∙ is_first.before k h.behind earlier in absurd cc)
       | inr outer ↦
-        let at_end : to ≡ end = omega (arith, outer, high) in
-        unbroken (λ k h. let b = h.before_end in let e = sym (counts_again runs faces places opportunities ahead from k s h).1 ∙ is_first.before k h.behind (omega (arith, b, at_end)) in absurd cc) at_end
+          let at_end : to ≡ end = omega (arith, outer, high) in
+          unbroken (λ k h. let b = h.before_end in let e = sym (counts_again runs faces places opportunities ahead from k s h).1 ∙ is_first.before k h.behind (omega (arith, b, at_end)) in absurd cc) at_end
     ]
 
 -- a line isn't empty, and ends within the run

@@ -74,12 +74,12 @@ holds_from runs faces width strut from (line ∷ lines) are =
     let later = end_later runs faces width from line.to are.0 are.1.ends in
     let sum : from + (line.to - from) ≡ line.to = omega (arith, later) in
     let seam : part pieces from line.to ++ drop line.to pieces ≡ drop from pieces =
-      ap (λ (n : ℕ). part pieces from line.to ++ drop n pieces) (sym sum) ∙ ap (λ (ps : List Piece). part pieces from line.to ++ ps) (sym (drop-drop (line.to - from) from pieces)) ∙ take-append-drop (line.to - from) (drop from pieces) in
+    ap (λ (n : ℕ). part pieces from line.to ++ drop n pieces) (sym sum) ∙ ap (λ (ps : List Piece). part pieces from line.to ++ ps) (sym (drop-drop (line.to - from) from pieces)) ∙ take-append-drop (line.to - from) (drop from pieces) in
     record {
       rest = deeper.rest;
       whole = ap (λ (n : ℕ). part pieces n line.to ++ pieces_of pieces lines ++ deeper.rest) are.1.begins
-        ∙ append_assoc (part pieces from line.to) (pieces_of pieces lines) deeper.rest
-        ∙ ap (λ (ps : List Piece). part pieces from line.to ++ ps) deeper.whole ∙ seam;
+          ∙ append_assoc (part pieces from line.to) (pieces_of pieces lines) deeper.rest
+          ∙ ap (λ (ps : List Piece). part pieces from line.to ++ ps) deeper.whole ∙ seam;
       chances = deeper.chances;
     }
 
@@ -97,12 +97,12 @@ pub setting : (runs : Runs) (faces : List Face) (places : List Place) (ahead : L
 setting runs faces places ahead from h lt = record {
   places_are = λ k le. ap (λ (ps : List Place). place_at ps k) h.places_are ∙ place_at-from runs.styles faces start runs.pieces k le;
   ahead_is = λ k le.
-    let same : 0 + k ≡ k = omega arith in
-    ap (λ (xs : List Ahead). ahead_at xs k) h.ahead_are ∙ ahead_at-from places h.opportunities 0 runs.pieces k le ∙ ap (λ (n : ℕ). ahead_of places h.opportunities n (drop k runs.pieces)) same;
+      let same : 0 + k ≡ k = omega arith in
+      ap (λ (xs : List Ahead). ahead_at xs k) h.ahead_are ∙ ahead_at-from places h.opportunities 0 runs.pieces k le ∙ ap (λ (n : ℕ). ahead_of places h.opportunities n (drop k runs.pieces)) same;
   opportunities_are = λ k later le.
-    let some : ltb 0 k ≡ true = lt-ltb 0 k later in
-    let same : k - 1 + 1 ≡ k = omega arith in
-    ap (λ (b : Bool). b && get_or h.opportunities (k - 1) false) some ∙ read_again h.opportunities (k - 1) (opportunity_at runs (k - 1 + 1)) (h.opportunities_are (k - 1) (omega arith)) ∙ ap (opportunity_at runs) same;
+      let some : ltb 0 k ≡ true = lt-ltb 0 k later in
+      let same : k - 1 + 1 ≡ k = omega arith in
+      ap (λ (b : Bool). b && get_or h.opportunities (k - 1) false) some ∙ read_again h.opportunities (k - 1) (opportunity_at runs (k - 1 + 1)) (h.opportunities_are (k - 1) (omega arith)) ∙ ap (opportunity_at runs) same;
   within = lt;
 }
 

@@ -109,7 +109,7 @@ pub data IsEnd (places : List Place) (ahead : List Ahead) (from end width to : �
   all : is_whole places from end width ≡ true → to ≡ end → IsEnd places ahead from end width to
   last : is_whole places from end width ≡ false → IsBest ahead from end (place_at places from).before width to → from < to → follows places from to ≡ true → IsEnd places ahead from end width to
   first : (best : ℕ) → is_whole places from end width ≡ false → IsBest ahead from end (place_at places from).before width best → (from < best → follows places from best ≡ false)
-    → IsFirst places ahead from end to → IsEnd places ahead from end width to
+      → IsFirst places ahead from end to → IsEnd places ahead from end width to
 
 -- the lengths of a place are far from what 64 bits hold
 pub record IsSmall (place : Place) : Type 0 where

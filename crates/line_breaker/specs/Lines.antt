@@ -68,10 +68,10 @@ pub data EndsAt (runs : Runs) (faces : List Face) (width from to : ℕ) : Type 0
   whole : to ≡ stretch_end runs.pieces from → Fits runs faces width from to → EndsAt runs faces width from to
   -- else it ends at the last opportunity that counts and at which it fits
   last_that_fits : (Fits runs faces width from (stretch_end runs.pieces from) → ⊥) → Counts runs from to → Fits runs faces width from to
-    → ((place : ℕ) → to < place → Counts runs from place → Fits runs faces width from place → ⊥) → EndsAt runs faces width from to
+      → ((place : ℕ) → to < place → Counts runs from place → Fits runs faces width from place → ⊥) → EndsAt runs faces width from to
   -- else at the first that counts
   first : (Fits runs faces width from (stretch_end runs.pieces from) → ⊥) → ((place : ℕ) → Counts runs from place → Fits runs faces width from place → ⊥) → Counts runs from to
-    → ((place : ℕ) → place < to → Counts runs from place → ⊥) → EndsAt runs faces width from to
+      → ((place : ℕ) → place < to → Counts runs from place → ⊥) → EndsAt runs faces width from to
   -- or is its whole stretch where none does
   unbroken : ((place : ℕ) → Counts runs from place → ⊥) → to ≡ stretch_end runs.pieces from → EndsAt runs faces width from to
 

@@ -64,7 +64,11 @@ fn ahead_before(at: usize, piece: &Piece, opportunity: bool, needed: Units, next
         end: next.end,
         content,
         opens,
-        least: if opens { least_of(needed, next.least) } else { next.least },
+        least: if opens {
+            least_of(needed, next.least)
+        } else {
+            next.least
+        },
     }
 }
 
@@ -76,7 +80,12 @@ fn opportunity_before(opportunities: &[bool], at: usize) -> bool
 }
 
 /// What follows each place, for the places and the opportunities behind the pieces.
-pub fn aheads(alloc: Global, pieces: &[Piece], places: &[Place], opportunities: &[bool]) -> Result<Vec<Ahead>, NoMemory>
+pub fn aheads(
+    alloc: Global,
+    pieces: &[Piece],
+    places: &[Place],
+    opportunities: &[bool],
+) -> Result<Vec<Ahead>, NoMemory>
     requires few { length pieces.now < 2 ^ 32 }
     requires places { length places.now ≡ length pieces.now + 1 }
     requires opportunities { length opportunities.now ≡ length pieces.now }

@@ -94,7 +94,11 @@ fn line_width(places: &[Place], from: usize, end: usize, to: usize) -> Units
     ensures { result ≡ arrays.width_between places.now from end to }
 {
     let text = edge(&places[to]).saturating_sub(places[from].before);
-    if to == end { text } else { text + places[to].hyphen }
+    if to == end {
+        text
+    } else {
+        text + places[to].hyphen
+    }
 }
 
 fn is_chance(piece: &Piece) -> bool
@@ -117,7 +121,15 @@ fn lines_end(pieces: &[Piece]) -> usize
 }
 
 /// The line that begins at a place.
-fn next_line(runs: &Runs, fonts: &Fonts, places: &[Place], ahead: &[Ahead], from: usize, width: Units, strut: u32) -> Line
+fn next_line(
+    runs: &Runs,
+    fonts: &Fonts,
+    places: &[Place],
+    ahead: &[Ahead],
+    from: usize,
+    width: Units,
+    strut: u32,
+) -> Line
     requires can { CanBreak runs.now fonts.now strut }
     requires measured { IsMeasured runs.now fonts.now places.now ahead.now }
     requires from { from < length runs.now.pieces }
@@ -140,7 +152,15 @@ fn next_line(runs: &Runs, fonts: &Fonts, places: &[Place], ahead: &[Ahead], from
 }
 
 /// The lines of a run that is measured.
-fn cut(alloc: Global, runs: &Runs, fonts: &Fonts, places: &[Place], ahead: &[Ahead], width: Units, strut: u32) -> Result<List<Line>, NoMemory>
+fn cut(
+    alloc: Global,
+    runs: &Runs,
+    fonts: &Fonts,
+    places: &[Place],
+    ahead: &[Ahead],
+    width: Units,
+    strut: u32,
+) -> Result<List<Line>, NoMemory>
     requires can { CanBreak runs.now fonts.now strut }
     requires measured { IsMeasured runs.now fonts.now places.now ahead.now }
     ensures { IfOk result (AreLines runs.now fonts.now width strut 0) }
@@ -166,7 +186,13 @@ fn cut(alloc: Global, runs: &Runs, fonts: &Fonts, places: &[Place], ahead: &[Ahe
 ///
 /// The run has fewer than 2^32 pieces, its styles and `strut` are numbers of `styles`, the faces are of `fonts`, sizes and
 /// the measures of images are at most 2^24 units, and line heights at most 2^62.
-pub fn break_lines(alloc: Global, runs: &Runs, fonts: &Fonts, width: Units, strut: u32) -> Result<List<Line>, NoMemory>
+pub fn break_lines(
+    alloc: Global,
+    runs: &Runs,
+    fonts: &Fonts,
+    width: Units,
+    strut: u32,
+) -> Result<List<Line>, NoMemory>
     requires { CanBreak runs.now fonts.now strut }
     ensures lines { IfOk result (AreLines runs.now fonts.now width strut 0) }
 

@@ -78,7 +78,10 @@ fn is_soft_hyphen(styles: &[RunStyle], piece: &Piece) -> bool
     ensures { result ≡ seams.is_soft_hyphen styles.now piece.now }
 {
     match *piece {
-        Piece::Char { ch: '\u{ad}', style } => match styles.get(style as usize) {
+        Piece::Char {
+            ch: '\u{ad}',
+            style,
+        } => match styles.get(style as usize) {
             Some(style) => style.hyphens,
             None => false,
         },

@@ -41,12 +41,21 @@ fn place_after(styles: &[RunStyle], fonts: &Fonts, place: Place, piece: &Piece) 
         before: place.before + width,
         space: space_behind(styles, place.space, piece, width),
         hyphen: hyphen(styles, fonts, piece),
-        contents: if is_content(piece) { place.contents + 1 } else { place.contents },
+        contents: if is_content(piece) {
+            place.contents + 1
+        } else {
+            place.contents
+        },
     }
 }
 
 /// The places of a run, one more than its pieces.
-pub fn places(alloc: Global, styles: &[RunStyle], fonts: &Fonts, pieces: &[Piece]) -> Result<Vec<Place>, NoMemory>
+pub fn places(
+    alloc: Global,
+    styles: &[RunStyle],
+    fonts: &Fonts,
+    pieces: &[Piece],
+) -> Result<Vec<Place>, NoMemory>
     requires styles { All (IsStyle fonts.now) styles.now }
     requires named { All (HasStyle styles.now) pieces.now }
     requires measurable { All IsMeasurable pieces.now }

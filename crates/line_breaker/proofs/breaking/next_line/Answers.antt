@@ -64,7 +64,7 @@ returns-clause-line c =
     let t = to_within runs faces places ahead from (ahead_at ahead from).end c.args.width to (omega (arith, f.end, f.later)) c.line_end-to.ensures in
     let is_end : IsEnd places ahead from (stretch_end runs.pieces from) c.args.width to = subst (λ (n : ℕ). IsEnd places ahead from n c.args.width to) f.end c.line_end-to.ensures in
     let own : c.split_at-2.result.0.now ≡ part runs.pieces from to =
-      c.split_at-2.ensures.front ∙ ap (λ (ps : List Piece). take (to - from) ps) (c.split_at.ensures.back ∙ ap (λ (ps : List Piece). drop from ps) c.as_slice-pieces.ensures) in
+    c.split_at-2.ensures.front ∙ ap (λ (ps : List Piece). take (to - from) ps) (c.split_at.ensures.back ∙ ap (λ (ps : List Piece). drop from ps) c.as_slice-pieces.ensures) in
     let strut = style_of runs.styles c.args.strut in
     let same : style_of c.as_slice-styles.result.now c.args.strut ≡ strut = ap (λ (xs : List RunStyle). style_of xs c.args.strut) c.as_slice-styles.ensures in
     record {
@@ -72,5 +72,5 @@ returns-clause-line c =
       ends = ends runs faces places opportunities ahead from c.args.width to s is_end;
       is_width = c.line_width.ensures ∙ ap (λ (n : ℕ). width_between places from n to) f.end ∙ width_is runs faces places opportunities ahead from to s t.0 (omega (arith, t.1, f.end));
       is_height = height_is c.as_slice-styles.result.now runs.styles faces _ (above_of faces strut) _ (below_of faces strut) c.split_at-2.result.0.now (part runs.pieces from to) c.line_height.result
-        c.as_slice-styles.ensures (c.extent_of-strut.ensures.above ∙ ap (above_of faces) same) (c.extent_of-strut.ensures.below ∙ ap (below_of faces) same) own c.line_height.ensures;
+          c.as_slice-styles.ensures (c.extent_of-strut.ensures.above ∙ ap (above_of faces) same) (c.extent_of-strut.ensures.below ∙ ap (below_of faces) same) own c.line_height.ensures;
     }
