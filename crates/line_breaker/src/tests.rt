@@ -111,7 +111,11 @@ fn cuts_runs_into_lines(rt: HostRuntime) -> Result<(), Fail> {
         ("a\u{ad}<b", 512, "3 512 1280;4 512 1280;"),
     ] {
         let lines = lines_of(rt.alloc(), text, width)?;
-        assert_eq!(rt; written(rt.alloc(), lines.as_slice())?.as_str(), want, "of {text}");
+        assert_eq!(rt;
+            written(rt.alloc(), lines.as_slice())?.as_str(),
+            want,
+            "of {text}"
+        );
     }
     Ok(())
 }
