@@ -1,6 +1,6 @@
 -- A height that fits exists: at the whole reach of a flow only forced breaks remain. So the size is the least height that
 -- fits.
-use Rattle.std.proofs.Common.{◌≡◌, ℕ, zero, suc, ◌+◌, ◌-◌, ◌<◌, ◌≤◌, Bool, true, false, cond, not, ◌||◌, List, [], ◌∷◌, ◌++◌, length, take, drop, get_or, None, refl, sym, ◌∙◌, ap, arith, sum_by, add-one, ◌⊎◌, inl, inr}
+use Rattle.std.proofs.Common.{zero-add, ◌≡◌, ℕ, zero, suc, ◌+◌, ◌-◌, ◌<◌, ◌≤◌, Bool, true, false, cond, not, ◌||◌, List, [], ◌∷◌, ◌++◌, length, take, drop, get_or, None, refl, sym, ◌∙◌, ap, arith, sum_by, add-one, ◌⊎◌, inl, inr}
 use Rattle.std.specs.Prelude.{filter, count_by, ◌==◌}
 use Rattle.std.specs.List.{flat_map}
 use Rattle.std.proofs.lemmas.Bool.{le-ltb, cases_lt}
@@ -17,7 +17,7 @@ use Rattle.flow_list.specs.Strip.{Strip, strip_at, put, lay_all}
 use Rattle.flow_list.specs.Tokens.{Token, row_start, item_number, within, is_end}
 use Rattle.flow_list.specs.ClonedEdges.{open_across, tops, bottoms}
 use Rattle.flow_list.specs.Column.{is_forced, Column, Inner, Step, Place, cut, step_at, steps, strip_behind, start_strip, steps_from, height_of, last_place, no_place, unstopped, column, column_over, column_to, avoids_at, endless_column}
-use Rattle.flow_list.specs.Rows.{columns_by, columns, fails, reach_end, forced_above, most_columns, fits, heights_from, amounts_in, reach, size_in}
+use Rattle.flow_list.specs.Rows.{columns_by, columns, fails, reach_end, forced_above, most_columns, fits, heights_from, amounts_in, least, reach, size_in}
 use Rattle.flow_list.proofs.StripBounds.{put_le, lay_all_le}
 use Rattle.flow_list.proofs.Walk.{behind}
 use Rattle.flow_list.proofs.LeastHeight.{IsLeast, least-is}
@@ -32,12 +32,12 @@ starts-take g zero seams = omega arith
 starts-take g (suc n) [] = omega arith
 starts-take g (suc n) (s ∷ ss) = omega (arith, starts-take g n ss, sum_by-append g (flat_map started s.head) (starts_in (take n ss)), sum_by-append g (flat_map started s.head) (starts_in ss))
 
-open_at-le : (g : ℕ → ℕ) (f : Flow) (k : ℕ) → sum_by g (open_at f k) ≤ sum_by g (boxes_in f)
+pub open_at-le : (g : ℕ → ℕ) (f : Flow) (k : ℕ) → sum_by g (open_at f k) ≤ sum_by g (boxes_in f)
 open_at-le g f k =
     let seams : List Seam = take (k + 1) f.seams in
     omega (arith, filter-le g (λ b. not (is_among (ends_in seams) b)) (f.opened ++ starts_in seams), starts-take g (k + 1) f.seams, sum_by-append g f.opened (starts_in seams), sum_by-append g f.opened (starts_in f.seams))
 
-open_across-le : (g : ℕ → ℕ) (f : Flow) (k : ℕ) → sum_by g (open_across f k) ≤ sum_by g (boxes_in f)
+pub open_across-le : (g : ℕ → ℕ) (f : Flow) (k : ℕ) → sum_by g (open_across f k) ≤ sum_by g (boxes_in f)
 open_across-le g f zero = omega (arith, sum_by-append g f.opened (starts_in f.seams))
 open_across-le g f (suc k) = omega (arith, filter-le g (λ b. not (is_among (flat_map ended (seam_of f (suc k)).tail) b)) (open_at f k), open_at-le g f k)
 
@@ -69,7 +69,7 @@ first-amounts [] k = nil k
 first-amounts (s ∷ ss) zero = sum_by-cons (λ (s : Seam). sum_by amount s.tail + sum_by amount s.head) s ss
 first-amounts (s ∷ ss) (suc k) = rw add-one (rw add-one at (first-amounts ss k))
 
-amounts-drop : (seams : List Seam) (k : ℕ) → amounts_in (drop k seams) ≤ amounts_in seams
+pub amounts-drop : (seams : List Seam) (k : ℕ) → amounts_in (drop k seams) ≤ amounts_in seams
 amounts-drop seams zero = omega arith
 amounts-drop [] (suc k) = omega arith
 amounts-drop (s ∷ ss) (suc k) = omega (arith, amounts-drop ss k, sum_by-cons (λ (s : Seam). sum_by amount s.tail + sum_by amount s.head) s ss)
@@ -131,6 +131,14 @@ forced_in-yes : (n : ℕ) (seams : List Seam) → is_forced (get_or seams 0 no_s
 forced_in-yes n [] h = cc
 forced_in-yes n (s ∷ ss) h = sum_by-cons (λ x. cond (is_forced_seam x) 1 0) s (take n ss) ∙ rw h refl
 
+forced_in-no : (n : ℕ) (seams : List Seam) → is_forced (get_or seams 0 no_seam).level ≡ false → forced_in (suc n) seams ≡ forced_in n (drop 1 seams)
+forced_in-no n [] h = nil n
+  where
+    nil : (n : ℕ) → count_by is_forced_seam [] ≡ forced_in n []
+    nil zero = refl
+    nil (suc n) = refl
+forced_in-no n (s ∷ ss) h = sum_by-cons (λ x. cond (is_forced_seam x) 1 0) s (take n ss) ∙ rw h (zero-add _)
+
 forced_in-drop : (n : ℕ) (seams : List Seam) → forced_in n (drop 1 seams) ≤ forced_in (suc n) seams
 forced_in-drop zero [] = omega arith
 forced_in-drop (suc n) [] = omega arith
@@ -147,6 +155,16 @@ forced_above-one f k lt h =
     let n : length f.items - k - 1 ≡ suc (length f.items - (k + 1) - 1) = omega arith in
     ap (λ m. forced_in m (drop (k + 1) f.seams)) n ∙ forced_in-yes (length f.items - (k + 1) - 1) (drop (k + 1) f.seams) (rw (first-drop (k + 1) f.seams) h)
     ∙ ap (λ seams. 1 + forced_in (length f.items - (k + 1) - 1) seams) (drop-one k f.seams)
+
+pub forced_above-none : (f : Flow) (k : ℕ) → k + 1 < length f.items → is_forced (seam_of f (k + 1)).level ≡ false → forced_above f k ≡ forced_above f (k + 1)
+forced_above-none f k lt h =
+    let n : length f.items - k - 1 ≡ suc (length f.items - (k + 1) - 1) = omega arith in
+    ap (λ m. forced_in m (drop (k + 1) f.seams)) n ∙ forced_in-no (length f.items - (k + 1) - 1) (drop (k + 1) f.seams) (rw (first-drop (k + 1) f.seams) h)
+    ∙ ap (λ seams. forced_in (length f.items - (k + 1) - 1) seams) (drop-one k f.seams)
+
+-- none is above the last item
+pub forced_above-last : (f : Flow) (k : ℕ) → length f.items ≤ k + 1 → forced_above f k ≡ 0
+forced_above-last f k le = let n : length f.items - k - 1 ≡ 0 = omega arith in rw n refl
 
 pub forced_above-falls : (f : Flow) (k : ℕ) → forced_above f (k + 1) ≤ forced_above f k
 forced_above-falls f k = go (cases_lt (k + 1) (length f.items))
@@ -223,6 +241,10 @@ heights-later inner q [] j = omega arith
 heights-later inner q (x ∷ xs) zero = omega arith
 heights-later inner q (x ∷ xs) (suc j) = let e = heights-later inner row_start xs j in omega arith
 
+pub heights-drop : (inner : Inner) (items : List Item) (k : ℕ) → heights_from inner row_start (drop k items) ≤ heights_from inner row_start items
+heights-drop inner items zero = omega arith
+heights-drop inner items (suc k) = heights-later inner row_start items k
+
 reach-later : (inner : Inner) (d : FlowsData) (f : Flow) (t : Token) (e : ℕ) → item_number t < e → reach inner d f (e ∷ []) ≤ reach inner d f t
 reach-later inner d f t e lt =
     let i = item_number t in
@@ -268,3 +290,55 @@ unfolding size_in fits
 size-is inner d r q lt =
     least-is (fits inner d r q) (reach inner d (flow_in d r) q) 0 (reach inner d (flow_in d r) q) (λ k l. absurd (omega arith)) (omega arith) (omega arith)
     (fits-at-reach inner d (flow_in d r) (reach inner d (flow_in d r) q) (most_columns (row_of d r).n (flow_in d r) q) q lt (omega arith) (omega arith))
+
+-- ---- columns without end
+
+columns_by-same : (make other : Token → Column) (f : Flow) (n : ℕ) (t : Token) → is_end f t ≡ false → make t ≡ other t → columns_by make f n (make t).end ≡ columns_by other f n (make t).end → columns_by make f (suc n) t ≡ columns_by other f (suc n) t
+columns_by-same make other f n t e same rest =
+    columns_by-step make f n t e ∙ ap (λ cs. make t ∷ cs) rest ∙ ap (λ (c : Column). c ∷ columns_by other f n c.end) same ∙ sym (columns_by-step other f n t e)
+
+-- columns with room for the whole reach are those without end
+pub columns-endless : (inner : Inner) (d : FlowsData) (f : Flow) (h n : ℕ) (t : Token) → reach inner d f t ≤ h → columns_by (λ q. endless_column inner d f q) f n t ≡ columns_by (λ q. column inner d f q h) f n t
+unfolding columns_by
+columns-endless inner d f h zero t b = refl
+columns-endless inner d f h (suc n) t b = go (λ e x. columns-endless inner d f h n (e ∷ []) x) (cases_lt (item_number t) (length f.items))
+  where
+    go : ((e : ℕ) → reach inner d f (e ∷ []) ≤ h → columns_by (λ q. endless_column inner d f q) f n (e ∷ []) ≡ columns_by (λ q. column inner d f q h) f n (e ∷ [])) →
+        (item_number t < length f.items) ⊎ (length f.items ≤ item_number t) → columns_by (λ q. endless_column inner d f q) f (suc n) t ≡ columns_by (λ q. column inner d f q h) f (suc n) t
+    go again (inr x) = let e : is_end f t ≡ true = grind (arith, nat_tests) in columns_by-past (λ q. endless_column inner d f q) f (suc n) t e ∙ sym (columns_by-past (λ q. column inner d f q h) f (suc n) t e)
+    go again (inl x) = next (flow-steps-end inner d f t x)
+      where
+        next : ((e : ℕ) × Ends f (item_number t) e (steps_from inner d f t)) → columns_by (λ q. endless_column inner d f q) f (suc n) t ≡ columns_by (λ q. column inner d f q h) f (suc n) t
+        next (e, r) =
+            let i : (endless_column inner d f t).end ≡ e ∷ [] = ap (λ (c : Column). c.end) (endless-ends inner d f t e r) in
+            columns_by-same (λ q. endless_column inner d f q) (λ q. column inner d f q h) f n t (grind (arith, nat_tests)) (sym (reach-endless inner d f t h b))
+            (rw i (again e (let m = reach-later inner d f t e r.later in omega arith)))
+
+-- ---- the size of each row
+
+least-le : (p : ℕ → Bool) (n lo : ℕ) → least p n lo ≤ lo + n
+unfolding least
+least-le p zero lo = omega arith
+least-le p (suc n) lo = go (p lo) (least-le p n (lo + 1))
+  where
+    go : (b : Bool) → least p n (lo + 1) ≤ lo + 1 + n → (elim b as (λ _. ℕ) [ true ↦ lo | false ↦ least p n (lo + 1) ]) ≤ lo + suc n
+    go true h = omega arith
+    go false h = omega arith
+
+-- no size is above the reach
+pub size-reach : (inner : Inner) (d : FlowsData) (r : ℕ) (q : Token) → size_in inner d r q ≤ reach inner d (flow_in d r) q
+unfolding size_in
+size-reach inner d r q = let l = least-le (fits inner d r q) (reach inner d (flow_in d r) q) 0 in omega arith
+
+-- at the end each height fits
+fits-past : (inner : Inner) (d : FlowsData) (r h : ℕ) (q : Token) → length (flow_in d r).items ≤ item_number q → fits inner d r q h ≡ true
+unfolding fits
+fits-past inner d r h q le = reach_end-past (λ t. column inner d (flow_in d r) t h) (flow_in d r) (most_columns (row_of d r).n (flow_in d r) q) q (grind (arith, nat_tests))
+
+pub size-least : (inner : Inner) (d : FlowsData) (r : ℕ) (q : Token) → IsLeast (fits inner d r q) (size_in inner d r q)
+unfolding size_in
+size-least inner d r q = go (cases_lt (item_number q) (length (flow_in d r).items))
+  where
+    go : (item_number q < length (flow_in d r).items) ⊎ (length (flow_in d r).items ≤ item_number q) → IsLeast (fits inner d r q) (least (fits inner d r q) (reach inner d (flow_in d r) q) 0)
+    go (inl x) = size-is inner d r q x
+    go (inr x) = least-is (fits inner d r q) (reach inner d (flow_in d r) q) 0 0 (λ k l. absurd (omega arith)) (omega arith) (omega arith) (fits-past inner d r 0 q x)

@@ -1,14 +1,20 @@
+pub mod AtomFlows
+pub mod Digits
+pub mod EdgeSums
+pub mod Fields
 pub mod Fitting
 pub mod LeastHeight
 pub mod OpenBoxes
-pub mod StripBounds
-pub mod Walk
-mod Worked
-mod WorkedCloned
-mod WorkedNested
-mod WorkedParts
-pub mod Digits
-pub mod Fields
 pub mod PiecesLoop
 pub mod PlainLaws
 pub mod PlainSound
+mod SoundExamples
+pub mod StripBounds
+pub mod Walk
+mod Worked
+mod WorkedCertificates
+mod WorkedCloned
+mod WorkedNested
+mod WorkedParts
+mod WorkedRanges
+mod WorkedTrees

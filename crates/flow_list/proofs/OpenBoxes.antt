@@ -1,10 +1,10 @@
 -- The cloned edges of the boxes that are open, one seam after another, in a sound flow: at a tail those that end there fall
 -- away, at a head those that start there come.
-use Rattle.std.proofs.Common.{◌≡◌, ℕ, zero, suc, ◌+◌, ◌-◌, ◌*◌, ◌<◌, ◌≤◌, Bool, true, false, cond, not, ◌&&◌, ◌||◌, List, [], ◌∷◌, ◌++◌, length, take, drop, get_or, refl, sym, subst, ◌∙◌, ap, arith, sum_by, add-one, zero-add, add-zero, ◌⊎◌, inl, inr, append_assoc, All, reverse, ◌≢◌}
-use Rattle.std.specs.Prelude.{filter, count_by, ◌==◌, AllPairs, nat_eq, Contains, SomeIndex, slice_get, Some}
-use Rattle.std.specs.List.{list_any, flat_map}
+use Rattle.std.proofs.Common.{◌≡◌, ℕ, zero, suc, ◌+◌, ◌*◌, ◌<◌, ◌≤◌, Bool, true, false, cond, not, ◌||◌, List, [], ◌∷◌, ◌++◌, length, take, drop, get_or, refl, sym, subst, ◌∙◌, ap, arith, sum_by, add-one, zero-add, add-zero, append_assoc, All, reverse, ◌≢◌}
+use Rattle.std.specs.Prelude.{filter, ◌==◌, AllPairs, Contains, SomeIndex}
+use Rattle.std.specs.List.{flat_map}
 use Rattle.std.proofs.lemmas.Bool.Decides.{nat_tests}
-use Rattle.std.proofs.lemmas.Grind.{common_steps, flat_map-append}
+use Rattle.std.proofs.lemmas.Grind.{flat_map-append}
 use Rattle.std.proofs.lemmas.List.{append-nil, drop_more, take_more}
 use Rattle.std.proofs.lemmas.List.Elements.{filter_passes}
 use Rattle.std.proofs.lemmas.List.Sums.{sum_by-cons, sum_by-append}
@@ -15,9 +15,10 @@ use Rattle.flow_list.specs.declared.data.Seam.{Seam}
 use Rattle.flow_list.specs.declared.data.Flow.{Flow}
 use Rattle.flow_list.specs.declared.data.FlowsData.{FlowsData}
 use Rattle.flow_list.specs.Flows.{seam_of, no_seam, started, starts_in, ended, is_among, ends_in, open_at, boxes_in}
-use Rattle.flow_list.specs.Soundness.{count_of, AreNested, edges_of, IsSoundSeam, IsSoundFlow}
+use Rattle.flow_list.specs.Soundness.{count_of, AreNested, IsSoundFlow}
 use Rattle.flow_list.specs.ClonedEdges.{open_across}
-use Rattle.flow_list.proofs.Fitting.{starts-take}
+use Rattle.flow_list.proofs.EdgeSums.{sum-part}
+use Rattle.flow_list.proofs.Fitting.{starts-take, open_at-le}
 
 -- ---- counts
 
@@ -226,6 +227,16 @@ first-ends : (m : ℕ) (seams : List Seam) (i : ℕ) → count_of m (flat_map en
 first-ends m [] i = omega arith
 first-ends m (s ∷ ss) i = rw add-one (omega (arith, count-append m (flat_map ended s.tail) (ends_in (take i ss))))
 
+has-count : (xs : List ℕ) (j b : ℕ) → j < length xs → 0 < count_of (get_or xs j b) xs
+has-count [] j b lt = absurd (omega arith)
+has-count (x ∷ xs) zero b lt = let c = count-self x xs in omega arith
+has-count (x ∷ xs) (suc j) b lt = let r = has-count xs j b (omega arith) in let c = count-cons (get_or xs j b) x xs in omega arith
+
+starts-one : (g : ℕ → ℕ) (seams : List Seam) (k : ℕ) (s : Seam) → k < length seams → sum_by g (flat_map started (get_or seams k s).head) ≤ sum_by g (starts_in seams)
+starts-one g [] k s lt = absurd (omega arith)
+starts-one g (x ∷ xs) zero s lt = let a = sum_by-append g (flat_map started x.head) (starts_in xs) in omega arith
+starts-one g (x ∷ xs) (suc k) s lt = let a = sum_by-append g (flat_map started x.head) (starts_in xs) in let r = starts-one g xs k s (omega arith) in omega arith
+
 first-after : (seams : List Seam) (before : List ℕ) → 0 < length seams → AreNested before (flat_map both seams) →
     After before (flat_map started (get_or seams 0 no_seam).tail) (flat_map ended (get_or seams 0 no_seam).tail) ((get_or seams 0 no_seam).head ++ flat_map both (drop 1 seams))
 first-after [] before lt h = absurd (omega arith)
@@ -297,9 +308,9 @@ module _ (d : FlowsData) (f : Flow) (sound : IsSoundFlow d f) where
       let s = sum_by-append g f.opened (starts_in (take (k + 1) f.seams)) in
       let s' = sum_by-append g f.opened (starts_in (take (k + 1 + 1) f.seams)) in
       let x : sum_by g (starts_in (take (k + 1 + 1) f.seams)) ≡ sum_by g (starts_in (take (k + 1) f.seams)) + sum_by g (flat_map started (seam_of f (k + 1)).head) =
-          ap (sum_by g) st ∙ sum_by-append g (starts_in (take (k + 1) f.seams)) (flat_map started (seam_of f (k + 1)).head ++ []) ∙ ap (λ ys. sum_by g (starts_in (take (k + 1) f.seams)) + sum_by g ys) (append-nil (flat_map started (seam_of f (k + 1)).head)) in
+      ap (sum_by g) st ∙ sum_by-append g (starts_in (take (k + 1) f.seams)) (flat_map started (seam_of f (k + 1)).head ++ []) ∙ ap (λ ys. sum_by g (starts_in (take (k + 1) f.seams)) + sum_by g ys) (append-nil (flat_map started (seam_of f (k + 1)).head)) in
       let y : sum_by g (ends_in (take (k + 1 + 1) f.seams)) ≡ sum_by g (ends_in (take (k + 1) f.seams)) + sum_by g (flat_map ended (seam_of f (k + 1)).tail) =
-          ap (sum_by g) en ∙ sum_by-append g (ends_in (take (k + 1) f.seams)) (flat_map ended (seam_of f (k + 1)).tail ++ []) ∙ ap (λ ys. sum_by g (ends_in (take (k + 1) f.seams)) + sum_by g ys) (append-nil (flat_map ended (seam_of f (k + 1)).tail)) in
+      ap (sum_by g) en ∙ sum_by-append g (ends_in (take (k + 1) f.seams)) (flat_map ended (seam_of f (k + 1)).tail ++ []) ∙ ap (λ ys. sum_by g (ends_in (take (k + 1) f.seams)) + sum_by g ys) (append-nil (flat_map ended (seam_of f (k + 1)).tail)) in
       omega arith
 
   -- a box that ended in the first tail would have no item
@@ -342,5 +353,35 @@ module _ (d : FlowsData) (f : Flow) (sound : IsSoundFlow d f) where
       let s = sum_by-append g f.opened (starts_in (take (0 + 1) f.seams)) in
       let x : sum_by g (starts_in (take (0 + 1) f.seams)) ≡ sum_by g (flat_map started (seam_of f 0).head) = ap (λ ss. sum_by g (starts_in ss)) t ∙ ap (sum_by g) (append-nil (flat_map started (seam_of f 0).head)) in
       let y : sum_by g (ends_in (take (0 + 1) f.seams)) ≡ 0 =
-          ap (λ ss. sum_by g (ends_in ss)) t ∙ ap (sum_by g) (append-nil (flat_map ended (seam_of f 0).tail)) ∙ ap (sum_by g) (first-tail (flat_map ended (seam_of f 0).tail) refl) in
+      ap (λ ss. sum_by g (ends_in ss)) t ∙ ap (sum_by g) (append-nil (flat_map ended (seam_of f 0).tail)) ∙ ap (sum_by g) (first-tail (flat_map ended (seam_of f 0).tail) refl) in
       omega arith
+
+  suc-next : (g : ℕ → ℕ) (k : ℕ) → suc k < length f.seams → sum_by g (open_at f (suc k)) ≡ sum_by g (open_across f (suc k)) + sum_by g (flat_map started (seam_of f (suc k)).head)
+  suc-next g k lt =
+      let P : ℕ → Type 0 = λ j. sum_by g (open_at f j) ≡ sum_by g (open_across f j) + sum_by g (flat_map started (seam_of f j).head) in
+      subst P (add-one k) (at-sum-next g k (omega arith))
+
+  pub at-sum-is : (g : ℕ → ℕ) (k : ℕ) → k < length f.seams → sum_by g (open_at f k) ≡ sum_by g (open_across f k) + sum_by g (flat_map started (seam_of f k).head)
+  at-sum-is g zero lt = at-sum-first g
+  at-sum-is g (suc k) lt = suc-next g k lt
+
+  -- each box that is named is one of the data
+  in-range : (m : ℕ) → 0 < count_of m (boxes_in f) → m < length d.boxes
+  in-range m some = let r = some-index m (boxes_in f) some in rw r.2 at (sound.boxes r.0 m r.1)
+
+  pub starts-known : (k : ℕ) → k < length f.seams → All (λ edge. All (λ b. b < length d.boxes) (started edge)) (seam_of f k).head
+  starts-known k lt i e in_head j b in_edge =
+      let edge : Edge = get_or (seam_of f k).head i e in
+      let m : ℕ = get_or (started edge) j b in
+      in-range m
+      (omega (arith, has-count (started edge) j b in_edge, sum-part (λ x. cond (x == m) 1 0) started (seam_of f k).head i e in_head, starts-one (λ x. cond (x == m) 1 0) f.seams k no_seam lt, count-append m f.opened (starts_in f.seams)))
+
+  pub ends-known : (k : ℕ) → k + 1 < length f.seams → All (λ edge. All (λ b. b < length d.boxes) (ended edge)) (seam_of f (k + 1)).tail
+  ends-known k lt i e in_tail j b in_edge =
+      let edge : Edge = get_or (seam_of f (k + 1)).tail i e in
+      let m : ℕ = get_or (ended edge) j b in
+      in-range m
+      (omega (arith, has-count (ended edge) j b in_edge, sum-part (λ x. cond (x == m) 1 0) ended (seam_of f (k + 1)).tail i e in_tail, tail-within m k lt, open_at-le (λ x. cond (x == m) 1 0) f k))
+
+  pub opened-known : All (λ b. b < length d.boxes) f.opened
+  opened-known j b lt = let m : ℕ = get_or f.opened j b in in-range m (omega (arith, has-count f.opened j b lt, count-append m f.opened (starts_in f.seams)))

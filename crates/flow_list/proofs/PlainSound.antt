@@ -62,7 +62,7 @@ pieces_height d hs low =
     let boxes : sum_by (λ b. (box_of d b).top + (box_of d b).bottom) (boxes_in (pieces_flow hs)) ≡ 0 = ap (λ (bs : List ℕ). sum_by (λ b. (box_of d b).top + (box_of d b).bottom) bs) (seams_start (length hs + 1)) in
     omega arith
 
-empty_seam : (d : FlowsData) → IsSoundSeam d no_seam
+pub empty_seam : (d : FlowsData) → IsSoundSeam d no_seam
 empty_seam d = record {
   tail = refl;
   head = refl;
@@ -70,7 +70,7 @@ empty_seam d = record {
   cloned_bottom = λ k b h. absurd cc;
 }
 
-plain_item : (d : FlowsData) (h : ℕ) → h ≤ 2 ^ 24 → IsSoundItem d (plain_atom h)
+pub plain_item : (d : FlowsData) (h : ℕ) → h ≤ 2 ^ 24 → IsSoundItem d (plain_atom h)
 plain_item d h le = record {
   height_limit = le;
   owners = All-nil _;
@@ -101,7 +101,7 @@ pieces_sound d hs few low =
       filled = no_boxes d (λ b. SomeIndex (pieces_flow hs).items (λ k. Contains (open_at (pieces_flow hs) k) b)) _ starts;
     }
 
-outer_sound : (d : FlowsData) → 0 < length d.rows → IsSoundFlow d outer_flow
+pub outer_sound : (d : FlowsData) → 0 < length d.rows → IsSoundFlow d outer_flow
 outer_sound d row = record {
   count = omega arith;
   items = All-from_recursion (IsSoundItem d) outer_flow.items (row, tt);
@@ -115,11 +115,11 @@ outer_sound d row = record {
 
 -- ---- the whole
 
-each_of_one : (P : ℕ → Type 0) → P 0 → (i : ℕ) → i < 1 → P i
+pub each_of_one : (P : ℕ → Type 0) → P 0 → (i : ℕ) → i < 1 → P i
 each_of_one P here zero lt = here
 each_of_one P here (suc i) lt = absurd (omega arith)
 
-each_of_two : (P : ℕ → Type 0) → P 0 → P 1 → (i : ℕ) → i < 2 → P i
+pub each_of_two : (P : ℕ → Type 0) → P 0 → P 1 → (i : ℕ) → i < 2 → P i
 each_of_two P first second zero lt = first
 each_of_two P first second (suc zero) lt = second
 each_of_two P first second (suc (suc i)) lt = absurd (omega arith)
@@ -149,7 +149,7 @@ within_none p = rw (plain_stacks p.heights, plain_rows p.heights) refl
 no_held : (P : Held → Type 0) {hs : List Held} → hs ≡ [] → All P hs
 no_held P e = subst (All P) (sym e) (All-nil P)
 
-all_from_one : {X : Type 0} (P : X → Type 0) (x : X) → P x → All P (x ∷ [])
+pub all_from_one : {X : Type 0} (P : X → Type 0) (x : X) → P x → All P (x ∷ [])
 all_from_one P x here = All-from_recursion P (x ∷ []) (here, tt)
 
 pieces_across : (d : FlowsData) (hs : List ℕ) → AllByRecursion (λ item. 0 + item_x d item < 2 ^ 60) (map plain_atom hs)

@@ -1,11 +1,7 @@
 -- A column is what a walk over its items finds that keeps the best place so far.
 use Rattle.std.proofs.Common.{◌≡◌, ℕ, ◌+◌, Bool, true, false, cond, List, [], ◌∷◌, ◌++◌, Option, Some, None, refl, ap, append_assoc}
 use Rattle.std.specs.Prelude.{nat_lt, nat_le, fold}
-use Rattle.flow_list.specs.Column.{Column, Filled, Inner, Step, Place, cut, longer, rank, seams_between, seams_before, fill_in_room, room, inside, alone_place, best, choose, stopped, unstopped, column_up_to, column_over, last_place, no_place}
-
--- where a column ends, and what it then is
-abbrev pub place_in : Column → Place
-place_in c = record { level = c.level; end = c.end; extent = c.extent; overflow = c.overflow }
+use Rattle.flow_list.specs.Column.{place_in, better_place, Filled, Inner, Step, Place, cut, longer, rank, seams_between, seams_before, fill_in_room, room, inside, alone_place, best, choose, stopped, unstopped, column_up_to, column_over, last_place, no_place}
 
 -- the place behind an item, where the column may end if the seam there is forced or the end
 abbrev pub behind : Step → Place
@@ -13,11 +9,6 @@ behind s = record { level = 0; end = (s.item + 1) ∷ []; extent = s.need; overf
 
 abbrev pub seam_place : ℕ → Step → Place
 seam_place need s = record { level = rank s.level; end = s.item ∷ []; extent = need; overflow = false }
-
--- the better of a best place so far and a later place
-abbrev pub better_place : Option Place → Place → Place
-better_place None q = q
-better_place (Some b) q = cond (nat_le q.level b.level) q b
 
 -- the best place so far, with the seam before item s among them where an item stands before that
 abbrev pub consider : Option Place → Option Place → Step → Option Place

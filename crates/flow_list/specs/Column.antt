@@ -157,6 +157,15 @@ pub record Place : Type 0 where
   pub extent : ℕ
   pub overflow : Bool
 
+-- the place where a column ends, with what the column is
+abbrev pub place_in : Column → Place
+place_in c = record { level = c.level; end = c.end; extent = c.extent; overflow = c.overflow }
+
+-- of a best place so far and a later place the better one
+abbrev pub better_place : Option Place → Place → Place
+better_place None later = later
+better_place (Some best) later = cond (nat_le later.level best.level) later best
+
 -- the seams before these items, where the item before the first one needs this much
 abbrev pub seams_before : ℕ → List Step → List Place
 seams_before need [] = []

@@ -72,10 +72,14 @@ reach inner d f q = tops d (boxes_in f) + bottoms d (boxes_in f) + amounts_in f.
 unfoldable pub size_in : Inner → FlowsData → ℕ → Token → ℕ
 size_in inner d r q = least (fits inner d r q) (reach inner d (flow_in d r) q) 0
 
+-- the columns up to and with the first that a test stops
+abbrev pub up_to : (Column → Bool) → List Column → List Column
+up_to stops [] = []
+up_to stops (c ∷ cs) = c ∷ cond (stops c) [] (up_to stops cs)
+
 -- the columns up to and with the first that overflows
 abbrev pub to_overflow : List Column → List Column
-to_overflow [] = []
-to_overflow (c ∷ cs) = c ∷ cond c.overflow [] (to_overflow cs)
+to_overflow cs = up_to (λ (c : Column). c.overflow) cs
 
 -- what these columns of a flow from a place on are to the flow around
 abbrev pub filled_by : Flow → Token → List Column → Filled

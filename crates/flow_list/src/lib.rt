@@ -1,7 +1,8 @@
 //! Flows as lists: the data of a layout, sealed once it is sound, and the definitions of columns and heights.
 //!
 //! It stands on mc_base. The files of `specs/` say what the layout is: strips, columns, heights that fit, row heights.
-//! Each public call promises which part of the data it answers.
+//! A flow file is read as sealed flows. All that is sealed is sound: numbers are in range, boxes are well nested, and
+//! sums stay below 2^60. Each look promises which part of the data it answers, and a look at an item is counted.
 #![tactic(auto)]
 
 mod data;
@@ -19,3 +20,6 @@ pub use flows::{
 };
 pub use read::read_flow;
 pub use tally::{Counts, Tally};
+
+#[cfg(test)]
+mod tests;

@@ -1,0 +1,4 @@
+pub mod ColumnLoops
+pub mod ColumnWalk
+pub mod Passages
+pub mod RowColumns

@@ -1,0 +1,17 @@
+//! Columns of a row one after another, and the height of a row.
+//!
+//! It stands on flow_list and mc_base. It promises the columns, the heights that fit and the row heights that the
+//! definitions of flow_list give, for rows whose flow holds atoms alone.
+#![tactic(auto)]
+
+mod cloned;
+mod column;
+mod columns;
+mod passing;
+mod rows;
+mod strip;
+
+pub use rows::{FlatColumns, flat_columns, flat_row};
+
+#[cfg(test)]
+mod tests;

@@ -1,0 +1,11 @@
+mod Advance
+mod DepthSame
+mod Exists
+mod Laying
+mod Needs
+mod Rejects
+mod RowsAdvance
+mod RowsStay
+mod Small
+mod StopStays
+mod Totals

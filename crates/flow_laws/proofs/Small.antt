@@ -1,0 +1,291 @@
+-- Sizes, needs and extents are no more than all that stands in a row.
+use Rattle.std.proofs.Common.{◌≡◌, ℕ, zero, suc, ◌+◌, ◌-◌, ◌<◌, ◌≤◌, ◌^◌, Bool, true, false, cond, not, ◌&&◌, List, [], ◌∷◌, ◌++◌, length, drop, get_or, Option, Some, None, refl, arith, sum_by}
+use Rattle.std.specs.Prelude.{◌==◌, ◌||◌, All, nat_lt, nat_le}
+use Rattle.std.specs.List.{flat_map}
+use Rattle.std.proofs.lemmas.Bool.Decides.{nat_tests}
+use Rattle.std.proofs.lemmas.List.Sums.{sum_by-cons}
+use Rattle.flow_list.specs.declared.data.Flow.{Flow}
+use Rattle.flow_list.specs.declared.data.FlowsData.{FlowsData}
+use Rattle.flow_list.specs.declared.data.Item.{Item}
+use Rattle.flow_list.specs.declared.data.Item.TheVariants.{Atom, Row}
+use Rattle.flow_list.specs.Flows.{amount, box_of, row_of, flow_in, item_of, seam_of, row_in, rows_in, no_row, no_flow, atom_height, boxes_in, open_at}
+use Rattle.flow_list.specs.ClonedEdges.{tops, open_across, bottoms}
+use Rattle.flow_list.specs.Soundness.{IsSound, IsSoundFlow, NestsAtMost, flow_height}
+use Rattle.flow_list.specs.Tokens.{Token, row_start, item_number, within}
+use Rattle.flow_list.specs.Strip.{Strip, strip_at, put, lay_all}
+use Rattle.flow_list.specs.Column.{Filled, Inner, Step, Place, Cut, cut, longer, height_of, strip_behind, steps, steps_from, start_strip, is_forced, tail_from, inside, inside_place, alone_place, whole_place, is_cut, room, best, choose, seams_before, seams_between, last_place, no_place, fill_in_room, column, column_up_to, avoids_at}
+use Rattle.flow_list.specs.Rows.{heights_from, amounts_in, reach, size_in, fits, rows_to, all_rows, least}
+use Rattle.flow_list.specs.RowHeights.{size_of}
+use Rattle.flow_laws.specs.Bounds.{NeedsRise, NeedsAreSmall, NeedsAndBounds}
+use Rattle.flow_list.proofs.StripBounds.{put_le, lay_all_le}
+use Rattle.flow_list.proofs.Fitting.{open_at-le, open_across-le, first-amounts, amounts-drop, first-height, size-reach}
+use Rattle.flow_laws.proofs.Needs.{AreGoodSteps, column-steps, in-items}
+use Rattle.flow_laws.proofs.StopStays.{cut-room}
+use Rattle.flow_laws.proofs.RowsAdvance.{good-rows, nests-by-number}
+use Rattle.flow_laws.proofs.Totals.{total_within, total-more, total-same, total-le}
+
+-- ---- the reach is no more than the total
+
+sum-two : (g h : ℕ → ℕ) (xs : List ℕ) → sum_by (λ x. g x + h x) xs ≡ sum_by g xs + sum_by h xs
+sum-two g h [] = refl
+sum-two g h (x ∷ xs) = omega (arith, sum-two g h xs, sum_by-cons (λ x. g x + h x) x xs, sum_by-cons g x xs, sum_by-cons h x xs)
+
+-- the heights of items are no more than those of the atoms and the totals of the rows among them
+heights-total : (inner : Inner) (total : ℕ → ℕ) (q : Token) (items : List Item) → All (λ s. (p : Token) → inner.size s p ≤ total s) (flat_map row_in items) →
+    heights_from inner q items ≤ sum_by atom_height items + sum_by total (flat_map row_in items)
+heights-total inner total q [] all = omega arith
+heights-total inner total q (Atom height kind ∷ items) all =
+    let rest = heights-total inner total row_start items all in omega (arith, sum_by-cons atom_height (Atom height kind) items)
+heights-total inner total q (Row r ∷ items) all =
+    let here = all 0 r (omega arith) q in
+    let rest = heights-total inner total row_start items (λ k e lt. all (suc k) e (omega arith)) in
+    omega (arith, sum_by-cons atom_height (Row r) items, sum_by-cons total r (flat_map row_in items))
+
+heights-part : (inner : Inner) (total : ℕ → ℕ) (q : Token) (n : ℕ) (items : List Item) → All (λ s. (p : Token) → inner.size s p ≤ total s) (flat_map row_in items) →
+    heights_from inner q (drop n items) ≤ sum_by atom_height items + sum_by total (flat_map row_in items)
+heights-part inner total q zero items all = heights-total inner total q items all
+heights-part inner total q (suc n) [] all = omega arith
+heights-part inner total q (suc n) (Atom height kind ∷ items) all = let rest = heights-part inner total q n items all in omega (arith, sum_by-cons atom_height (Atom height kind) items)
+heights-part inner total q (suc n) (Row r ∷ items) all =
+    let rest = heights-part inner total q n items (λ k e lt. all (suc k) e (omega arith)) in omega (arith, sum_by-cons atom_height (Row r) items, sum_by-cons total r (flat_map row_in items))
+
+reach-total : (inner : Inner) (d : FlowsData) (f : Flow) (total : ℕ → ℕ) (q : Token) → All (λ s. (p : Token) → inner.size s p ≤ total s) (rows_in f) →
+    reach inner d f q ≤ flow_height d f + sum_by total (rows_in f)
+reach-total inner d f total q all =
+    let h = heights-part inner total (within q) (item_number q) f.items all in
+    let b = sum-two (λ b. (box_of d b).top) (λ b. (box_of d b).bottom) (boxes_in f) in
+    omega arith
+
+module _ (d : FlowsData) (sound : IsSound d) where
+  -- the size of a row is no more than all that stands in it
+  size-total : (n m r : ℕ) (q : Token) → NestsAtMost d n r → n ≤ suc m → size_in (rows_to d m) d r q ≤ total_within d sound n r
+  unfolding rows_to
+  size-total zero m r q nests le = absurd nests
+  size-total (suc n) zero r q nests le =
+      let none : n ≡ 0 = omega arith in
+      let a = size-reach (rows_to d zero) d r q in
+      let b = reach-total (rows_to d zero) d (flow_in d r) (total_within d sound n) q (λ k e lt p. omega arith) in
+      let c = total-more d sound n r in
+      omega arith
+  size-total (suc n) (suc m) r q nests le =
+      let a = size-reach (rows_to d (suc m)) d r q in
+      let b = reach-total (rows_to d (suc m)) d (flow_in d r) (total_within d sound n) q (λ k e lt p. size-total n m (get_or (rows_in (flow_in d r)) k e) p (nests k e lt) (omega arith)) in
+      let c = total-more d sound n r in
+      omega arith
+
+  module _ (r : ℕ) (lt : r < length d.rows) where
+    nests : NestsAtMost d (length d.rows - r) r
+    nests = nests-by-number d sound (length d.rows - r) r lt (omega arith)
+
+    total-small : (n : ℕ) → length d.rows - r ≤ n → total_within d sound n r < 2 ^ 60
+    total-small n le =
+        let same = total-same d sound (length d.rows - r) r n (length d.rows) nests le (omega arith) in
+        let whole = total-le d sound r lt in
+        let small = sound.heights in
+        omega arith
+
+    size-small : (q : Token) → size_of d r q < 2 ^ 60
+    unfolding size_of all_rows
+    size-small q =
+        let a = size-total (length d.rows - r) (length d.rows) r q nests (omega arith) in
+        let b = total-small (length d.rows - r) (omega arith) in
+        omega arith
+
+    -- what is told of the size of a row within
+    told-size : (n s : ℕ) (p : Token) → 0 < n → length d.rows - s ≤ n → s < length d.rows → (rows_to d n).size s p ≤ total_within d sound n s
+    unfolding rows_to
+    told-size zero s p some le in_rows = absurd (omega arith)
+    told-size (suc n) s p some le in_rows =
+        let a = size-total (length d.rows - s) n s p (nests-by-number d sound (length d.rows - s) s in_rows (omega arith)) le in
+        let b = total-same d sound (length d.rows - s) s (length d.rows - s) (suc n) (nests-by-number d sound (length d.rows - s) s in_rows (omega arith)) (omega arith) le in
+        omega arith
+
+    rows-told : All (λ s. (p : Token) → (rows_to d (length d.rows)).size s p ≤ total_within d sound (length d.rows) s) (rows_in (flow_in d r))
+    rows-told k e l p = told-size (length d.rows) (get_or (rows_in (flow_in d r)) k e) p (omega arith) (omega arith) (good-rows d sound r lt k e l).0
+
+    -- all that a column in the row may reach
+    reach-small : (t : Token) → reach (all_rows d) d (flow_in d r) t < 2 ^ 60
+    unfolding all_rows
+    reach-small t =
+        let a = reach-total (rows_to d (length d.rows)) d (flow_in d r) (total_within d sound (length d.rows)) t rows-told in
+        let c = total-more d sound (length d.rows) r in
+        let b = total-small (suc (length d.rows)) (omega arith) in
+        omega arith
+
+-- ---- needs, places and extents are no more than the reach
+
+start-le : (d : FlowsData) (f : Flow) (t : Token) → (start_strip d f t).y + (start_strip d f t).pending ≤ tops d (boxes_in f) + sum_by amount (seam_of f (item_number t)).head
+start-le d f [] = omega arith
+start-le d f (i ∷ []) = start (not (i == 0 || is_forced (seam_of f i).level))
+  where
+    start : (drops : Bool) → (lay_all (strip_at (tops d (open_across f i)) drops) (seam_of f i).head).y + (lay_all (strip_at (tops d (open_across f i)) drops) (seam_of f i).head).pending ≤ tops d (boxes_in f) + sum_by amount (seam_of f i).head
+    start drops =
+        let e = lay_all_le (strip_at (tops d (open_across f i)) drops) (seam_of f i).head in
+        let o : tops d (open_across f i) ≤ tops d (boxes_in f) = open_across-le _ f i in
+        omega arith
+start-le d f (i ∷ (j ∷ q)) = let o : tops d (open_at f i) ≤ tops d (boxes_in f) = open_at-le _ f i in omega arith
+
+module _ (inner : Inner) (d : FlowsData) (f : Flow) (top : ℕ) where
+  -- what is so of an item in a column that may reach top
+  record IsWithinTop (s : Step) : Type 0 where
+    need : s.need ≤ top
+    place : s.x + s.feet ≤ top
+    cut : s.x + s.height + s.feet ≤ top
+    behind : (a : ℕ) → a ≤ s.height → tail_from (s.x + a) s.tail + s.feet_after ≤ top
+
+  AllWithinTop : List Step → Type 0
+  AllWithinTop [] = Unit {0}
+  AllWithinTop (s ∷ ss) = IsWithinTop s × AllWithinTop ss
+
+  steps-within : (s : Strip) (k : ℕ) (q : Token) (n : ℕ) → k + n ≤ length f.items → s.y + s.pending + heights_from inner q (drop k f.items) + amounts_in (drop (k + 1) f.seams) + bottoms d (boxes_in f) ≤ top → AllWithinTop (steps inner d f s k q n)
+  unfolding steps AllWithinTop
+  steps-within s k q zero le b = tt
+  steps-within s k q (suc n) le b =
+      let in_items : k < length f.items = omega arith in
+      let here = first-height inner q f.items k in
+      let seam = first-amounts f.seams (k + 1) in
+      let a = put_le s (height_of inner (item_of f k) q) in
+      let c = lay_all_le (put s (height_of inner (item_of f k) q)) (seam_of f (k + 1)).tail in
+      let m = lay_all_le (strip_behind inner f s k q) (seam_of f (k + 1)).head in
+      let feet : bottoms d (open_across f (k + 1)) ≤ bottoms d (boxes_in f) = open_across-le _ f (k + 1) in
+      let at : bottoms d (open_at f k) ≤ bottoms d (boxes_in f) = open_at-le _ f k in (
+        record {
+          need = omega arith;
+          place = omega arith;
+          cut = omega arith;
+          behind = λ h low. let t = lay_all_le (strip_at (s.y + s.pending + h) false) (seam_of f (k + 1)).tail in omega arith;
+        },
+        go (is_forced (seam_of f (k + 1)).level) (steps-within (lay_all (strip_behind inner f s k q) (seam_of f (k + 1)).head) (k + 1) row_start n (omega arith) (omega arith)),
+      )
+    where
+      more : List Step
+      more = steps inner d f (lay_all (strip_behind inner f s k q) (seam_of f (k + 1)).head) (k + 1) row_start n
+
+      go : (x : Bool) → AllWithinTop more → AllWithinTop (elim x [ true ↦ [] | false ↦ more ])
+      go true r = tt
+      go false r = r
+
+  within-reach : (t : Token) → item_number t < length f.items → reach inner d f t ≤ top → AllWithinTop (steps_from inner d f t)
+  within-reach t lt b =
+      let a = start-le d f t in
+      let e = first-amounts f.seams (item_number t) in
+      let l = amounts-drop f.seams (item_number t) in
+      steps-within (start_strip d f t) (item_number t) (within t) (length f.items - item_number t) (omega arith) (omega arith)
+
+  -- ---- places
+
+  AllReach : List Place → Type 0
+  AllReach [] = Unit {0}
+  AllReach (p ∷ ps) = (p.extent ≤ top) × AllReach ps
+
+  AllReach-append : (ps qs : List Place) → AllReach ps → AllReach qs → AllReach (ps ++ qs)
+  unfolding AllReach
+  AllReach-append [] qs a b = b
+  AllReach-append (p ∷ ps) qs a b = (a.0, AllReach-append ps qs a.1 b)
+
+  best-reach : (p : Place) (ps : List Place) → p.extent ≤ top → AllReach ps → (best p ps).extent ≤ top
+  unfolding AllReach
+  best-reach p [] a b = a
+  best-reach p (q ∷ qs) a b = best-reach (cond (nat_le q.level p.level) q p) qs (go (nat_le q.level p.level)) b.1
+    where
+      go : (x : Bool) → (cond x q p).extent ≤ top
+      go true = b.0
+      go false = a
+
+  choose-reach : (ps : List Place) (o : Place) → AllReach ps → o.extent ≤ top → (choose ps o).extent ≤ top
+  unfolding AllReach
+  choose-reach [] o a b = b
+  choose-reach (p ∷ ps) o a b = best-reach p ps a.0 a.1
+
+  seams-reach : (need : ℕ) (ss : List Step) → need ≤ top → AllWithinTop ss → AllReach (seams_before need ss)
+  unfolding AllReach AllWithinTop
+  seams-reach need [] le all = tt
+  seams-reach need (s ∷ ss) le all = (le, seams-reach s.need ss all.0.need all.1)
+
+  between-reach : (ss : List Step) → AllWithinTop ss → AllReach (seams_between ss)
+  unfolding AllReach AllWithinTop
+  between-reach [] all = tt
+  between-reach (s ∷ ss) all = seams-reach s.need ss all.0.need all.1
+
+  last-reach : (p : Place) (ss : List Step) → p.extent ≤ top → AllWithinTop ss → (last_place p ss).extent ≤ top
+  unfolding AllWithinTop
+  last-reach p [] le all = le
+  last-reach p (s ∷ ss) le all = last-reach (record { level = 0; end = (s.item + 1) ∷ []; extent = s.need; overflow = false }) ss all.0.need all.1
+
+  inside-reach : (avoids : Bool) (s : Step) (a : ℕ) (filled : Filled) → IsWithinTop s → a ≤ s.height → (inside_place avoids s a filled).extent ≤ top
+  inside-reach avoids s a filled w le = go filled.at_end
+    where
+      go : (b : Bool) → cond b (tail_from (s.x + a) s.tail + s.feet_after) (s.x + a + s.feet) ≤ top
+      go true = w.behind a le
+      go false = let c = w.cut in omega arith
+
+  stop-reach : (avoids : Bool) (h : ℕ) (s : Step) (row : Option (ℕ × Token)) → IsWithinTop s → AllReach (inside avoids s h (fill_in_room inner row (room s h))) × ((alone_place avoids s h (fill_in_room inner row (room s h))).extent ≤ top)
+  unfolding AllReach
+  stop-reach avoids h s None w = (tt, w.need)
+  stop-reach avoids h s (Some row) w = (one (is_cut s h && not (inner.fill row.0 row.1 (room s h)).overflow) refl, other (nat_lt (room s h) s.height) refl)
+    where
+      cut-of : (a b : Bool) → (a && b) ≡ true → a ≡ true
+      cut-of true b e = refl
+      cut-of false b e = cc
+
+      one : (b : Bool) → (is_cut s h && not (inner.fill row.0 row.1 (room s h)).overflow) ≡ b → AllReach (cond b (inside_place avoids s (room s h) (inner.fill row.0 row.1 (room s h)) ∷ []) [])
+      one true e = let c = cut-room s h (cut-of (is_cut s h) _ e) in (inside-reach avoids s (room s h) (inner.fill row.0 row.1 (room s h)) w (omega arith), tt)
+      one false e = tt
+
+      other : (b : Bool) → nat_lt (room s h) s.height ≡ b →
+          (cond b (record { level = (inside_place avoids s (room s h) (inner.fill row.0 row.1 (room s h))).level; end = (inside_place avoids s (room s h) (inner.fill row.0 row.1 (room s h))).end; extent = (inside_place avoids s (room s h) (inner.fill row.0 row.1 (room s h))).extent; overflow = true }) (whole_place s)).extent ≤ top
+      other true e = inside-reach avoids s (room s h) (inner.fill row.0 row.1 (room s h)) w (grind (arith, nat_tests))
+      other false e = w.need
+
+  abbrev CutWithin : Cut → Option Step → Type 0
+  CutWithin u None = AllWithinTop u.before
+  CutWithin u (Some s) = AllWithinTop (u.before ++ s ∷ []) × IsWithinTop s
+
+  cut-within : (h : ℕ) (ss : List Step) → AllWithinTop ss → CutWithin (cut h ss) (cut h ss).stop
+  unfolding AllWithinTop
+  cut-within h [] all = tt
+  cut-within h (s ∷ ss) all = go (nat_lt h s.need) (cut-within h ss all.1)
+    where
+      more : (o : Option Step) → CutWithin (cut h ss) o → CutWithin (longer s (cut h ss)) o
+      more None u = (all.0, u)
+      more (Some s') u = ((all.0, u.0), u.1)
+
+      go : (b : Bool) → CutWithin (cut h ss) (cut h ss).stop → CutWithin (cond b (record { before = []; stop = Some s }) (longer s (cut h ss))) (cond b (record { before = []; stop = Some s }) (longer s (cut h ss))).stop
+      go true u = ((all.0, tt), all.0)
+      go false u = more (cut h ss).stop u
+
+  up_to-reach : (avoids : ℕ → Bool) (h : ℕ) (u : Cut) (stop : Option Step) → CutWithin u stop → (column_up_to inner avoids h u.before stop).extent ≤ top
+  up_to-reach avoids h u None w = last-reach no_place u.before (omega arith) w
+  up_to-reach avoids h u (Some s) w =
+      let m = stop-reach (avoids s.item) h s s.row w.1 in
+      choose-reach (seams_between (u.before ++ s ∷ []) ++ inside (avoids s.item) s h (fill_in_room inner s.row (room s h))) (alone_place (avoids s.item) s h (fill_in_room inner s.row (room s h)))
+      (AllReach-append (seams_between (u.before ++ s ∷ [])) _ (between-reach (u.before ++ s ∷ []) w.0) m.0) m.1
+
+  column-reach : (t : Token) (h : ℕ) → item_number t < length f.items → reach inner d f t ≤ top → (column inner d f t h).extent ≤ top
+  unfolding column
+  column-reach t h lt le = up_to-reach (avoids_at d f) h (cut h (steps_from inner d f t)) (cut h (steps_from inner d f t)).stop (cut-within h (steps_from inner d f t) (within-reach t lt le))
+
+  needs-small : (ss : List Step) → top < 2 ^ 60 → AllWithinTop ss → NeedsAreSmall ss
+  unfolding AllWithinTop
+  needs-small [] small all = tt
+  needs-small (s ∷ ss) small all = let a = all.0.need in let b = all.0.place in (omega arith, omega arith, needs-small ss small all.1)
+
+-- ---- the law
+
+needs-rise : (inner : Inner) (d : FlowsData) (f : Flow) (sound : IsSoundFlow d f) (k base prev : ℕ) (ss : List Step) → AreGoodSteps inner d f sound k base prev ss → NeedsRise prev ss
+needs-rise inner d f sound k base prev [] good = tt
+needs-rise inner d f sound k base prev (s ∷ ss) good = (good.0.rises, needs-rise inner d f sound (k + 1) (base + atom_height (item_of f k)) s.need ss good.1)
+
+pub needs-and-bounds : (d : FlowsData) → IsSound d → (r : ℕ) → r < length d.rows → NeedsAndBounds d r
+needs-and-bounds d sound r lt =
+    let flow = let row = sound.rows r no_row lt in sound.flows (row_of d r).flow no_flow row.flow in
+    record {
+      needs_never_fall = λ t place. needs-rise (all_rows d) d (flow_in d r) flow (item_number t) 0 0 (steps_from (all_rows d) d (flow_in d r) t) (column-steps (all_rows d) d (flow_in d r) flow t place);
+      needs_are_small = λ t place. needs-small (all_rows d) d (flow_in d r) (reach (all_rows d) d (flow_in d r) t) (steps_from (all_rows d) d (flow_in d r) t) (reach-small d sound r lt t)
+          (within-reach (all_rows d) d (flow_in d r) (reach (all_rows d) d (flow_in d r) t) t (in-items (all_rows d) d (flow_in d r) flow t place) (omega arith));
+      sizes_are_small = size-small d sound r lt;
+      extents_are_small = λ t h place.
+          let a = column-reach (all_rows d) d (flow_in d r) (reach (all_rows d) d (flow_in d r) t) t h (in-items (all_rows d) d (flow_in d r) flow t place) (omega arith) in
+          let b = reach-small d sound r lt t in
+          omega arith;
+    }

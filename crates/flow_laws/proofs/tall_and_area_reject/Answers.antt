@@ -1,0 +1,5 @@
+use Rattle.flow_laws.proofs.Rejects.{tall-and-area}
+use Rattle.flow_laws.proofs.tall_and_area_reject.Goals as goal
+
+pub returns : goal.returns
+returns c = tall-and-area

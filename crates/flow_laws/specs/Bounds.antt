@@ -1,0 +1,28 @@
+-- Needs never fall from item to item, and all that is computed on a sound flow stays small (this project's own: the data is below 2^60
+-- in all).
+use Rattle.std.specs.Prelude.{ℕ, ◌+◌, ◌<◌, ◌≤◌, ◌^◌, List, [], ◌∷◌}
+use Rattle.flow_list.specs.declared.data.FlowsData.{FlowsData}
+use Rattle.flow_list.specs.Flows.{flow_in}
+use Rattle.flow_list.specs.Tokens.{Token}
+use Rattle.flow_list.specs.Column.{Step, steps_from, column}
+use Rattle.flow_list.specs.Rows.{all_rows}
+use Rattle.flow_list.specs.RowHeights.{size_of}
+use Rattle.flow_laws.specs.Progress.{IsPlaceBefore}
+
+-- each of these items needs as much as the one before it at least, and the first as much as this
+abbrev pub NeedsRise : ℕ → List Step → Type 0
+NeedsRise need [] = Unit {0}
+NeedsRise need (s ∷ ss) = (need ≤ s.need) × NeedsRise s.need ss
+
+-- each of these items needs less than 2^60, and begins below it
+abbrev pub NeedsAreSmall : List Step → Type 0
+NeedsAreSmall [] = Unit {0}
+NeedsAreSmall (s ∷ ss) = (s.need < 2 ^ 60) × (s.x + s.feet < 2 ^ 60) × NeedsAreSmall ss
+
+-- The law, of row r of sound flows.
+pub record NeedsAndBounds (d : FlowsData) (r : ℕ) : Type 0 where
+  -- what the items of a column need never falls from one to the next
+  pub needs_never_fall : (t : Token) → IsPlaceBefore d (flow_in d r) t → NeedsRise 0 (steps_from (all_rows d) d (flow_in d r) t)
+  pub needs_are_small : (t : Token) → IsPlaceBefore d (flow_in d r) t → NeedsAreSmall (steps_from (all_rows d) d (flow_in d r) t)
+  pub sizes_are_small : (q : Token) → size_of d r q < 2 ^ 60
+  pub extents_are_small : (t : Token) (h : ℕ) → IsPlaceBefore d (flow_in d r) t → (column (all_rows d) d (flow_in d r) t h).extent < 2 ^ 60

@@ -1,0 +1,6 @@
+pub mod Bounds
+pub mod Constant
+pub mod Depth
+pub mod LeastHeight
+pub mod Progress
+pub mod Rejection

@@ -1,0 +1,83 @@
+-- Columns advance: each ends later than it begins, so all of them hold the content once (CSS Fragmentation 3, section 4.5,
+-- asks for progress).
+use Rattle.std.specs.Prelude.{◌≡◌, ℕ, zero, suc, ◌-◌, ◌<◌, true, List, [], ◌∷◌, ◌++◌, length, take, drop, ◌⊎◌}
+use Rattle.flow_list.specs.declared.data.Flow.{Flow}
+use Rattle.flow_list.specs.declared.data.FlowsData.{FlowsData}
+use Rattle.flow_list.specs.declared.data.Item.{Item}
+use Rattle.flow_list.specs.declared.data.Item.TheVariants.{Atom, Row}
+use Rattle.flow_list.specs.Flows.{flow_in, item_of}
+use Rattle.flow_list.specs.Tokens.{Token, row_start, item_number, within, is_end}
+use Rattle.flow_list.specs.Column.{Column, column}
+use Rattle.flow_list.specs.Rows.{columns, end_of, left_in, all_rows}
+
+-- a place in a flow before its end: an item, or a place before the end of a row that an item is
+abbrev pub IsPlaceBefore : FlowsData → Flow → Token → Type 0
+IsPlaceBefore d f [] = ⊥
+IsPlaceBefore d f (i ∷ []) = i < length f.items
+IsPlaceBefore d f (i ∷ (j ∷ rest)) = (i < length f.items) × (r : ℕ) × (item_of f i ≡ Row r) × IsPlaceBefore d (flow_in d r) (j ∷ rest)
+
+-- ---- the content of a row from a place on
+
+-- an atom, by the row in which it stands and its item
+pub record AtomAt : Type 0 where
+  pub row : ℕ
+  pub item : ℕ
+
+-- the atoms in a row from a place on
+pub record Contents : Type 0 where
+  pub atoms : ℕ → Token → List AtomAt
+
+abbrev pub item_atoms : Contents → ℕ → ℕ → Item → Token → List AtomAt
+item_atoms c r k (Atom height kind) q = record { row = r; item = k } ∷ []
+item_atoms c r k (Row s) q = c.atoms s q
+
+-- the atoms of these items, of which the first is item k and is taken from a place
+abbrev pub atoms_of_items : Contents → ℕ → ℕ → Token → List Item → List AtomAt
+atoms_of_items c r k q [] = []
+atoms_of_items c r k q (item ∷ items) = item_atoms c r k item q ++ atoms_of_items c r (suc k) row_start items
+
+abbrev pub atoms_in : Contents → ℕ → Flow → Token → List AtomAt
+atoms_in c r f t = atoms_of_items c r (item_number t) (within t) (drop (item_number t) f.items)
+
+unfoldable pub contents_to : FlowsData → ℕ → Contents
+contents_to d zero = record { atoms = λ r q. [] }
+contents_to d (suc depth) = let c = contents_to d depth in record { atoms = λ r q. atoms_in c r (flow_in d r) q }
+
+-- the atoms in row r from a place on, in order, with those in the rows within it
+unfoldable pub atoms_from : FlowsData → ℕ → Token → List AtomAt
+atoms_from d r q = (contents_to d (suc (length d.rows))).atoms r q
+
+-- ---- later places
+
+-- ys ends with xs
+abbrev pub EndsWith : List AtomAt → List AtomAt → Type 0
+EndsWith xs ys = (held : List AtomAt) × (ys ≡ held ++ xs)
+
+-- Place u of row r comes after place t: it is the end or a place before it, fewer items are left there, and the atoms
+-- from it on are the last ones of those from t on.
+pub record IsLater (d : FlowsData) (r : ℕ) (t u : Token) : Type 0 where
+  pub place : (is_end (flow_in d r) u ≡ true) ⊎ IsPlaceBefore d (flow_in d r) u
+  pub fewer : left_in (all_rows d) (flow_in d r) u < left_in (all_rows d) (flow_in d r) t
+  pub rest : EndsWith (atoms_from d r u) (atoms_from d r t)
+
+-- the atoms from t on that don't stand from u on
+abbrev pub atoms_between : FlowsData → ℕ → Token → Token → List AtomAt
+atoms_between d r t u = take (length (atoms_from d r t) - length (atoms_from d r u)) (atoms_from d r t)
+
+-- what these columns of row r hold, of which the first begins at t and each next one where the one before it ends
+abbrev pub held_by : FlowsData → ℕ → Token → List Column → List AtomAt
+held_by d r t [] = []
+held_by d r t (c ∷ cs) = atoms_between d r t c.end ++ held_by d r c.end cs
+
+-- The law, of sound flows.
+pub record ColumnsAdvance (d : FlowsData) (r : ℕ) : Type 0 where
+  -- a column ends later than it begins
+  pub column_advances : (t : Token) (h : ℕ) → IsPlaceBefore d (flow_in d r) t → IsLater d r t (column (all_rows d) d (flow_in d r) t h).end
+  -- what a row makes of a height leaves a later place
+  pub fill_advances : (t : Token) (h : ℕ) → IsPlaceBefore d (flow_in d r) t → IsLater d r t ((all_rows d).fill r t h).end
+  -- as many columns as there are items left reach the end
+  pub columns_end : (t : Token) (h : ℕ) → IsPlaceBefore d (flow_in d r) t →
+      is_end (flow_in d r) (end_of t (columns (all_rows d) d (flow_in d r) (left_in (all_rows d) (flow_in d r) t) t h)) ≡ true
+  -- columns that reach the end hold each atom once, in order, those in rows that are cut too
+  pub each_once : (n : ℕ) (t : Token) (h : ℕ) → IsPlaceBefore d (flow_in d r) t → is_end (flow_in d r) (end_of t (columns (all_rows d) d (flow_in d r) n t h)) ≡ true →
+      held_by d r t (columns (all_rows d) d (flow_in d r) n t h) ≡ atoms_from d r t

@@ -1,0 +1,54 @@
+//! Laws of columns: what is true of the definitions of flow_list, whatever lays out or checks.
+//!
+//! It stands on flow_list. Each function promises one law, does nothing, and takes no memory.
+#![tactic(auto)]
+
+ghost use Rattle.std.specs.Prelude.{ℕ, ◌<◌, length};
+ghost use Rattle.flow_list.specs.declared.data.FlowsData.{FlowsData};
+ghost use Rattle.flow_list.specs.Column.{Inner};
+ghost use Rattle.flow_laws.specs.Bounds.{NeedsAndBounds};
+ghost use Rattle.flow_laws.specs.Constant.{BreaksAreConstant};
+ghost use Rattle.flow_laws.specs.Depth.{DepthChangesNothing};
+ghost use Rattle.flow_laws.specs.LeastHeight.{SizesAreLeast};
+ghost use Rattle.flow_laws.specs.Progress.{ColumnsAdvance, IsPlaceBefore};
+ghost use Rattle.flow_laws.specs.Rejection.{TallAndAreaReject};
+ghost use Rattle.flow_list.specs.Flows.{flow_in};
+ghost use Rattle.flow_list.specs.Tokens.{Token};
+ghost use Rattle.flow_list.specs.Soundness.{IsSound};
+
+/// Breaks are constant over a range of heights: up to the least bound of a column its lines and its overflow stay, and
+/// where it doesn't overflow its end and level too; so do those of a fill and of the columns that are judged, and a height
+/// fits just where the lower one does.
+pub fn breaks_are_constant()
+    ensures { (d : FlowsData) (depth : ℕ) → BreaksAreConstant d depth }
+{}
+
+/// The size of a row from a place on exists: it is the one least height that fits. At all heights, margins, solid amounts and
+/// cloned edges together only forced breaks remain.
+pub fn sizes_are_least()
+    ensures { (inner : Inner) (d : FlowsData) → SizesAreLeast inner d }
+{}
+
+/// A deeper recursion than needed changes nothing: of a row of which at most n stand one inside another the same is told at each
+/// depth from n on.
+pub fn depth_changes_nothing()
+    ensures { (d : FlowsData) → DepthChangesNothing d }
+{}
+
+/// In sound flows a column ends later than it begins, and what a row makes of a height leaves a later place. So columns over the
+/// whole content of a row end, and they hold each atom once, in order, also those in inner rows that are cut.
+pub fn columns_advance()
+    ensures { (d : FlowsData) → IsSound d → (r : ℕ) → r < length d.rows → ColumnsAdvance d r }
+{}
+
+/// In sound flows no height fits that is below what an atom needs after an unforced break, nor one at which the heights of the
+/// atoms add up to more than the columns that may be used can hold.
+pub fn tall_and_area_reject()
+    ensures { (d : FlowsData) → IsSound d → (r : ℕ) → r < length d.rows → (q : Token) → IsPlaceBefore d (flow_in d r) q → TallAndAreaReject d r q }
+{}
+
+/// In sound flows what a column's items need never falls from one to the next, and needs, the places where items begin, sizes and
+/// extents are all below 2^60.
+pub fn needs_and_bounds()
+    ensures { (d : FlowsData) → IsSound d → (r : ℕ) → r < length d.rows → NeedsAndBounds d r }
+{}

@@ -1,0 +1,51 @@
+-- Worked cases of certificates, with the sizes of inner rows and the numbers that column lines cite.
+use Rattle.std.proofs.Common.{◌≡◌, ℕ, true, false, List, [], ◌∷◌, refl}
+use Rattle.std.specs.Prelude.{codes}
+use Rattle.std.specs.Fmt.{digits}
+use Rattle.mc_base.specs.declared.level.Level.TheVariants.{L0, L2}
+use Rattle.flow_list.specs.declared.data.Edge.TheVariants.{Solid, Start, End}
+use Rattle.flow_list.specs.declared.data.FlowsData.{FlowsData}
+use Rattle.flow_list.specs.declared.data.Item.TheVariants.{Row}
+use Rattle.flow_list.specs.Column.{column, steps, endless_column}
+use Rattle.flow_list.specs.Rows.{columns_by, fits, least, size_in, fill_in, rows_to, all_rows}
+use Rattle.flow_list.specs.RowHeights.{size_of, height_fits, row_columns, row_height, columns_of_row}
+use Rattle.flow_list.specs.Ranges.{judged, searched, ranges}
+use Rattle.flow_list.specs.Stacks.{stack_strip, stack_height}
+use Rattle.flow_list.specs.Certificate.{owned_to, range_owned, size_uses, row_uses, entered, rows_in_stacks, certificate, book_of}
+use Rattle.flow_list.specs.ResultText.{certificate_lines}
+use Rattle.flow_list.proofs.WorkedParts.{atom, seam, bare, flow, row, box, flows, one_row}
+
+unfoldable certified : FlowsData → List (List ℕ)
+unfolding column steps endless_column columns_by fits least size_in fill_in rows_to all_rows size_of height_fits row_columns row_height columns_of_row judged searched ranges stack_strip stack_height owned_to range_owned size_uses row_uses entered rows_in_stacks certificate book_of certificate_lines digits
+certified d = certificate_lines d
+
+-- an empty row has an entry without ranges
+nothing-lines : certified (one_row 2 [] (bare L0 ∷ [])) ≡ codes "cert" ∷ codes "row 0 - 0 yes" ∷ codes "end" ∷ []
+unfolding certified
+nothing-lines = refl
+
+-- six items of 20 in three columns
+six-lines : certified (one_row 3 (atom 20 ∷ atom 20 ∷ atom 20 ∷ atom 20 ∷ atom 20 ∷ atom 20 ∷ []) (bare L0 ∷ bare L0 ∷ bare L0 ∷ bare L0 ∷ bare L0 ∷ bare L0 ∷ bare L0 ∷ []))
+    ≡ codes "cert" ∷ codes "row 0 - 40 yes" ∷ codes "range 0 20 tall 0" ∷ codes "range 20 40 area" ∷ codes "end" ∷ []
+unfolding certified
+six-lines = refl
+
+-- a row in a row: its sizes from two places stand first, and the column lines cite them
+nested-lines : certified (flows (flow (Row 1 ∷ []) (seam [] L0 (Start 0 ∷ Solid 20 ∷ []) ∷ seam (End 0 ∷ []) L0 [] ∷ [])
+    ∷ flow (atom 10 ∷ atom 10 ∷ atom 10 ∷ atom 10 ∷ atom 10 ∷ []) (bare L0 ∷ bare L0 ∷ seam [] L0 (Start 1 ∷ []) ∷ bare L2 ∷ bare L2 ∷ seam (End 1 ∷ []) L0 [] ∷ []) ∷ [])
+    (row 1 2 ∷ row 2 2 ∷ []) (box false 0 0 ∷ box true 0 0 ∷ []))
+    ≡ codes "cert" ∷ codes "size 1 0 30" ∷ codes "range 0 10 tall 0" ∷ codes "range 10 25 area" ∷ codes "range 25 30 bad 2" ∷ codes "col 0 2 2" ∷ codes "col 0 4 4"
+    ∷ codes "size 1 2 30" ∷ codes "range 0 10 tall 2" ∷ codes "range 10 15 area" ∷ codes "range 15 20 bad 1" ∷ codes "col 0 3 3" ∷ codes "range 20 30 bad 1" ∷ codes "col 0 4 4"
+    ∷ codes "row 0 - 30 yes" ∷ codes "range 0 20 over 1" ∷ codes "col 0 ! 0 0" ∷ codes "range 20 30 over 1" ∷ codes "col 0 ! 0 0" ∷ codes "col 1 ! 0" ∷ codes "end" ∷ []
+unfolding certified
+nested-lines = refl
+
+-- rows one under another in one column
+stacked-lines : certified (flows (flow (Row 1 ∷ atom 30 ∷ Row 2 ∷ []) (bare L0 ∷ bare L0 ∷ bare L0 ∷ bare L0 ∷ [])
+    ∷ flow (atom 20 ∷ atom 20 ∷ atom 20 ∷ atom 20 ∷ []) (bare L0 ∷ bare L0 ∷ bare L0 ∷ bare L0 ∷ bare L0 ∷ [])
+    ∷ flow (atom 20 ∷ atom 20 ∷ []) (bare L0 ∷ bare L0 ∷ bare L0 ∷ []) ∷ []) (row 1 1 ∷ row 2 2 ∷ row 3 2 ∷ []) [])
+    ≡ codes "cert" ∷ codes "size 1 0 40" ∷ codes "range 0 20 tall 0" ∷ codes "range 20 40 area" ∷ codes "size 2 0 20" ∷ codes "range 0 20 tall 0"
+    ∷ codes "row 0 - 90 yes" ∷ codes "range 0 30 tall 1" ∷ codes "range 30 40 left 0.2" ∷ codes "col 0 0.2 0 0" ∷ codes "col 1 1 1" ∷ codes "col 1 2 2"
+    ∷ codes "range 40 70 left 1" ∷ codes "col 0 1 1 0" ∷ codes "range 70 90 left 2" ∷ codes "col 0 2 2 0 1" ∷ codes "col 1 ! 0" ∷ codes "end" ∷ []
+unfolding certified
+stacked-lines = refl

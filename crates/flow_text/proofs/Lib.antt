@@ -1,0 +1,11 @@
+pub mod NumberLemmas
+pub mod TextLemmas
+pub mod FormLemmas
+pub mod TextLaws
+pub mod Complete
+pub mod Sound
+pub mod AnswerLaws
+pub mod Stands
+pub mod FaultLaws
+pub mod LimitLaws
+pub mod Unique

@@ -1,0 +1,14 @@
+pub mod Names
+pub mod References
+pub mod Places
+pub mod Tokens
+pub mod Lexing
+pub mod Tree
+pub mod Grammar
+pub mod Machine
+pub mod Faults
+pub mod Laws
+pub mod Spelling
+pub mod Whole
+pub mod Documents
+pub mod FirstFaults

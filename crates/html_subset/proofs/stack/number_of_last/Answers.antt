@@ -1,0 +1,9 @@
+use Rattle.std.proofs.Common.{refl, arith, length}
+use Rattle.html_subset.proofs.StackLemmas.{stack_top, stack_none}
+use Rattle.html_subset.proofs.stack.number_of_last.Goals as goal
+
+pub returns-then-count-eq0 : goal.returns-then-count-eq0
+returns-then-count-eq0 c = rw (stack_none c.args.opens.now c.if-count-eq0.true) refl
+
+pub returns : goal.returns
+returns c = rw (stack_top c.args.opens.now (length c.args.opens.now) c.index-opens-count.result refl (omega arith)) refl

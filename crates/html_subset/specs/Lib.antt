@@ -1,0 +1,5 @@
+pub mod Classes
+pub mod Gives
+pub mod Stack
+pub mod Building
+pub mod Turn

@@ -1,0 +1,5 @@
+pub mod Pieces
+pub mod ItemLines
+pub mod PlainSteps
+pub mod PlainResult
+pub mod Causes

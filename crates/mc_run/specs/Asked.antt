@@ -1,0 +1,7 @@
+-- What a command of the program asks for.
+use Rattle.mc_run.specs.declared.words.Command.{Command as Held}
+use Rattle.mc_run.specs.declared.words.Command.TheVariants.{Rows}
+use Rattle.mc_run.specs.Words.{Command, rows}
+
+abbrev pub asked : Held → Command
+asked (Rows flow) = rows flow.now

@@ -1,0 +1,7 @@
+pub mod Asked
+pub mod Items
+pub mod Outcome
+pub mod Printed
+pub mod Stops
+pub mod Told
+pub mod Words
