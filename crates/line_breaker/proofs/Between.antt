@@ -1,5 +1,5 @@
 -- What stands before a place, between two places, and how that makes a line's width.
-use Rattle.std.proofs.Common.{◌≡◌, ℕ, zero, suc, ◌+◌, ◌-◌, ◌≤◌, ◌<◌, Bool, true, false, cond, ◌||◌, List, [], ◌∷◌, ◌++◌, length, get_or, take, drop, refl, sym, ap, ◌∙◌, arith}
+use Rattle.std.proofs.Common.{◌≡◌, ℕ, zero, suc, ◌+◌, ◌-◌, ◌≤◌, ◌<◌, Bool, true, false, cond, List, [], ◌∷◌, ◌++◌, length, take, refl, ap, ◌∙◌, arith}
 use Rattle.std.specs.List.{list_any}
 use Rattle.std.proofs.Math.Seq.{take-add}
 use Rattle.font_table.specs.declared.fonts.Face.{Face}
@@ -8,7 +8,7 @@ use Rattle.inline_text.specs.declared.content.Piece.TheVariants.{Char, Image, Fo
 use Rattle.inline_text.specs.declared.content.RunStyle.{RunStyle}
 use Rattle.inline_text.specs.Opportunities.{is_collapsed_space}
 use Rattle.line_breaker.specs.declared.places.Place.{Place}
-use Rattle.line_breaker.specs.Measures.{width_of, width_sum, space_behind, last_space, hyphen_of, last_hyphen}
+use Rattle.line_breaker.specs.Measures.{width_of, width_sum, space_behind, last_space, last_hyphen}
 use Rattle.line_breaker.specs.Lines.{is_content, part}
 use Rattle.line_breaker.specs.Arrays.{start, place_after, place_behind, places_from, edge, need, place_at}
 

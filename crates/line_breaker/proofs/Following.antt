@@ -1,12 +1,11 @@
 -- What follows a place.
-use Rattle.std.proofs.Common.{◌≡◌, ℕ, zero, suc, ◌+◌, ◌-◌, ◌≤◌, ◌<◌, min, Bool, true, false, cond, leb, ◌&&◌, ◌||◌, List, [], ◌∷◌, length, get_or, drop, Option, Some, None, refl, sym, ap, subst, ◌∙◌, arith}
+use Rattle.std.proofs.Common.{◌≡◌, ℕ, zero, suc, ◌+◌, ◌-◌, ◌≤◌, ◌<◌, min, Bool, true, false, cond, leb, ◌&&◌, ◌||◌, List, [], ◌∷◌, length, drop, Option, Some, None, refl, sym, ap, subst, ◌∙◌, arith}
 use Rattle.std.proofs.lemmas.Bool.Decides.{nat_tests}
 use Rattle.std.proofs.Math.Bool.{and-false, or-false}
 use Rattle.inline_text.specs.declared.content.Piece.{Piece}
 use Rattle.inline_text.specs.declared.content.Piece.TheVariants.{Char, Image, Forced, Chance}
 use Rattle.line_breaker.specs.declared.places.Place.{Place}
-use Rattle.line_breaker.specs.declared.ahead.Ahead.{Ahead}
-use Rattle.line_breaker.specs.Lines.{is_content, is_forced, stretch_len, content_ahead}
+use Rattle.line_breaker.specs.Lines.{is_forced, stretch_len, content_ahead}
 use Rattle.line_breaker.specs.Arrays.{need, place_at, nothing_ahead, least_of, opportunity_before, ahead_of, aheads_from, ahead_at, fits_in}
 
 pub ahead_at-from : (places : List Place) (opportunities : List Bool) (at : ℕ) (ps : List Piece) (k : ℕ) → k ≤ length ps → ahead_at (aheads_from places opportunities at ps) k ≡ ahead_of places opportunities (at + k) (drop k ps)

@@ -1,9 +1,9 @@
 -- What follows for all lines.
-use Rattle.std.proofs.Common.{◌≡◌, ℕ, zero, suc, ◌+◌, ◌-◌, ◌≤◌, ◌<◌, Bool, true, false, ◌&&◌, List, [], ◌∷◌, ◌++◌, length, get_or, ltb, ℤ, pos, ◌+ℤ◌, take, drop, Some, All, ◌⊎◌, inl, inr, refl, sym, ap, subst, ◌∙◌, arith, append_assoc, length-drop}
+use Rattle.std.proofs.Common.{◌≡◌, ℕ, zero, suc, ◌+◌, ◌-◌, ◌≤◌, ◌<◌, Bool, true, false, ◌&&◌, List, [], ◌∷◌, ◌++◌, length, get_or, ltb, ℤ, pos, ◌+ℤ◌, drop, Some, All, inl, inr, refl, sym, ap, subst, ◌∙◌, arith, append_assoc, length-drop}
 use Rattle.std.specs.Prelude.{IsTrue, slice_get}
 use Rattle.std.specs.List.{AllByRecursion}
-use Rattle.std.proofs.lemmas.List.{append-nil, drop-drop, take-append-drop}
-use Rattle.std.proofs.lemmas.List.Elements.{All-from_recursion, All-drop}
+use Rattle.std.proofs.lemmas.List.{drop-drop, take-append-drop}
+use Rattle.std.proofs.lemmas.List.Elements.{All-from_recursion}
 use Rattle.std.proofs.lemmas.Bool.{lt-ltb}
 use Rattle.font_table.specs.declared.fonts.Face.{Face}
 use Rattle.inline_text.specs.declared.content.Piece.{Piece}
@@ -13,9 +13,9 @@ use Rattle.inline_text.specs.Opportunities.{opportunity_at, opportunities_behind
 use Rattle.line_breaker.specs.declared.line.Line.{Line}
 use Rattle.line_breaker.specs.declared.places.Place.{Place}
 use Rattle.line_breaker.specs.declared.ahead.Ahead.{Ahead}
-use Rattle.line_breaker.specs.Lines.{part, stretch_len, stretch_end, Counts, Fits, EndsAt, whole, last_that_fits, first, unbroken, IsLine, AreLines, is_chance, pieces_of, HoldsAll, IsNarrow}
+use Rattle.line_breaker.specs.Lines.{part, stretch_end, Counts, Fits, EndsAt, whole, last_that_fits, first, unbroken, IsLine, AreLines, is_chance, pieces_of, HoldsAll, IsNarrow}
 use Rattle.line_breaker.specs.Measures.{greatest_above, greatest_below}
-use Rattle.line_breaker.specs.Arrays.{start, place_at, ahead_at, ahead_of, IsMeasured, opportunity_before}
+use Rattle.line_breaker.specs.Arrays.{start, place_at, ahead_at, ahead_of, IsMeasured}
 use Rattle.line_breaker.proofs.Between.{place_at-from, length-places}
 use Rattle.line_breaker.proofs.Following.{ahead_at-from, length-aheads, end_is, stretch-some, stretch-within}
 use Rattle.line_breaker.proofs.Ends.{Setting}

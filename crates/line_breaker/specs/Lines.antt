@@ -1,6 +1,6 @@
 -- How a run is cut into lines (CSS 2.1, section 9.4.2; CSS Text 3, section 5.1). Places are counted from 0: place k stands
 -- before piece k.
-use Rattle.std.specs.Prelude.{◌≡◌, ◌≢◌, ℕ, ◌+◌, ◌-◌, ◌^◌, ◌<◌, ◌≤◌, pos, ◌+ℤ◌, Bool, true, false, IsTrue, ◌||◌, ◌==◌, ◌⊎◌, if◌then◌else◌, List, [], ◌∷◌, ◌++◌, take, drop, length}
+use Rattle.std.specs.Prelude.{◌≡◌, ℕ, ◌+◌, ◌-◌, ◌^◌, ◌<◌, ◌≤◌, pos, ◌+ℤ◌, Bool, true, false, IsTrue, ◌||◌, ◌==◌, ◌⊎◌, if◌then◌else◌, List, [], ◌∷◌, ◌++◌, take, drop, length}
 use Rattle.std.specs.List.{All, list_any}
 use Rattle.font_table.specs.declared.fonts.Face.{Face}
 use Rattle.inline_text.specs.declared.content.Piece.{Piece}

@@ -1,7 +1,5 @@
-use Rattle.std.proofs.Common.{◌≡◌, [], length, sym, ap, ◌∙◌, All, ◌<◌}
+use Rattle.std.proofs.Common.{[], length, sym, ap, ◌∙◌}
 use Rattle.std.proofs.lemmas.Result.{IfOk-weaker}
-use Rattle.line_breaker.specs.declared.line.Line.{Line}
-use Rattle.line_breaker.specs.Lines.{AreLines, HoldsAll, IsNarrow}
 use Rattle.line_breaker.specs.Arrays.{start}
 use Rattle.line_breaker.proofs.Between.{length-places}
 use Rattle.line_breaker.proofs.Laws.{length-opportunities, holds_all, filled, narrow}

@@ -1,9 +1,9 @@
-use Rattle.std.proofs.Common.{◌≡◌, ℕ, ◌+◌, ◌-◌, ◌<◌, List, [], ◌∷◌, ◌++◌, drop, sym, ap, subst, ◌∙◌, arith, append_assoc}
+use Rattle.std.proofs.Common.{◌≡◌, ℕ, ◌+◌, ◌-◌, List, [], ◌∷◌, ◌++◌, drop, sym, ap, subst, ◌∙◌, arith, append_assoc}
 use Rattle.std.proofs.lemmas.List.{append-nil, drop-drop}
 use Rattle.std.proofs.lemmas.List.Elements.{All-drop}
 use Rattle.inline_text.specs.declared.content.Piece.{Piece}
 use Rattle.line_breaker.specs.declared.line.Line.{Line}
-use Rattle.line_breaker.specs.Lines.{AreLines, is_chance}
+use Rattle.line_breaker.specs.Lines.{AreLines}
 use Rattle.line_breaker.proofs.Laws.{AreChances, IsChance}
 use Rattle.line_breaker.proofs.breaking.cut.Goals as goal
 

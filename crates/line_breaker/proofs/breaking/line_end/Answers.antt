@@ -1,6 +1,6 @@
-use Rattle.std.proofs.Common.{◌≡◌, ◌<◌, false, arith, sym, ap, ◌∙◌}
+use Rattle.std.proofs.Common.{◌≡◌, ◌<◌, false, arith, sym, ◌∙◌}
 use Rattle.std.proofs.lemmas.Bool.{lt-leb}
-use Rattle.line_breaker.specs.Arrays.{first, is_whole, follows, edge, place_at}
+use Rattle.line_breaker.specs.Arrays.{first, is_whole, follows}
 use Rattle.line_breaker.proofs.breaking.line_end.Goals as goal
 use Rattle.line_breaker.proofs.breaking.line_end.Goals.{else-best-from-via-then-best-from+else-follows, else-best-from-via-else-best-from}
 

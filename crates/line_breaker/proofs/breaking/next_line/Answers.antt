@@ -1,4 +1,4 @@
-use Rattle.std.proofs.Common.{◌≡◌, ℕ, ◌-◌, ◌<◌, ◌≤◌, take, drop, length, List, refl, sym, ap, subst, ◌∙◌, arith, length-drop}
+use Rattle.std.proofs.Common.{◌≡◌, ℕ, ◌-◌, take, drop, length, List, refl, ap, subst, ◌∙◌, arith}
 use Rattle.inline_text.specs.declared.content.Piece.{Piece}
 use Rattle.inline_text.specs.declared.content.RunStyle.{RunStyle}
 use Rattle.line_breaker.specs.Measures.{style_of, above_of, below_of}

@@ -1,5 +1,5 @@
 use Rattle.std.proofs.Common.{arith}
-use Rattle.std.proofs.lemmas.Int.{ints, clamps}
+use Rattle.std.proofs.lemmas.Int.{ints}
 use Rattle.line_breaker.proofs.Halves.{above_is}
 use Rattle.line_breaker.proofs.height.extent_of.Goals as goal
 
