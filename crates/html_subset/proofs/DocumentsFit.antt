@@ -17,6 +17,7 @@ use Rattle.html_subset.specs.WellFormed.{AttributeIsUtf8, attribute_bytes, NodeI
 use Rattle.html_subset.proofs.TextsFit.{byte_fits}
 use Rattle.html_subset.proofs.FormsFit.{piece_bytes, TokenIsUtf8, token_bytes}
 use Rattle.html_subset.proofs.TreesFit.{TokensFit, tail_fits, own_fit, blank_fit, doctype_fit, end_fit, Spelt, nothing, in_raw, with_tag, content_fits, ForestIsUtf8, forest_bytes}
+use Rattle.html_subset.proofs.TextsWithin.{ForestIsWithin, attributes_within, forest_within}
 
 both : (a b : Bool) → (a && b) ≡ true → (a ≡ true) × (b ≡ true)
 both true b h = (refl, h)
@@ -87,7 +88,7 @@ head_fits (Words at text next) toks rest most h f = absurd h
 head_fits (Element at m attrs kids next) toks rest most (unknown, late, inner, cases, others) f =
     head_element_by at m attrs kids next toks rest inner unknown late most _ cases (λ tail. head_fits next inner rest (sum_by token_bytes inner) others tail) f
 
-pub document_fits : (size : ℕ) (toks : List Token) (tree : Forest) (m : ℕ) → IsDocument size toks tree → TokensFit toks m → ForestIsUtf8 tree × (forest_bytes tree ≤ m + 12)
+pub document_fits : (size : ℕ) (toks : List Token) (tree : Forest) (m : ℕ) → IsDocument size toks tree → TokensFit toks m → ForestIsUtf8 tree × (forest_bytes tree ≤ m + 12) × ((n : ℕ) → m ≤ n → 4 ≤ n → ForestIsWithin n tree)
 document_fits size toks tree m h f =
     let html = begun_fits (codes "html") size (skip_blank (behind_doctype (skip_blank toks))) m (blank_fit (behind_doctype (skip_blank toks)) m (doctype_fit (skip_blank toks) m (blank_fit toks m f))) in
     let a = html_begun size toks in
@@ -111,6 +112,17 @@ document_fits size toks tree m h f =
         tt,
       ),
       omega (arith, ap forest_bytes h.whole, html.bound, head.bound, part.bound, body.bound, inside.bound),
+      λ n le four. subst (ForestIsWithin n) (sym h.whole) (
+        four,
+        attributes_within n a.attributes (omega (arith, le, html.bound)),
+        (
+          four,
+          attributes_within n b.attributes (omega (arith, le, html.bound, head.bound)),
+          forest_within n h.head_kids (omega (arith, le, html.bound, head.bound, part.bound)),
+          (four, attributes_within n c.attributes (omega (arith, le, html.bound, head.bound, part.bound, body.bound)), forest_within n h.kids (omega (arith, le, html.bound, head.bound, part.bound, body.bound, inside.bound)), tt),
+        ),
+        tt,
+      ),
     )
 
 -- The nodes of a tree.

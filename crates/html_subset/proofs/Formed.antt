@@ -6,11 +6,12 @@ use Rattle.mc_base.specs.declared.refusal.Refusal.{Refusal}
 use Rattle.html_grammar.specs.declared.dom.Dom.{Dom}
 use Rattle.html_grammar.specs.Places.{places_of}
 use Rattle.html_grammar.specs.Documents.{IsDomOf}
-use Rattle.html_subset.specs.WellFormed.{IsWellFormed, IsHtml, NodeIsUtf8, node_bytes}
+use Rattle.html_subset.specs.WellFormed.{IsWellFormed, IsHtml, NodeIsUtf8, node_bytes, NodeIsWithin}
 use Rattle.html_subset.proofs.TextsFit.{length-le-weight}
 use Rattle.html_subset.proofs.FormsFit.{token_bytes, lexed_fit}
 use Rattle.html_subset.proofs.PlacesFit.{text_places_fit}
 use Rattle.html_subset.proofs.DocumentsFit.{document_fits, nodes_utf8, nodes_bytes}
+use Rattle.html_subset.proofs.TextsWithin.{nodes_within}
 use Rattle.html_subset.proofs.NodesFit.{costs_fit, document_count, nodes_length}
 
 pub dom_formed : (bytes : List ℕ) (dom : Dom) → length bytes ≤ 2 ^ 28 → IsDomOf bytes dom → IsWellFormed dom
@@ -29,6 +30,7 @@ dom_formed bytes dom small h =
       depth = h.depth;
       count = omega (arith, small, ap length h.nodes, nodes_length None 0 h.tree, many, costly, length-le-weight ps, places.bound);
       utf8 = subst (AllByRecursion NodeIsUtf8) (sym h.nodes) (nodes_utf8 None 0 h.tree fits.0);
+      texts = subst (AllByRecursion (NodeIsWithin (2 ^ 28))) (sym h.nodes) (nodes_within (2 ^ 28) None 0 h.tree (fits.2 (2 ^ 28) (omega (arith, small, lexed.1, places.bound)) (omega arith)));
       bytes = omega (arith, small, ap (sum_by node_bytes) h.nodes, nodes_bytes None 0 h.tree, fits.1, lexed.1, places.bound);
     }
 

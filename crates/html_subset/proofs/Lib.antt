@@ -12,6 +12,7 @@ pub mod TextsFit
 pub mod FormsFit
 pub mod PlacesFit
 pub mod TreesFit
+pub mod TextsWithin
 pub mod DocumentsFit
 pub mod NodesFit
 pub mod Formed

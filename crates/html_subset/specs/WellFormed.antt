@@ -33,6 +33,18 @@ kind_bytes (kinds.Words text) = length text
 abbrev pub node_bytes : DomNode → ℕ
 node_bytes n = kind_bytes n.kind
 
+-- no text of an attribute has more than so many bytes
+abbrev pub AttributeIsWithin : ℕ → Attribute → Type 0
+AttributeIsWithin n a = (length a.name ≤ n) × (length a.value ≤ n)
+
+abbrev pub KindIsWithin : ℕ → NodeKind → Type 0
+KindIsWithin n (kinds.Element name attributes) = (length name ≤ n) × AllByRecursion (AttributeIsWithin n) attributes
+KindIsWithin n (kinds.Words text) = length text ≤ n
+
+-- no text of a node has more than so many bytes
+abbrev pub NodeIsWithin : ℕ → DomNode → Type 0
+NodeIsWithin n node = KindIsWithin n node.kind
+
 -- one element html, with all that is in it
 abbrev pub IsHtml : Forest → Type 0
 IsHtml Nil = ⊥
@@ -40,8 +52,8 @@ IsHtml (Element at name attributes kids next) = (name ≡ codes "html") × (next
 IsHtml (Words at text next) = ⊥
 
 -- The nodes are those of a tree in preorder, each with the number of the element that it stands in: the root is html, and
--- at most 64 elements stand one inside another. There are at most 2^28 nodes. Their texts are UTF-8, with at most
--- 2^28 + 64 bytes together.
+-- at most 64 elements stand one inside another. There are at most 2^28 nodes. Their texts are UTF-8, each with at most 2^28
+-- bytes, and with at most 2^28 + 64 together.
 pub record IsWellFormed (dom : Dom) : Type 0 where
   pub tree : Forest
   pub nodes : dom.nodes ≡ nodes_from None 0 tree
@@ -49,4 +61,5 @@ pub record IsWellFormed (dom : Dom) : Type 0 where
   pub depth : depth_of tree ≤ 64
   pub count : length dom.nodes ≤ 2 ^ 28
   pub utf8 : AllByRecursion NodeIsUtf8 dom.nodes
+  pub texts : AllByRecursion (NodeIsWithin (2 ^ 28)) dom.nodes
   pub bytes : sum_by node_bytes dom.nodes ≤ 2 ^ 28 + 64
