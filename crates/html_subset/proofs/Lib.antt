@@ -8,3 +8,11 @@ pub mod ReadLoop
 pub mod ByteLemmas
 pub mod DoubledLemmas
 pub mod Answered
+pub mod TextsFit
+pub mod FormsFit
+pub mod PlacesFit
+pub mod TreesFit
+pub mod TextsWithin
+pub mod DocumentsFit
+pub mod NodesFit
+pub mod Formed

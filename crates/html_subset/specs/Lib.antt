@@ -3,3 +3,4 @@ pub mod Gives
 pub mod Stack
 pub mod Building
 pub mod Turn
+pub mod WellFormed

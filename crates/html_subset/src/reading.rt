@@ -12,6 +12,7 @@ ghost use Rattle.html_grammar.specs.declared.dom.Dom.{Dom as ADom};
 ghost use Rattle.html_subset.specs.Gives.{Gives, IsUnlessMemory};
 ghost use Rattle.html_subset.specs.Building.{state_of};
 ghost use Rattle.html_subset.specs.Turn.{turn, reading_of};
+ghost use Rattle.html_subset.specs.WellFormed.{IsWellFormed};
 
 use crate::building::{Builder, Finished};
 use crate::cursor::Cursor;
@@ -225,6 +226,8 @@ pub fn parse(alloc: Global, text: &[u8]) -> Result<Dom, Refusal>
     ensures only { (dom : ADom) → IsDomOf text.now dom → IsUnlessMemory result (Ok dom) }
     // A refusal has its reason: the first fault, or a limit that the document passes; unless memory ran out.
     ensures refused { IfErr result (λ e. (e ≡ NoMemory) ⊎ IsRefusalOf text.now e) }
+    // What is answered is well formed.
+    ensures formed { IfOk result (λ dom. IsWellFormed dom) }
     // Which answer it is.
     ensures exact { IsUnlessMemory result (whole.dom_of text.now) }
 {
