@@ -12,6 +12,7 @@ ghost use Rattle.html_grammar.specs.declared.dom.Dom.{Dom as ADom};
 ghost use Rattle.html_subset.specs.Gives.{Gives, IsUnlessMemory};
 ghost use Rattle.html_subset.specs.Building.{state_of};
 ghost use Rattle.html_subset.specs.Turn.{turn, reading_of};
+ghost use Rattle.html_subset.specs.OneTree.{IsTheOneOf};
 ghost use Rattle.html_subset.specs.WellFormed.{IsWellFormed};
 
 use crate::building::{Builder, Finished};
@@ -224,6 +225,8 @@ pub fn parse(alloc: Global, text: &[u8]) -> Result<Dom, Refusal>
     ensures found { IfOk result (λ dom. IsDomOf text.now dom) }
     // What the text spells is answered, and nothing else, unless memory runs out.
     ensures only { (dom : ADom) → IsDomOf text.now dom → IsUnlessMemory result (Ok dom) }
+    // The text spells one tree, and what is answered is that.
+    ensures one { IfOk result (λ dom. IsTheOneOf text.now dom) }
     // A refusal has its reason: the first fault, or a limit that the document passes; unless memory ran out.
     ensures refused { IfErr result (λ e. (e ≡ NoMemory) ⊎ IsRefusalOf text.now e) }
     // What is answered is well formed.

@@ -1,4 +1,4 @@
-use Rattle.html_subset.proofs.Answered.{answer_found, answer_only, answer_refused}
+use Rattle.html_subset.proofs.Answered.{answer_found, answer_one, answer_only, answer_refused}
 use Rattle.html_subset.proofs.Formed.{answer_formed}
 use Rattle.html_subset.proofs.reading.parse.Goals as goal
 
@@ -13,3 +13,6 @@ returns-clause-refused c = answer_refused c.dom_of.result c.args.text.now c.dom_
 
 pub returns-clause-formed : goal.returns-clause-formed
 returns-clause-formed c = answer_formed c.dom_of.result c.args.text.now c.requires (answer_found c.dom_of.result c.args.text.now c.dom_of.ensures)
+
+pub returns-clause-one : goal.returns-clause-one
+returns-clause-one c = answer_one c.dom_of.result c.args.text.now (answer_found c.dom_of.result c.args.text.now c.dom_of.ensures)
