@@ -1,6 +1,8 @@
 mod Advance
 mod DepthSame
 mod Exists
+mod Held
+mod HeldSums
 mod Laying
 mod Needs
 mod Rejects

@@ -25,7 +25,7 @@ use Rattle.flow_laws.proofs.DepthSame.{told-alike}
 abbrev pub IsGoodRow : FlowsData → ℕ → Type 0
 IsGoodRow d r = (r < length d.rows) × (0 < length (flow_in d r).items)
 
-rows-in-range : (d : FlowsData) (items : List Item) → All (IsSoundItem d) items → All (λ r. r < length d.rows) (flat_map row_in items)
+pub rows-in-range : (d : FlowsData) (items : List Item) → All (IsSoundItem d) items → All (λ r. r < length d.rows) (flat_map row_in items)
 rows-in-range d [] all = λ k e lt. absurd (omega arith)
 rows-in-range d (Atom height kind ∷ items) all = rows-in-range d items (λ k e lt. all (suc k) e (omega arith))
 rows-in-range d (Row r ∷ items) all = both (all 0 (Row r) (omega arith)) (rows-in-range d items (λ k e lt. all (suc k) e (omega arith)))
