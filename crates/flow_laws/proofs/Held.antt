@@ -1,6 +1,6 @@
 -- What a flow holds, with the flows of its rows and of the stacks that its atoms name, and so on: from stack 0 inwards each flow stands in
 -- one place, so a weight summed over all that stack 0 holds is no more than over all flows.
-use Rattle.std.proofs.Common.{◌≡◌, ℕ, zero, suc, ◌+◌, ◌<◌, ◌≤◌, ◌==◌, Bool, true, false, cond, List, [], ◌∷◌, ◌++◌, map, length, get_or, refl, subst, arith, sum_by}
+use Rattle.std.proofs.Common.{◌≡◌, ℕ, zero, suc, ◌+◌, ◌<◌, ◌≤◌, ◌==◌, Bool, true, false, cond, List, [], ◌∷◌, ◌++◌, map, length, get_or, refl, subst, ◌∙◌, ap, arith, sum_by}
 use Rattle.std.specs.Prelude.{All, if◌then◌else◌}
 use Rattle.std.specs.List.{flat_map}
 use Rattle.std.proofs.lemmas.Bool.Decides.{nat_tests}
@@ -15,7 +15,7 @@ use Rattle.flow_list.specs.declared.data.Item.{Item}
 use Rattle.flow_list.specs.declared.data.Item.TheVariants.{Atom, Row}
 use Rattle.flow_list.specs.declared.data.RowInfo.{RowInfo}
 use Rattle.flow_list.specs.declared.data.Stack.{Stack}
-use Rattle.flow_list.specs.Flows.{row_of, stack_of, flow_of, row_in, rows_in, no_flow, no_row, no_stack}
+use Rattle.flow_list.specs.Flows.{item_of, no_item, row_of, stack_of, flow_of, row_in, rows_in, no_flow, no_row, no_stack}
 use Rattle.flow_list.specs.Soundness.{IsSound, IsSoundItem, IsSoundFlow, IsSoundRow, IsSoundStack, count_of, flow_owners, stack_in, stacks_in}
 use Rattle.flow_laws.proofs.Totals.{sum-map, sum-flat, up, up-list, up-both, up-below, count-cons, AllIn, AllIn-append, AllIn-all, within-up}
 
@@ -119,4 +119,31 @@ module _ (d : FlowsData) (sound : IsSound d) where
       let parts = up-both weight (λ f. sum_by (λ r. g (row_of d r).flow) (rows_in (flow_of d f)) + sum_by (λ s. g (stack_of d s).flow) (stacks_in (flow_of d f))) 0 (length d.flows) in
       let more = up-both (λ f. sum_by (λ r. g (row_of d r).flow) (rows_in (flow_of d f))) (λ f. sum_by (λ s. g (stack_of d s).flow) (stacks_in (flow_of d f))) 0 (length d.flows) in
       let rises = up-below g (held d weight (suc n)) 0 (length d.flows) (held-rises d weight n) in
+      omega arith
+
+-- ---- one item
+
+pub sum-one : (g : ℕ → ℕ) (x : ℕ) → sum_by g (x ∷ []) ≡ g x
+sum-one g x = omega (arith, sum_by-cons g x [])
+
+pub in-list : (g : ℕ → ℕ) (of : Item → List ℕ) (items : List Item) (k : ℕ) → k < length items → sum_by g (of (get_or items k no_item)) ≤ sum_by g (flat_map of items)
+in-list g of [] k lt = absurd (omega arith)
+in-list g of (x ∷ items) zero lt = omega (arith, sum_by-append g (of x) (flat_map of items))
+in-list g of (x ∷ items) (suc k) lt = omega (arith, in-list g of items k (omega arith), sum_by-append g (of x) (flat_map of items))
+
+module _ (d : FlowsData) (weight : ℕ → ℕ) where
+  -- a flow's own weight, and that of what one of its rows holds
+  pub held-row : (n f k r : ℕ) → k < length (flow_of d f).items → item_of (flow_of d f) k ≡ Row r → weight f + held d weight n (row_of d r).flow ≤ held d weight (suc n) f
+  held-row n f k r lt is =
+      let more = held-more d weight n f in
+      let one = in-list (λ r. held d weight n (row_of d r).flow) row_in (flow_of d f).items k lt in
+      let e : sum_by (λ r. held d weight n (row_of d r).flow) (row_in (item_of (flow_of d f) k)) ≡ held d weight n (row_of d r).flow = ap (λ (i : Item). sum_by (λ r. held d weight n (row_of d r).flow) (row_in i)) is ∙ sum-one (λ r. held d weight n (row_of d r).flow) r in
+      omega arith
+
+  -- and that of what a stack holds that one of its atoms names
+  pub held-stack : (n f k s : ℕ) → k < length (flow_of d f).items → stack_in (item_of (flow_of d f) k) ≡ s ∷ [] → weight f + held d weight n (stack_of d s).flow ≤ held d weight (suc n) f
+  held-stack n f k s lt is =
+      let more = held-more d weight n f in
+      let one = in-list (λ s. held d weight n (stack_of d s).flow) stack_in (flow_of d f).items k lt in
+      let e : sum_by (λ s. held d weight n (stack_of d s).flow) (stack_in (item_of (flow_of d f) k)) ≡ held d weight n (stack_of d s).flow = ap (λ ss. sum_by (λ s. held d weight n (stack_of d s).flow) ss) is ∙ sum-one (λ s. held d weight n (stack_of d s).flow) s in
       omega arith

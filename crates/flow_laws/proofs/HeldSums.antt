@@ -1,24 +1,24 @@
 -- What stack 0 holds in all: flows, items and heights. The size of a row, and the items left in it, are no more than what its flow holds.
-use Rattle.std.proofs.Common.{◌≡◌, ℕ, zero, suc, ◌+◌, ◌<◌, ◌≤◌, ◌^◌, ◌==◌, Bool, true, false, cond, List, [], ◌∷◌, ◌++◌, map, length, drop, get_or, refl, subst, arith, sum_by}
+use Rattle.std.proofs.Common.{◌≡◌, ℕ, zero, suc, ◌+◌, ◌<◌, ◌≤◌, ◌^◌, ◌==◌, Bool, true, false, cond, List, [], ◌∷◌, ◌++◌, map, length, drop, get_or, refl, subst, ◌∙◌, ap, arith, sum_by}
 use Rattle.std.specs.Prelude.{All, count_by}
 use Rattle.std.specs.List.{flat_map}
 use Rattle.std.proofs.lemmas.Bool.Decides.{nat_tests}
 use Rattle.std.proofs.lemmas.List.{get_or_default}
-use Rattle.std.proofs.lemmas.List.Sums.{sum_by-cons, sum_by-append, sum_by-le-sum_by, count_by-le-length}
+use Rattle.std.proofs.lemmas.List.Sums.{sum_by-cons, sum_by-append, sum_by-le-sum_by, count_by-le-length, get_or-le-sum_by}
 use Rattle.flow_list.specs.declared.data.Flow.{Flow}
 use Rattle.flow_list.specs.declared.data.FlowsData.{FlowsData}
 use Rattle.flow_list.specs.declared.data.Item.{Item}
 use Rattle.flow_list.specs.declared.data.Item.TheVariants.{Atom, Row}
 use Rattle.flow_list.specs.declared.data.RowInfo.{RowInfo}
 use Rattle.flow_list.specs.declared.data.Stack.{Stack}
-use Rattle.flow_list.specs.Flows.{row_of, stack_of, flow_of, flow_in, row_in, rows_in, no_flow, no_row, no_stack}
+use Rattle.flow_list.specs.Flows.{item_of, no_item, row_of, stack_of, flow_of, flow_in, row_in, rows_in, no_flow, no_row, no_stack}
 use Rattle.flow_list.specs.Tokens.{Token, row_start, item_number, within}
 use Rattle.flow_list.specs.Column.{Inner}
 use Rattle.flow_list.specs.Rows.{reach, size_in, items_left, left_in, rows_to}
-use Rattle.flow_list.specs.Soundness.{IsSound, IsSoundItem, count_of, flow_owners, is_atom, item_total, flow_height}
+use Rattle.flow_list.specs.Soundness.{IsSound, IsSoundItem, count_of, flow_owners, is_atom, item_total, flow_height, stack_in, stacks_in}
 use Rattle.flow_list.proofs.Fitting.{size-reach}
 use Rattle.flow_laws.proofs.Totals.{sum-map, up, up-list, count-cons, up-within}
-use Rattle.flow_laws.proofs.Held.{held, held-more, held-le, owners-known}
+use Rattle.flow_laws.proofs.Held.{held, held-more, held-le, owners-known, held-row, held-stack, in-list, sum-one}
 use Rattle.flow_laws.proofs.RowsAdvance.{rows-in-range}
 use Rattle.flow_laws.proofs.Small.{reach-total}
 
@@ -175,3 +175,61 @@ module _ (d : FlowsData) (sound : IsSound d) where
   -- at any depth there are no more items left in a row than its flow holds
   pub left-held : (m r : ℕ) (q : Token) → r < length d.rows → left_in (rows_to d m) (flow_in d r) q ≤ items_held d (suc m) (row_of d r).flow
   left-held m r q lt = left-step m r q lt (left-told m)
+
+-- ---- from a flow to one that it holds
+
+one-atom : (items : List Item) (k : ℕ) → k < length items → is_atom (get_or items k no_item) ≡ true → 1 ≤ count_by is_atom items
+one-atom items k lt is = go (is_atom (get_or items k no_item)) is (get_or-le-sum_by (λ i. cond (is_atom i) 1 0) items k no_item lt)
+  where
+    go : (b : Bool) → b ≡ true → cond b 1 0 ≤ count_by is_atom items → 1 ≤ count_by is_atom items
+    go true e le = le
+    go false e le = cc
+
+-- an atom that names a stack is one
+names-atom : (item : Item) (s : ℕ) → stack_in item ≡ s ∷ [] → is_atom item ≡ true
+names-atom (Atom h k) s e = refl
+names-atom (Row r) s e = cc
+
+module _ (d : FlowsData) (sound : IsSound d) where
+  counts-atom : (f k : ℕ) → k < length (flow_of d f).items → is_atom (item_of (flow_of d f) k) ≡ true → 1 ≤ count_in d f
+  unfolding count_in
+  counts-atom f k lt is = let a = one-atom (flow_of d f).items k lt is in let b = count_by-le-length is_atom (flow_of d f).items in grind (arith, nat_tests)
+
+  pub flows-row : (n f k r : ℕ) → k < length (flow_of d f).items → item_of (flow_of d f) k ≡ Row r → 1 + flows_held d n (row_of d r).flow ≤ flows_held d (suc n) f
+  unfolding flows_held one
+  flows-row n f k r lt is = held-row d one n f k r lt is
+
+  pub flows-stack : (n f k s : ℕ) → k < length (flow_of d f).items → stack_in (item_of (flow_of d f) k) ≡ s ∷ [] → 1 + flows_held d n (stack_of d s).flow ≤ flows_held d (suc n) f
+  unfolding flows_held one
+  flows-stack n f k s lt is = held-stack d one n f k s lt is
+
+  pub flows-some : (n f : ℕ) → 1 ≤ flows_held d (suc n) f
+  unfolding flows_held one
+  flows-some n f = let more = held-more d one n f in omega arith
+
+  -- the items in a row of another row are fewer, and those in a row of a stack no more
+  pub items-row : (n f k r : ℕ) → k < length (flow_of d f).items → item_of (flow_of d f) k ≡ Row r → items_held d n (row_of d r).flow ≤ items_held d (suc n) f
+  unfolding items_held
+  items-row n f k r lt is = let a = held-row d (count_in d) n f k r lt is in omega arith
+
+  pub items-inner_row : (n outer k r : ℕ) → outer < length d.rows → k < length (flow_in d outer).items → item_of (flow_in d outer) k ≡ Row r → 1 + items_held d n (row_of d r).flow ≤ items_held d (suc n) (row_of d outer).flow
+  unfolding items_held
+  items-inner_row n outer k r known lt is = let a = held-row d (count_in d) n (row_of d outer).flow k r lt is in let c = row-count d sound outer known in omega arith
+
+  pub items-stack : (n f k s : ℕ) → k < length (flow_of d f).items → stack_in (item_of (flow_of d f) k) ≡ s ∷ [] → 1 + items_held d n (stack_of d s).flow ≤ items_held d (suc n) f
+  unfolding items_held
+  items-stack n f k s lt is = let a = held-stack d (count_in d) n f k s lt is in let c = counts-atom f k lt (names-atom (item_of (flow_of d f) k) s is) in omega arith
+
+-- the heights in a flow are its own, and those of what it holds
+pub height-more : (d : FlowsData) (n f : ℕ) → height_held d (suc n) f ≡ flow_height d (flow_of d f) + (sum_by (λ r. height_held d n (row_of d r).flow) (rows_in (flow_of d f)) + sum_by (λ s. height_held d n (stack_of d s).flow) (stacks_in (flow_of d f)))
+unfolding height_held height_of_flow
+height-more d n f = held-more d (height_of_flow d) n f
+
+pub height-stack : (d : FlowsData) (n f k s : ℕ) → k < length (flow_of d f).items → stack_in (item_of (flow_of d f) k) ≡ s ∷ [] →
+    flow_height d (flow_of d f) + (sum_by (λ r. height_held d n (row_of d r).flow) (rows_in (flow_of d f)) + height_held d n (stack_of d s).flow) ≤ height_held d (suc n) f
+unfolding height_held height_of_flow
+height-stack d n f k s lt is =
+    let more = held-more d (height_of_flow d) n f in
+    let first = in-list (λ s. held d (height_of_flow d) n (stack_of d s).flow) stack_in (flow_of d f).items k lt in
+    let e : sum_by (λ s. held d (height_of_flow d) n (stack_of d s).flow) (stack_in (item_of (flow_of d f) k)) ≡ held d (height_of_flow d) n (stack_of d s).flow = ap (λ ss. sum_by (λ s. held d (height_of_flow d) n (stack_of d s).flow) ss) is ∙ sum-one (λ s. held d (height_of_flow d) n (stack_of d s).flow) s in
+    omega arith
