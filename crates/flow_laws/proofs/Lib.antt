@@ -1,6 +1,7 @@
 mod Advance
 mod DepthSame
 mod Exists
+mod FillEnds
 mod Held
 mod HeldSums
 mod Laying
