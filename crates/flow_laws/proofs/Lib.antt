@@ -4,8 +4,10 @@ mod Exists
 mod FillEnds
 mod Held
 mod HeldSums
+mod LaidSums
 mod Laying
 mod Needs
+mod PlacedSums
 mod Rejects
 mod RowsAdvance
 mod RowsStay
