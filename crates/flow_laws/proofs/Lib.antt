@@ -9,6 +9,7 @@ mod Laying
 mod Needs
 mod PlacedSums
 mod Rejects
+mod RowHeightBounds
 mod RowsAdvance
 mod RowsStay
 mod Small
