@@ -6,6 +6,7 @@ use Rattle.std.proofs.lemmas.Bool.{cases_lt}
 use Rattle.std.proofs.lemmas.Bool.Decides.{nat_tests}
 use Rattle.std.proofs.lemmas.List.{get_or_past}
 use Rattle.std.proofs.lemmas.List.Sums.{sum_by-cons, sum_by-append}
+use Rattle.std.specs.List.{AllByRecursion as Each}
 use Rattle.flow_list.specs.declared.data.Bound.{Bound}
 use Rattle.flow_list.specs.declared.data.Edge.{Edge}
 use Rattle.flow_list.specs.declared.data.Edge.TheVariants.{Margin, Solid, Wall, Start, End}
@@ -26,7 +27,7 @@ use Rattle.flow_list.specs.Placing.{RowLaid, Laid, margin, solid, wall, opens, c
 use Rattle.flow_list.specs.Fragments.{laid_item, laid_items, laid_start, continuing, continued_from, stop_of, fills_item, filled_row, laid_filled, strip_after, strip_filled, laid_before, laid_to, places_in, column_made, laid_in_stack, stack_laid}
 use Rattle.flow_list.proofs.StripBounds.{put_le, lay_all_le}
 use Rattle.flow_list.proofs.Fitting.{open_at-le, open_across-le, first-amounts, amounts-drop, first-height, heights-drop}
-use Rattle.flow_list.proofs.PlaceBounds.{Each, Each-append, HasShare, IsNoLower, places-le}
+use Rattle.flow_list.proofs.PlaceBounds.{Each-append, HasShare, IsNoLower, places-le}
 use Rattle.flow_laws.proofs.FillEnds.{IsFilledAt, IsEndFor, column-right, IsStepFrom, OfStop, stop-from}
 use Rattle.flow_laws.proofs.Small.{reach-total}
 

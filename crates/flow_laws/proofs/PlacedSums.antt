@@ -2,6 +2,7 @@
 -- than its height.
 use Rattle.std.proofs.Common.{◌≡◌, ℕ, zero, suc, ◌+◌, ◌-◌, ◌<◌, ◌≤◌, ◌==◌, Bool, true, false, not, ◌||◌, List, [], ◌∷◌, ◌++◌, length, Option, Some, None, refl, subst, ap, arith, sum_by, add-one}
 use Rattle.std.proofs.lemmas.List.Sums.{sum_by-cons, sum_by-append}
+use Rattle.std.specs.List.{AllByRecursion as Each}
 use Rattle.flow_list.specs.declared.data.Bound.{Bound}
 use Rattle.flow_list.specs.declared.data.Flow.{Flow}
 use Rattle.flow_list.specs.declared.data.FlowsData.{FlowsData}
@@ -19,7 +20,7 @@ use Rattle.flow_list.specs.Placing.{RowLaid, Laid, laid_edges, Placed, opens_at,
 use Rattle.flow_list.specs.Fragments.{laid_start, continuing, continued_from, stop_of, laid_to, places_in, column_made, laid_in_stack, stack_laid}
 use Rattle.flow_list.proofs.StripBounds.{put_le, lay_all_le}
 use Rattle.flow_list.proofs.Fitting.{open_at-le, open_across-le}
-use Rattle.flow_list.proofs.PlaceBounds.{Each, Each-append, HasShare, IsNoLower, places-le}
+use Rattle.flow_list.proofs.PlaceBounds.{Each-append, HasShare, IsNoLower, places-le}
 use Rattle.flow_laws.proofs.FillEnds.{IsEndFor, column-right, IsStepFrom, OfStop, stop-from}
 use Rattle.flow_laws.proofs.LaidSums.{IsRowOf, item-known, share, item_share, edges-have, edges-le, ahead, ahead-first, whole-le, to-lay}
 

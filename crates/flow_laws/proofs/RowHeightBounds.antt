@@ -5,6 +5,7 @@ use Rattle.std.specs.Prelude.{fold, nat_le, nat_lt}
 use Rattle.std.specs.List.{list_any}
 use Rattle.std.proofs.lemmas.Bool.{cases_lt}
 use Rattle.std.proofs.lemmas.Bool.Decides.{nat_tests}
+use Rattle.std.specs.List.{AllByRecursion as Each}
 use Rattle.flow_list.specs.declared.data.Flow.{Flow}
 use Rattle.flow_list.specs.declared.data.FlowsData.{FlowsData}
 use Rattle.flow_list.specs.Flows.{row_of, flow_in, seam_of}
@@ -13,7 +14,6 @@ use Rattle.flow_list.specs.Column.{is_forced, Column, column}
 use Rattle.flow_list.specs.Rows.{reach, columns_by, left_in, all_rows}
 use Rattle.flow_list.specs.RowHeights.{size_of, column_within, row_columns, balanced_height, is_unforced, greatest_extent, filled_height, row_height}
 use Rattle.flow_list.proofs.Fitting.{size-reach}
-use Rattle.flow_list.proofs.PlaceBounds.{Each}
 use Rattle.flow_laws.specs.LeastHeight.{EndsAtForced, IsNextForced}
 use Rattle.flow_laws.proofs.Exists.{sizes-least}
 use Rattle.flow_laws.proofs.Small.{column-reach, endless-reach}

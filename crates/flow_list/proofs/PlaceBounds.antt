@@ -1,14 +1,11 @@
 -- What is placed in a column stands no lower than all that is laid there reaches together, a row with its own height.
 use Rattle.std.proofs.Common.{ℕ, zero, suc, ◌+◌, ◌≤◌, ◌≡◌, Bool, true, false, cond, List, [], ◌∷◌, ◌++◌, refl, arith, sum_by}
+use Rattle.std.specs.List.{AllByRecursion as Each}
 use Rattle.std.proofs.lemmas.List.Sums.{sum_by-cons, sum_by-append}
 use Rattle.flow_list.specs.Placing.{RowLaid, Laid, margin, solid, wall, opens, closes, atom, row, ends_gap, gap_of, behind_gap, greatest_margin, opens_among, Placed, opens_at, closes_at, atom_at, row_at, placed_in_gap, gap_places, placed_item, laid_height, gap_height, places_from}
 use Rattle.flow_list.specs.Fragments.{place_of}
 
--- each of these is so
-abbrev pub Each : {X : Type 0} → (X → Type 0) → List X → Type 0
-Each P [] = Unit {0}
-Each P (x ∷ xs) = P x × Each P xs
-
+-- what is so of each of two lists is so of both together
 pub Each-append : {X : Type 0} (P : X → Type 0) (xs ys : List X) → Each P xs → Each P ys → Each P (xs ++ ys)
 Each-append P [] ys a b = b
 Each-append P (x ∷ xs) ys a b = (a.0, Each-append P xs ys a.1 b)
@@ -33,12 +30,12 @@ HasShare share So (closes b) = Unit {0}
 HasShare share So (atom k height) = height ≤ share (atom k height)
 HasShare share So (row r) = (r.height ≤ share (row r)) × So r
 
--- something placed stands no lower than this, a row together with its share
+-- something placed stands no lower than this, a row together with its share, which is no less than its height
 abbrev pub IsNoLower : (Laid → ℕ) → (RowLaid → Type 0) → ℕ → Placed → Type 0
 IsNoLower share So bottom (opens_at b y starts) = y ≤ bottom
 IsNoLower share So bottom (closes_at b y) = y ≤ bottom
 IsNoLower share So bottom (atom_at k y) = y ≤ bottom
-IsNoLower share So bottom (row_at r y) = (y + share (row r) ≤ bottom) × So r
+IsNoLower share So bottom (row_at r y) = (r.height ≤ share (row r)) × (y + share (row r) ≤ bottom) × So r
 
 module _ (share : Laid → ℕ) (So : RowLaid → Type 0) where
   greatest-le : (xs : List Laid) → Each (HasShare share So) xs → greatest_margin xs ≤ sum_by share xs
@@ -86,7 +83,7 @@ module _ (share : Laid → ℕ) (So : RowLaid → Type 0) where
       go true = b
       go false = omega arith
   placed-le y end bottom before (atom k height) a b c h = (b, tt)
-  placed-le y end bottom before (row r) a b c h = ((c, h.1), tt)
+  placed-le y end bottom before (row r) a b c h = ((h.0, c, h.1), tt)
 
   gap-le : (y end bottom : ℕ) (before gap : List Laid) → y ≤ end → end ≤ bottom → y + sum_by share before + sum_by share gap ≤ bottom → Each (HasShare share So) before → Each (HasShare share So) gap → Each (IsNoLower share So bottom) (gap_places y end before gap)
   gap-le y end bottom before [] a b c l g = tt
@@ -105,7 +102,7 @@ module _ (share : Laid → ℕ) (So : RowLaid → Type 0) where
   item-le y bottom (opens b) a h = tt
   item-le y bottom (closes b) a h = tt
   item-le y bottom (atom k height) a h = (omega arith, tt)
-  item-le y bottom (row r) a h = ((a, h.1), tt)
+  item-le y bottom (row r) a h = ((h.0, a, h.1), tt)
 
   height-le : (x : Laid) → HasShare share So x → laid_height x ≤ share x
   height-le (margin m) h = omega arith
@@ -161,7 +158,7 @@ only-places bottom [] all = tt
 only-places bottom (opens_at b y starts ∷ ps) all = (all.0, only-places bottom ps all.1)
 only-places bottom (closes_at b y ∷ ps) all = (all.0, only-places bottom ps all.1)
 only-places bottom (atom_at k y ∷ ps) all = (all.0, only-places bottom ps all.1)
-only-places bottom (row_at r y ∷ ps) all = (let a = all.0.0 in omega arith, only-places bottom ps all.1)
+only-places bottom (row_at r y ∷ ps) all = (let a = all.0.1 in omega arith, only-places bottom ps all.1)
 
 -- Each place is at most where the laying begins and the heights and margins of all that is laid.
 pub places-within : (n y : ℕ) (xs : List Laid) → Each (λ p. place_of p ≤ y + sum_by laid_amount xs) (places_from n y xs)
