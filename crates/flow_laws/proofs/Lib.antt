@@ -1,5 +1,6 @@
 mod Advance
 mod DepthSame
+mod Descent
 mod Exists
 mod FillEnds
 mod Held
