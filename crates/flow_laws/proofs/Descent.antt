@@ -1,5 +1,5 @@
 -- Where flows stand in a tree: from one to the flow of a row or of a stack in it, each place is bounded by what the flow holds.
-use Rattle.std.proofs.Common.{◌≡◌, ℕ, zero, suc, ◌+◌, ◌-◌, ◌*◌, ◌<◌, ◌≤◌, ◌^◌, List, [], ◌∷◌, ◌++◌, length, get_or, refl, subst, ap, arith, sum_by, length-append}
+use Rattle.std.proofs.Common.{◌≡◌, ℕ, zero, suc, ◌+◌, ◌-◌, ◌*◌, ◌<◌, ◌≤◌, ◌^◌, List, [], ◌∷◌, ◌++◌, length, get_or, subst, ap, arith, length-append}
 use Rattle.std.specs.Prelude.{All}
 use Rattle.std.specs.List.{flat_map}
 use Rattle.std.proofs.Math.Nat.{mul-le-mul}
@@ -8,9 +8,9 @@ use Rattle.flow_list.specs.declared.data.AtomKind.TheVariants.{Bounded}
 use Rattle.flow_list.specs.declared.data.FlowsData.{FlowsData}
 use Rattle.flow_list.specs.declared.data.Item.{Item}
 use Rattle.flow_list.specs.declared.data.Item.TheVariants.{Atom, Row}
-use Rattle.flow_list.specs.Flows.{row_of, stack_of, flow_of, flow_in, item_of, no_item, no_row, no_flow, rows_in}
-use Rattle.flow_list.specs.Soundness.{IsSound, IsSoundItem, Held, held_in, item_x, stack_in, FitsAcross, flow_height}
-use Rattle.flow_laws.proofs.HeldSums.{flows_held, items_held, height_held, flows-le, items-le, heights-le, flows-some, flows-row, flows-stack, items-row, items-inner_row, items-stack, height-more, height-stack}
+use Rattle.flow_list.specs.Flows.{row_of, stack_of, flow_of, flow_in, item_of, no_item, no_row, no_flow}
+use Rattle.flow_list.specs.Soundness.{IsSound, IsSoundItem, Held, held_in, item_x, stack_in, FitsAcross}
+use Rattle.flow_laws.proofs.HeldSums.{flows_held, items_held, height_held, flows-le, items-le, heights-le, flows-some, flows-row, flows-stack, items-row, items-inner_row, items-stack}
 
 -- ---- what is so of all that items hold
 
@@ -73,9 +73,9 @@ module _ (d : FlowsData) (sound : IsSound d) where
   x-small f spare x y s = let a = s.x_is in let b = s.low in let c = s.items 0 in omega arith
 
   -- from a flow to that of a row in it, in column i of the row
-  pub row-stands : (f spare x y k r i z : ℕ) → Stands f spare x y → k < length (flow_of d f).items → item_of (flow_of d f) k ≡ Row r → r < length d.rows → i < 2 ^ 17 →
-      ((n : ℕ) → z + height_held d n (row_of d r).flow ≤ height_held d (suc n) f) → Stands (row_of d r).flow 0 (x + (row_of d r).x + i * (row_of d r).step) (y + z)
-  row-stands f spare x y k r i z s lt is known column fits = go s.deep s.across s.flows
+  pub row-stands : (f spare x y k r i z more : ℕ) → Stands f spare x y → k < length (flow_of d f).items → item_of (flow_of d f) k ≡ Row r → r < length d.rows → i < 2 ^ 17 →
+      ((n : ℕ) → z + height_held d n (row_of d r).flow ≤ height_held d (suc (n + more)) f) → Stands (row_of d r).flow 0 (x + (row_of d r).x + i * (row_of d r).step) (y + z)
+  row-stands f spare x y k r i z more s lt is known column fits = go s.deep s.across s.flows
     where
       go : (deep : ℕ) → FitsAcross d deep s.left f → ((n : ℕ) → flows_held d n f ≤ deep) → Stands (row_of d r).flow 0 (x + (row_of d r).x + i * (row_of d r).step) (y + z)
       go zero across flows = absurd (let a = flows zero in let b = flows (suc zero) in let c = flows-some d sound zero f in omega arith)
@@ -94,13 +94,13 @@ module _ (d : FlowsData) (sound : IsSound d) where
             flows = λ n. let a = flows-row d sound n f k r lt is in let b = flows (suc n) in omega arith;
             items = λ n. let a = s.rows n k r lt is in let b = s.items (suc n) in omega arith;
             rows = row-rows r known;
-            heights = λ n. let a = fits n in let b = s.heights (suc n) in omega arith;
+            heights = λ n. let a = fits n in let b = s.heights (suc (n + more)) in omega arith;
           }
 
   -- from a flow to that of the stack that one of its atoms names
-  pub stack-stands : (f spare x y k height owner named left z : ℕ) → Stands f spare x y → k < length (flow_of d f).items → item_of (flow_of d f) k ≡ Atom height (Bounded owner named left) →
-      ((n : ℕ) → z + height_held d n (stack_of d named).flow ≤ height_held d (suc n) f) → Stands (stack_of d named).flow 1 (x + left) (y + z)
-  stack-stands f spare x y k height owner named left z s lt is fits = go s.deep s.across s.flows
+  pub stack-stands : (f spare x y k height owner named left z more : ℕ) → Stands f spare x y → k < length (flow_of d f).items → item_of (flow_of d f) k ≡ Atom height (Bounded owner named left) →
+      ((n : ℕ) → z + height_held d n (stack_of d named).flow ≤ height_held d (suc (n + more)) f) → Stands (stack_of d named).flow 1 (x + left) (y + z)
+  stack-stands f spare x y k height owner named left z more s lt is fits = go s.deep s.across s.flows
     where
       names : stack_in (item_of (flow_of d f) k) ≡ named ∷ []
       names = ap stack_in is
@@ -120,5 +120,5 @@ module _ (d : FlowsData) (sound : IsSound d) where
             flows = λ n. let a = flows-stack d sound n f k named lt names in let b = flows (suc n) in omega arith;
             items = λ n. let a = items-stack d sound n f k named lt names in let b = s.items (suc n) in omega arith;
             rows = stack-rows (stack_of d named).flow;
-            heights = λ n. let a = fits n in let b = s.heights (suc n) in omega arith;
+            heights = λ n. let a = fits n in let b = s.heights (suc (n + more)) in omega arith;
           }

@@ -1,13 +1,13 @@
 -- What a flow holds, with the flows of its rows and of the stacks that its atoms name, and so on: from stack 0 inwards each flow stands in
 -- one place, so a weight summed over all that stack 0 holds is no more than over all flows.
-use Rattle.std.proofs.Common.{◌≡◌, ℕ, zero, suc, ◌+◌, ◌<◌, ◌≤◌, ◌==◌, Bool, true, false, cond, List, [], ◌∷◌, ◌++◌, map, length, get_or, refl, subst, ◌∙◌, ap, arith, sum_by}
-use Rattle.std.specs.Prelude.{All, if◌then◌else◌}
+use Rattle.std.proofs.Common.{◌≡◌, ℕ, zero, suc, ◌+◌, ◌<◌, ◌≤◌, List, [], ◌∷◌, map, length, get_or, refl, sym, subst, ◌∙◌, ap, arith, sum_by, ◌⊎◌, inl, inr}
+use Rattle.std.specs.Prelude.{All}
 use Rattle.std.specs.List.{flat_map}
+use Rattle.std.proofs.lemmas.Bool.{cases_lt}
 use Rattle.std.proofs.lemmas.Bool.Decides.{nat_tests}
 use Rattle.std.proofs.lemmas.List.{get_or_default}
 use Rattle.std.proofs.lemmas.List.Elements.{All-map}
 use Rattle.std.proofs.lemmas.List.Sums.{sum_by-cons, sum_by-append, sum_by-le-sum_by}
-use Rattle.flow_list.specs.declared.data.AtomKind.{AtomKind}
 use Rattle.flow_list.specs.declared.data.AtomKind.TheVariants.{Plain, Line, Void, Image, Bounded}
 use Rattle.flow_list.specs.declared.data.Flow.{Flow}
 use Rattle.flow_list.specs.declared.data.FlowsData.{FlowsData}
@@ -16,7 +16,7 @@ use Rattle.flow_list.specs.declared.data.Item.TheVariants.{Atom, Row}
 use Rattle.flow_list.specs.declared.data.RowInfo.{RowInfo}
 use Rattle.flow_list.specs.declared.data.Stack.{Stack}
 use Rattle.flow_list.specs.Flows.{item_of, no_item, row_of, stack_of, flow_of, row_in, rows_in, no_flow, no_row, no_stack}
-use Rattle.flow_list.specs.Soundness.{IsSound, IsSoundItem, IsSoundFlow, IsSoundRow, IsSoundStack, count_of, flow_owners, stack_in, stacks_in}
+use Rattle.flow_list.specs.Soundness.{IsSound, IsSoundItem, count_of, flow_owners, stack_in, stacks_in}
 use Rattle.flow_laws.proofs.Totals.{sum-map, sum-flat, up, up-list, up-both, up-below, count-cons, AllIn, AllIn-append, AllIn-all, within-up}
 
 module _ (d : FlowsData) (weight : ℕ → ℕ) where
@@ -36,6 +36,14 @@ module _ (d : FlowsData) (weight : ℕ → ℕ) where
       let a = sum_by-le-sum_by (λ r. held n (row_of d r).flow) (λ r. held (suc n) (row_of d r).flow) (rows_in (flow_of d f)) (λ r. held-rises n (row_of d r).flow) in
       let b = sum_by-le-sum_by (λ s. held n (stack_of d s).flow) (λ s. held (suc n) (stack_of d s).flow) (stacks_in (flow_of d f)) (λ s. held-rises n (stack_of d s).flow) in
       omega arith
+
+  pub held-deeper : (m n f : ℕ) → m ≤ n → held m f ≤ held n f
+  held-deeper m zero f le = let z : m ≡ 0 = omega arith in let P : ℕ → Type 0 = λ k. held k f ≤ held 0 f in subst P (sym z) (omega arith)
+  held-deeper m (suc n) f le = go (cases_lt m (suc n)) (λ less. held-deeper m n f less)
+    where
+      go : (m < suc n) ⊎ (suc n ≤ m) → (m ≤ n → held m f ≤ held n f) → held m f ≤ held (suc n) f
+      go (inl lt) rest = let a = rest (omega arith) in let b = held-rises n f in omega arith
+      go (inr ge) rest = let z : m ≡ suc n = omega arith in let P : ℕ → Type 0 = λ k. held k f ≤ held (suc n) f in subst P (sym z) (omega arith)
 
 -- ---- rows and stacks by the flows that hold them
 

@@ -1,5 +1,5 @@
 -- What stack 0 holds in all: flows, items and heights. The size of a row, and the items left in it, are no more than what its flow holds.
-use Rattle.std.proofs.Common.{◌≡◌, ℕ, zero, suc, ◌+◌, ◌<◌, ◌≤◌, ◌^◌, ◌==◌, Bool, true, false, cond, List, [], ◌∷◌, ◌++◌, map, length, drop, get_or, refl, subst, ◌∙◌, ap, arith, sum_by}
+use Rattle.std.proofs.Common.{◌≡◌, ℕ, zero, suc, ◌+◌, ◌<◌, ◌≤◌, ◌^◌, ◌==◌, Bool, true, false, cond, List, [], ◌∷◌, map, length, drop, get_or, refl, subst, ◌∙◌, ap, arith, sum_by}
 use Rattle.std.specs.Prelude.{All, count_by}
 use Rattle.std.specs.List.{flat_map}
 use Rattle.std.proofs.lemmas.Bool.Decides.{nat_tests}
@@ -14,11 +14,11 @@ use Rattle.flow_list.specs.declared.data.Stack.{Stack}
 use Rattle.flow_list.specs.Flows.{item_of, no_item, row_of, stack_of, flow_of, flow_in, row_in, rows_in, no_flow, no_row, no_stack}
 use Rattle.flow_list.specs.Tokens.{Token, row_start, item_number, within}
 use Rattle.flow_list.specs.Column.{Inner}
-use Rattle.flow_list.specs.Rows.{reach, size_in, items_left, left_in, rows_to}
-use Rattle.flow_list.specs.Soundness.{IsSound, IsSoundItem, count_of, flow_owners, is_atom, item_total, flow_height, stack_in, stacks_in}
+use Rattle.flow_list.specs.Rows.{reach, items_left, left_in, rows_to}
+use Rattle.flow_list.specs.Soundness.{IsSound, count_of, flow_owners, is_atom, item_total, flow_height, stack_in, stacks_in}
 use Rattle.flow_list.proofs.Fitting.{size-reach}
 use Rattle.flow_laws.proofs.Totals.{sum-map, up, up-list, count-cons, up-within}
-use Rattle.flow_laws.proofs.Held.{held, held-more, held-le, owners-known, held-row, held-stack, in-list, sum-one}
+use Rattle.flow_laws.proofs.Held.{held, held-more, held-deeper, held-le, owners-known, held-row, held-stack, in-list, sum-one}
 use Rattle.flow_laws.proofs.RowsAdvance.{rows-in-range}
 use Rattle.flow_laws.proofs.Small.{reach-total}
 
@@ -224,6 +224,10 @@ module _ (d : FlowsData) (sound : IsSound d) where
 pub height-more : (d : FlowsData) (n f : ℕ) → height_held d (suc n) f ≡ flow_height d (flow_of d f) + (sum_by (λ r. height_held d n (row_of d r).flow) (rows_in (flow_of d f)) + sum_by (λ s. height_held d n (stack_of d s).flow) (stacks_in (flow_of d f)))
 unfolding height_held height_of_flow
 height-more d n f = held-more d (height_of_flow d) n f
+
+pub height-rises : (d : FlowsData) (m n f : ℕ) → m ≤ n → height_held d m f ≤ height_held d n f
+unfolding height_held
+height-rises d m n f le = held-deeper d (height_of_flow d) m n f le
 
 pub height-stack : (d : FlowsData) (n f k s : ℕ) → k < length (flow_of d f).items → stack_in (item_of (flow_of d f) k) ≡ s ∷ [] →
     flow_height d (flow_of d f) + (sum_by (λ r. height_held d n (row_of d r).flow) (rows_in (flow_of d f)) + height_held d n (stack_of d s).flow) ≤ height_held d (suc n) f

@@ -1,34 +1,30 @@
 -- What is laid in a column, or in a stack, is no more than the heights, margins and solid amounts of its flow, where each row counts with a
 -- share that is no less than its height.
-use Rattle.std.proofs.Common.{◌≡◌, ℕ, zero, suc, ◌+◌, ◌-◌, ◌<◌, ◌≤◌, ◌==◌, Bool, true, false, cond, not, ◌||◌, ◌&&◌, List, [], ◌∷◌, ◌++◌, length, drop, get_or, Option, Some, None, refl, sym, subst, append_assoc, ap, arith, sum_by, ◌⊎◌, inl, inr}
+use Rattle.std.proofs.Common.{◌≡◌, ℕ, zero, suc, ◌+◌, ◌-◌, ◌<◌, ◌≤◌, ◌==◌, Bool, true, false, cond, not, ◌&&◌, List, [], ◌∷◌, ◌++◌, length, drop, Option, Some, None, refl, sym, subst, append_assoc, ap, arith, sum_by, ◌⊎◌, inl, inr}
 use Rattle.std.specs.Prelude.{nat_lt, is_some}
 use Rattle.std.proofs.lemmas.Bool.{cases_lt}
 use Rattle.std.proofs.lemmas.Bool.Decides.{nat_tests}
 use Rattle.std.proofs.lemmas.List.{get_or_past}
 use Rattle.std.proofs.lemmas.List.Sums.{sum_by-cons, sum_by-append}
 use Rattle.std.specs.List.{AllByRecursion as Each}
-use Rattle.flow_list.specs.declared.data.Bound.{Bound}
 use Rattle.flow_list.specs.declared.data.Edge.{Edge}
 use Rattle.flow_list.specs.declared.data.Edge.TheVariants.{Margin, Solid, Wall, Start, End}
 use Rattle.flow_list.specs.declared.data.Flow.{Flow}
 use Rattle.flow_list.specs.declared.data.FlowsData.{FlowsData}
 use Rattle.flow_list.specs.declared.data.Item.{Item}
 use Rattle.flow_list.specs.declared.data.Item.TheVariants.{Atom, Row}
-use Rattle.flow_list.specs.Flows.{item_of, seam_of, box_of, no_item, rows_in, amount, boxes_in, open_at}
-use Rattle.flow_list.specs.ClonedEdges.{open_across, tops, bottoms}
+use Rattle.flow_list.specs.Flows.{item_of, seam_of, no_item, rows_in, amount, boxes_in}
+use Rattle.flow_list.specs.ClonedEdges.{tops, bottoms}
 use Rattle.flow_list.specs.Tokens.{Token, row_start, item_number, within}
-use Rattle.flow_list.specs.Strip.{Strip, strip_at, put, lay, lay_all, begins}
-use Rattle.flow_list.specs.Column.{Inner, Step, cut, height_of, row_from, strip_behind, start_strip, steps_from, is_forced, room, column}
-use Rattle.flow_list.specs.Rows.{reach, heights_from, amounts_in}
-use Rattle.flow_list.specs.RowHeights.{row_height}
-use Rattle.flow_list.specs.Stacks.{available_at, available_to, height_in_stack, stack_strip, stack_extent}
+use Rattle.flow_list.specs.Strip.{Strip, put, lay, lay_all}
+use Rattle.flow_list.specs.Column.{Inner, Step, height_of, row_from, strip_behind, start_strip, room}
+use Rattle.flow_list.specs.Rows.{heights_from, amounts_in}
 use Rattle.flow_list.specs.Soundness.{flow_height}
-use Rattle.flow_list.specs.Placing.{RowLaid, Laid, margin, solid, wall, opens, closes, atom, row, laid_edge, laid_edges, Placed, opens_at, places_from}
-use Rattle.flow_list.specs.Fragments.{laid_item, laid_items, laid_start, continuing, continued_from, stop_of, fills_item, filled_row, laid_filled, strip_after, strip_filled, laid_before, laid_to, places_in, column_made, laid_in_stack, stack_laid}
-use Rattle.flow_list.proofs.StripBounds.{put_le, lay_all_le}
-use Rattle.flow_list.proofs.Fitting.{open_at-le, open_across-le, first-amounts, amounts-drop, first-height, heights-drop}
-use Rattle.flow_list.proofs.PlaceBounds.{Each-append, HasShare, IsNoLower, places-le}
-use Rattle.flow_laws.proofs.FillEnds.{IsFilledAt, IsEndFor, column-right, IsStepFrom, OfStop, stop-from}
+use Rattle.flow_list.specs.Placing.{RowLaid, Laid, margin, solid, wall, opens, closes, atom, row, laid_edge, laid_edges}
+use Rattle.flow_list.specs.Fragments.{laid_item, laid_items, fills_item, filled_row, laid_filled, strip_after, strip_filled, laid_before, laid_to}
+use Rattle.flow_list.proofs.Fitting.{first-amounts, amounts-drop, first-height, heights-drop}
+use Rattle.flow_list.proofs.PlaceBounds.{Each-append, HasShare}
+use Rattle.flow_laws.proofs.FillEnds.{IsFilledAt, IsEndFor, IsStepFrom, OfStop}
 use Rattle.flow_laws.proofs.Small.{reach-total}
 
 -- a row that is laid is an item of the flow

@@ -16,3 +16,4 @@ mod RowsStay
 mod Small
 mod StopStays
 mod Totals
+mod TreeBounds

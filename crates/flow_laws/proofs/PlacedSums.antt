@@ -1,6 +1,6 @@
 -- What stands in a column, or in a stack, stands no lower than its flow reaches in all, where each row counts with a share that is no less
 -- than its height.
-use Rattle.std.proofs.Common.{◌≡◌, ℕ, zero, suc, ◌+◌, ◌-◌, ◌<◌, ◌≤◌, ◌==◌, Bool, true, false, not, ◌||◌, List, [], ◌∷◌, ◌++◌, length, Option, Some, None, refl, subst, ap, arith, sum_by, add-one}
+use Rattle.std.proofs.Common.{◌≡◌, ℕ, zero, suc, ◌+◌, ◌≤◌, ◌==◌, false, not, ◌||◌, List, [], ◌∷◌, ◌++◌, length, Option, Some, None, refl, subst, arith, sum_by, add-one}
 use Rattle.std.proofs.lemmas.List.Sums.{sum_by-cons, sum_by-append}
 use Rattle.std.specs.List.{AllByRecursion as Each}
 use Rattle.flow_list.specs.declared.data.Bound.{Bound}
@@ -8,15 +8,15 @@ use Rattle.flow_list.specs.declared.data.Flow.{Flow}
 use Rattle.flow_list.specs.declared.data.FlowsData.{FlowsData}
 use Rattle.flow_list.specs.declared.data.Item.{Item}
 use Rattle.flow_list.specs.declared.data.Item.TheVariants.{Atom, Row}
-use Rattle.flow_list.specs.Flows.{item_of, seam_of, box_of, rows_in, amount, boxes_in, open_at}
+use Rattle.flow_list.specs.Flows.{item_of, seam_of, box_of, rows_in, amount, boxes_in}
 use Rattle.flow_list.specs.ClonedEdges.{open_across, tops, bottoms}
-use Rattle.flow_list.specs.Tokens.{Token, row_start, item_number}
+use Rattle.flow_list.specs.Tokens.{Token, item_number}
 use Rattle.flow_list.specs.Strip.{Strip, strip_at, put, lay_all, begins}
-use Rattle.flow_list.specs.Column.{Inner, Step, cut, steps_from, is_forced, column}
+use Rattle.flow_list.specs.Column.{Inner, cut, steps_from, is_forced, column}
 use Rattle.flow_list.specs.Soundness.{flow_height}
 use Rattle.flow_list.specs.RowHeights.{row_height}
 use Rattle.flow_list.specs.Stacks.{available_at, height_in_stack, stack_strip, stack_extent}
-use Rattle.flow_list.specs.Placing.{RowLaid, Laid, laid_edges, Placed, opens_at, places_from}
+use Rattle.flow_list.specs.Placing.{Laid, laid_edges, Placed, places_from}
 use Rattle.flow_list.specs.Fragments.{laid_start, continuing, continued_from, stop_of, laid_to, places_in, column_made, laid_in_stack, stack_laid}
 use Rattle.flow_list.proofs.StripBounds.{put_le, lay_all_le}
 use Rattle.flow_list.proofs.Fitting.{open_at-le, open_across-le}
@@ -28,6 +28,10 @@ module _ (d : FlowsData) (f : Flow) (total : ℕ → ℕ) where
   -- all that stands in the flow, with the shares of its rows
   pub whole : ℕ
   whole = flow_height d f + sum_by total (rows_in f)
+
+  pub whole-is : whole ≡ flow_height d f + sum_by total (rows_in f)
+  unfolding whole
+  whole-is = refl
 
   -- something stands within that
   abbrev pub IsWithin : Placed → Type 0

@@ -1,6 +1,6 @@
 -- The height of a row outside any columns is no more than a column of it may reach, whatever height is available: that comes into play only
 -- where a column is broken or reaches beyond it.
-use Rattle.std.proofs.Common.{◌≡◌, ℕ, zero, suc, ◌<◌, ◌≤◌, max, min, Bool, true, false, cond, not, ◌||◌, List, [], ◌∷◌, length, Option, Some, None, refl, sym, subst, ap, arith, ◌⊎◌, inl, inr}
+use Rattle.std.proofs.Common.{◌≡◌, ℕ, zero, suc, ◌<◌, ◌≤◌, max, Bool, true, false, cond, not, ◌||◌, List, [], ◌∷◌, length, Option, Some, None, refl, sym, subst, arith, ◌⊎◌, inl, inr}
 use Rattle.std.specs.Prelude.{fold, nat_le, nat_lt}
 use Rattle.std.specs.List.{list_any}
 use Rattle.std.proofs.lemmas.Bool.{cases_lt}
@@ -14,7 +14,6 @@ use Rattle.flow_list.specs.Column.{is_forced, Column, column}
 use Rattle.flow_list.specs.Rows.{reach, columns_by, left_in, all_rows}
 use Rattle.flow_list.specs.RowHeights.{size_of, column_within, row_columns, balanced_height, is_unforced, greatest_extent, filled_height, row_height}
 use Rattle.flow_list.proofs.Fitting.{size-reach}
-use Rattle.flow_laws.specs.LeastHeight.{EndsAtForced, IsNextForced}
 use Rattle.flow_laws.proofs.Exists.{sizes-least}
 use Rattle.flow_laws.proofs.Small.{column-reach, endless-reach}
 

@@ -14,7 +14,7 @@ use Rattle.flow_list.specs.Soundness.{IsSound, IsSoundFlow, NestsAtMost, flow_he
 use Rattle.flow_list.specs.Tokens.{Token, row_start, item_number, within}
 use Rattle.flow_list.specs.Strip.{Strip, strip_at, put, lay_all}
 use Rattle.flow_list.specs.Column.{Filled, Inner, Step, Place, Cut, cut, longer, height_of, strip_behind, steps, steps_from, start_strip, is_forced, tail_from, inside, inside_place, alone_place, whole_place, is_cut, room, best, choose, seams_before, seams_between, last_place, no_place, fill_in_room, column, endless_column, column_up_to, avoids_at}
-use Rattle.flow_list.specs.Rows.{heights_from, amounts_in, reach, size_in, fits, rows_to, all_rows, least}
+use Rattle.flow_list.specs.Rows.{heights_from, amounts_in, reach, size_in, rows_to, all_rows}
 use Rattle.flow_list.specs.RowHeights.{size_of}
 use Rattle.flow_laws.specs.Bounds.{NeedsRise, NeedsAreSmall, NeedsAndBounds}
 use Rattle.flow_list.proofs.StripBounds.{put_le, lay_all_le}

@@ -9,5 +9,5 @@ abbrev pub EndsBelow : TreeLine → Type 0
 EndsBelow line = (line.x + line.w < 2 ^ 63) × (line.y + line.h < 2 ^ 63)
 
 -- the law, of all lines of the tree of sound flows
-abbrev pub RectanglesAreSmall : FlowsData → Type 0
-RectanglesAreSmall d = All EndsBelow (tree_of d)
+abbrev pub RectanglesAreBounded : FlowsData → Type 0
+RectanglesAreBounded d = All EndsBelow (tree_of d)
