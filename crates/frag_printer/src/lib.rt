@@ -5,3 +5,4 @@
 #![tactic(auto)]
 
 mod lines;
+mod placing;
