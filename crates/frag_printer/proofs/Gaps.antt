@@ -1,7 +1,12 @@
 -- A column being placed: what waits in its gap, and what ends that.
 use Rattle.std.proofs.Common.{◌≡◌, ℕ, zero, suc, ◌+◌, ◌<◌, ◌≤◌, max, Bool, true, false, cond, not, List, [], ◌∷◌, ◌++◌, length, map, get_or, take, drop, refl, sym, ◌∙◌, ap, arith, add-one, add-zero, append_assoc}
 use Rattle.std.proofs.lemmas.List.{append-nil, drop_more, take_more, map-append}
-use Rattle.flow_list.specs.Placing.{RowLaid, Laid, margin, solid, wall, opens, closes, atom, row, ends_gap, gap_of, behind_gap, greatest_margin, Placed as AnyPlaced, placed_in_gap, gap_places, placed_item, laid_height, gap_height, places_from}
+use Rattle.std.specs.Prelude.{◌==◌}
+use Rattle.std.proofs.lemmas.Bool.Decides.{nat_tests}
+use Rattle.flow_list.specs.declared.data.Edge.{Edge}
+use Rattle.flow_list.specs.declared.data.Edge.TheVariants as E
+use Rattle.flow_list.specs.Strip.{Strip, put, lay}
+use Rattle.flow_list.specs.Placing.{RowLaid, Laid, margin, solid, wall, opens, closes, atom, row, ends_gap, gap_of, behind_gap, greatest_margin, laid_edge, Placed as AnyPlaced, atom_at, placed_in_gap, gap_places, placed_item, laid_height, gap_height, places_from}
 use Rattle.frag_printer.specs.declared.placing.Placing.{Placing}
 use Rattle.frag_printer.specs.declared.placing.Waiting.{Waiting}
 use Rattle.frag_printer.specs.declared.placing.Waiting.TheVariants.{Margin, Opens, Closes, Atom}
@@ -120,3 +125,76 @@ greatest-more (Margin m ∷ ws) w = let h = greatest-more ws w in omega arith
 greatest-more (Opens b ∷ ws) w = greatest-more ws w
 greatest-more (Closes b ∷ ws) w = greatest-more ws w
 greatest-more (Atom k ∷ ws) w = greatest-more ws w
+
+-- ---- what leads on
+
+leads-wait : (old new : Placing) (w : Waiting) (s : Strip) → HasMargin old → standing new ≡ standing old → waiting new ≡ waiting old ++ laid_as w ∷ [] → new.y ≡ old.y → new.margin ≡ max old.margin (margin_of w) → strip_of new ≡ s →
+    Leads old (laid_as w ∷ []) s new
+leads-wait old new w s has stands waits y margins is = record {
+  strip = is;
+  margin = margins ∙ ap (λ m. max m (margin_of w)) has ∙ sym (greatest-more old.gap.items w) ∙ ap greatest_margin (sym waits);
+  places = waits-more old new w stands waits y;
+}
+
+leads-end : (old new : Placing) (x : Laid) (s : Strip) → ends_gap x ≡ true → HasMargin old → standing new ≡ (standing old ++ gap_places old.y (old.y + old.margin) [] (waiting old)) ++ placed_item (old.y + old.margin) x → waiting new ≡ [] →
+    new.y ≡ old.y + old.margin + laid_height x → new.margin ≡ 0 → strip_of new ≡ s → Leads old (x ∷ []) s new
+leads-end old new x s ends has stands none y margins is = record {
+  strip = is;
+  margin = margins ∙ ap greatest_margin (sym none);
+  places = ends-more old new x ends has stands none y;
+}
+
+abbrev strip : ℕ → ℕ → Bool → Strip
+strip y pending drops = record { y = y; pending = pending; drops = drops }
+
+leads-same : (old new : Placing) (xs ys : List Laid) (s t : Strip) → xs ≡ ys → s ≡ t → Leads old ys t new → Leads old xs s new
+leads-same old new xs ys s t e h l = rw (e, h) l
+
+pub leads-margin : (old new : Placing) (m : ℕ) → HasMargin old → old.drops ≡ false → standing new ≡ standing old → waiting new ≡ waiting old ++ margin m ∷ [] → new.y ≡ old.y → new.margin ≡ max old.margin m → new.drops ≡ old.drops →
+    Leads old (laid_edge (strip_of old) (E.Margin m)) (lay (strip_of old) (E.Margin m)) new
+leads-margin old new m has keeps stands waits y margins drops =
+    leads-same old new _ _ _ _ (ap (λ b. cond b [] (margin m ∷ [])) keeps) (ap (λ b. strip old.y (cond b old.margin (max old.margin m)) b) keeps)
+    (leads-wait old new (Margin m) (strip old.y (max old.margin m) false) has stands waits y margins (rw (y, margins, drops) (ap (λ b. strip old.y (max old.margin m) b) keeps)))
+
+pub leads-opens : (old new : Placing) (b : ℕ) → HasMargin old → standing new ≡ standing old → waiting new ≡ waiting old ++ opens b ∷ [] → new.y ≡ old.y → new.margin ≡ old.margin → new.drops ≡ old.drops → Leads old (opens b ∷ []) (strip_of old) new
+leads-opens old new b has stands waits y margins drops = leads-wait old new (Opens b) (strip_of old) has stands waits y (omega arith) (rw (y, margins, drops) refl)
+
+pub leads-closes : (old new : Placing) (b : ℕ) → HasMargin old → standing new ≡ standing old → waiting new ≡ waiting old ++ closes b ∷ [] → new.y ≡ old.y → new.margin ≡ old.margin → new.drops ≡ old.drops → Leads old (closes b ∷ []) (strip_of old) new
+leads-closes old new b has stands waits y margins drops = leads-wait old new (Closes b) (strip_of old) has stands waits y (omega arith) (rw (y, margins, drops) refl)
+
+some-height : (height : ℕ) → (height ≡ 0 → ⊥) → (height == 0) ≡ false
+some-height height some = grind (arith, nat_tests)
+
+-- an atom of height 0 waits too
+pub leads-flat : (old new : Placing) (k height : ℕ) → HasMargin old → height ≡ 0 → standing new ≡ standing old → waiting new ≡ waiting old ++ atom k 0 ∷ [] → new.y ≡ old.y → new.margin ≡ old.margin → new.drops ≡ old.drops → Leads old (atom k height ∷ []) (put (strip_of old) height) new
+leads-flat old new k height has flat stands waits y margins drops = rw flat (leads-wait old new (Atom k) (strip_of old) has stands waits y (omega arith) (rw (y, margins, drops) refl))
+
+pub leads-solid : (old new : Placing) (a : ℕ) → HasMargin old → (a ≡ 0 → ⊥) → standing new ≡ standing old ++ gap_places old.y (old.y + old.margin) [] (waiting old) → waiting new ≡ [] → new.y ≡ old.y + old.margin + a → new.margin ≡ 0 → new.drops ≡ false →
+    Leads old (laid_edge (strip_of old) (E.Solid a)) (lay (strip_of old) (E.Solid a)) new
+leads-solid old new a has some stands none y margins drops =
+    let e = some-height a some in
+    rw e (leads-end old new (solid a) (record { y = old.y + old.margin + a; pending = 0; drops = false }) refl has (stands ∙ sym (append-nil _)) none y margins (rw (y, margins, drops) refl))
+
+pub leads-wall : (old new : Placing) → HasMargin old → standing new ≡ standing old ++ gap_places old.y (old.y + old.margin) [] (waiting old) → waiting new ≡ [] → new.y ≡ old.y + old.margin + 0 → new.margin ≡ 0 → new.drops ≡ false →
+    Leads old (wall ∷ []) (record { y = old.y + old.margin; pending = 0; drops = false }) new
+leads-wall old new has stands none y margins drops =
+    let y' : new.y ≡ old.y + old.margin = omega arith in
+    leads-end old new wall (record { y = old.y + old.margin; pending = 0; drops = false }) refl has (stands ∙ sym (append-nil _)) none y margins (rw (y', margins, drops) refl)
+
+pub leads-atom : (old new : Placing) (k height : ℕ) → HasMargin old → (height ≡ 0 → ⊥) → standing new ≡ (standing old ++ gap_places old.y (old.y + old.margin) [] (waiting old)) ++ atom_at k (old.y + old.margin) ∷ [] → waiting new ≡ [] →
+    new.y ≡ old.y + old.margin + height → new.margin ≡ 0 → new.drops ≡ false → Leads old (atom k height ∷ []) (put (strip_of old) height) new
+leads-atom old new k height has some stands none y margins drops =
+    let e = some-height height some in
+    rw e (leads-end old new (atom k height) (record { y = old.y + old.margin + height; pending = 0; drops = false }) (ap not e) has stands none y margins (rw (y, margins, drops) refl))
+
+-- nothing laid leads nowhere
+pub leads-none : (old : Placing) → HasMargin old → Leads old [] (strip_of old) old
+leads-none old has = record { strip = refl; margin = has; places = λ more. refl }
+
+-- one after another
+pub leads-both : (a b c : Placing) (xs ys : List Laid) (s t : Strip) → Leads a xs s b → Leads b ys t c → Leads a (xs ++ ys) t c
+leads-both a b c xs ys s t l m = record {
+  strip = m.strip;
+  margin = m.margin;
+  places = λ more. ap (with_more a) (append_assoc xs ys more) ∙ l.places (ys ++ more) ∙ m.places more;
+}

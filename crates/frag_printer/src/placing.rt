@@ -1,11 +1,11 @@
 //! Placing what is laid in a column, gap by gap.
 
-ghost use Rattle.std.specs.Prelude.{◌≡◌, ℕ, ◌+◌, ◌<◌, ◌≤◌, ◌^◌, List, [], ◌∷◌, ◌++◌, map, cond, nat_eq, IfOk, OnOk};
+ghost use Rattle.std.specs.Prelude.{◌≡◌, ℕ, ◌+◌, ◌<◌, ◌≤◌, ◌^◌, List, [], ◌∷◌, ◌++◌, map, cond, false, nat_eq, OnOk};
 ghost use Rattle.std.specs.HashSet.{contains};
 ghost use Rattle.flow_list.specs.Flows.{amount};
 ghost use Rattle.flow_list.specs.Placing.{Laid, atom, gap_places, laid_edge, opens_among, placed_in_gap};
 ghost use Rattle.flow_list.specs.Strip.{lay, put, strip_at};
-ghost use Rattle.frag_printer.specs.Placing.{HasMargin, Leads, laid_as, placed_as, standing, strip_of, waiting as waits};
+ghost use Rattle.frag_printer.specs.Placing.{HasMargin, Leads, laid_as, placed_as, standing, strip_of, waiting as waits, with_more};
 
 use flow_list::Edge;
 use mc_base::{NoMemory, Units};
@@ -142,6 +142,95 @@ impl Placing {
         ensures drops { OnOk result (self.new.drops ≡ self.old.drops) }
     {
         self.gap.push(waiting)?;
+        Ok(())
+    }
+
+    /// Ends the gap with something of this height.
+    fn pass(&mut self, alloc: Global, height: Units) -> Result<(), NoMemory>
+        requires { self.old.y + self.old.margin + height < 2 ^ 63 }
+        ensures placed { OnOk result (standing self.new ≡ standing self.old ++ gap_places self.old.y (self.old.y + self.old.margin) [] (waits self.old)) }
+        ensures gap { OnOk result (waits self.new ≡ []) }
+        ensures y { OnOk result (self.new.y ≡ self.old.y + self.old.margin + height) }
+        ensures margin { OnOk result (self.new.margin ≡ 0) }
+        ensures drops { OnOk result (self.new.drops ≡ false) }
+    {
+        let end = self.y + self.margin;
+        self.end_gap(alloc, end)?;
+        self.y = end + height;
+        self.drops = false;
+        Ok(())
+    }
+
+    fn lay_margin(&mut self, margin: Units) -> Result<(), NoMemory>
+        requires { HasMargin self.old }
+        ensures { OnOk result (Leads self.old (laid_edge (strip_of self.old) (Edge.Margin margin)) (lay (strip_of self.old) (Edge.Margin margin)) self.new) }
+    {
+        if self.drops {
+            return Ok(());
+        }
+        self.margin = self.margin.max(margin);
+        self.wait(Waiting::Margin(margin))?;
+        Ok(())
+    }
+
+    fn lay_solid(&mut self, alloc: Global, amount: Units) -> Result<(), NoMemory>
+        requires margin { HasMargin self.old }
+        requires room { self.old.y + self.old.margin + amount < 2 ^ 63 }
+        ensures { OnOk result (Leads self.old (laid_edge (strip_of self.old) (Edge.Solid amount)) (lay (strip_of self.old) (Edge.Solid amount)) self.new) }
+    {
+        if amount == 0 {
+            return Ok(());
+        }
+        self.pass(alloc, amount)?;
+        Ok(())
+    }
+
+    /// Lays an edge.
+    pub fn lay(&mut self, alloc: Global, edge: Edge) -> Result<(), NoMemory>
+        requires margin { HasMargin self.old }
+        requires room { self.old.y + self.old.margin + amount edge < 2 ^ 63 }
+        ensures { OnOk result (Leads self.old (laid_edge (strip_of self.old) edge) (lay (strip_of self.old) edge) self.new) }
+    {
+        match edge {
+            Edge::Margin(margin) => self.lay_margin(margin),
+            Edge::Solid(amount) => self.lay_solid(alloc, amount),
+            Edge::Wall => {
+                self.pass(alloc, 0)?;
+                Ok(())
+            }
+            Edge::Start(number) => {
+                self.wait(Waiting::Opens(number))?;
+                Ok(())
+            }
+            Edge::End(number) => {
+                self.wait(Waiting::Closes(number))?;
+                Ok(())
+            }
+        }
+    }
+
+    /// Lays an atom of this height.
+    pub fn stand(&mut self, alloc: Global, item: u32, height: Units) -> Result<(), NoMemory>
+        requires margin { HasMargin self.old }
+        requires room { self.old.y + self.old.margin + height < 2 ^ 63 }
+        ensures { OnOk result (Leads self.old (atom item height ∷ []) (put (strip_of self.old) height) self.new) }
+    {
+        if height == 0 {
+            self.wait(Waiting::Atom(item))?;
+            return Ok(());
+        }
+        let y = self.y + self.margin;
+        self.pass(alloc, height)?;
+        self.placed.push(Placed::Atom { item, y })?;
+        Ok(())
+    }
+
+    /// Ends the column: what waits has no height.
+    pub fn finish(&mut self, alloc: Global) -> Result<(), NoMemory>
+        ensures placed { OnOk result (standing self.new ≡ with_more self.old []) }
+        ensures y { OnOk result (self.new.y ≡ self.old.y) }
+    {
+        self.end_gap(alloc, self.y)?;
         Ok(())
     }
 }
