@@ -1,16 +1,16 @@
 -- What stands in a column of a flow of atoms, from item i on and before item e.
-use Rattle.std.specs.Prelude.{◌≡◌, ℕ, ◌+◌, ◌-◌, ◌≤◌, List, [], ◌∷◌, ◌++◌, length, take, drop, sum_by}
+use Rattle.std.specs.Prelude.{◌≡◌, ℕ, ◌+◌, ◌-◌, ◌≤◌, ◌==◌, ◌||◌, not, List, [], ◌∷◌, ◌++◌, length, take, drop, sum_by}
 use Rattle.flow_list.specs.declared.data.Edge.{Edge}
 use Rattle.flow_list.specs.declared.data.Edge.TheVariants.{Margin, Solid, Wall, Start, End}
 use Rattle.flow_list.specs.declared.data.Flow.{Flow}
 use Rattle.flow_list.specs.declared.data.FlowsData.{FlowsData}
-use Rattle.flow_list.specs.ClonedEdges.{open_across, bottoms}
-use Rattle.flow_list.specs.Column.{height_of, start_strip, strip_behind}
+use Rattle.flow_list.specs.ClonedEdges.{open_across, tops, bottoms}
+use Rattle.flow_list.specs.Column.{height_of, is_forced, start_strip, strip_behind}
 use Rattle.flow_list.specs.Flows.{amount, boxes_in, item_of, seam_of}
 use Rattle.flow_list.specs.Fragments.{laid_items, laid_start, places_in, strip_after}
 use Rattle.flow_list.specs.Placing.{Laid, atom, laid_edges, Placed}
 use Rattle.flow_list.specs.Rows.{all_rows, amounts_in, heights_from, reach}
-use Rattle.flow_list.specs.Strip.{Strip, put, lay_all}
+use Rattle.flow_list.specs.Strip.{Strip, strip_at, put, lay_all}
 use Rattle.flow_list.specs.Tokens.{row_start}
 
 -- the open boxes behind an edge, the outermost first
@@ -30,6 +30,10 @@ column_places d f i e = places_in d f (i ∷ []) (column_laid d f i e)
 -- how far the column reaches
 abbrev pub column_extent : FlowsData → Flow → (i e : ℕ) → ℕ
 column_extent d f i e = (strip_after (all_rows d) f (start_strip d f (i ∷ [])) i row_start (e - i)).y + bottoms d (open_across f e)
+
+-- the strip that a column begins with, before the head of its first item
+abbrev pub column_strip : FlowsData → Flow → ℕ → Strip
+column_strip d f i = strip_at (tops d (open_across f i)) (not (i == 0 || is_forced (seam_of f i).level))
 
 -- what item k of a strip is laid with: the head before it, and the tail behind it
 abbrev pub item_laid : FlowsData → Flow → Strip → ℕ → List Laid
