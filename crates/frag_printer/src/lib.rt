@@ -1,0 +1,2 @@
+//! The lines of what stands in columns.
+#![tactic(auto)]
