@@ -1,1 +1,4 @@
 pub mod Flattened
+pub mod NestedAcross
+pub mod NestedLaid
+pub mod NestedPlaces
