@@ -2,3 +2,4 @@ pub mod Flattened
 pub mod NestedAcross
 pub mod NestedLaid
 pub mod NestedPlaces
+pub mod OpenLists

@@ -308,7 +308,7 @@ module _ (d : FlowsData) (f : Flow) (sound : IsSoundFlow d f) where
   at-once-all : (k : ℕ) → AreOnce (reverse f.opened) (flat_map started (flat_map both (take (k + 1) f.seams) ++ flat_map both (drop (k + 1) f.seams)))
   at-once-all k = subst (λ (es : List Edge). AreOnce (reverse f.opened) (flat_map started es)) (at-split k) once-all
 
-  at-after : (k : ℕ) → after_edges (reverse f.opened) (flat_map both (take (k + 1) f.seams)) ≡ reverse (open_at f k)
+  pub at-after : (k : ℕ) → after_edges (reverse f.opened) (flat_map both (take (k + 1) f.seams)) ≡ reverse (open_at f k)
   at-after k =
       let seams = take (k + 1) f.seams in
       let rest = flat_map both (drop (k + 1) f.seams) in

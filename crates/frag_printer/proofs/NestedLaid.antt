@@ -233,3 +233,8 @@ module _ (d : FlowsData) (f : Flow) (sound : IsSoundFlow d f) where
       ArePlacedNested [] (continued_from d 0 f.opened ++ places_from (length (laid_edges s (seam_of f 0).head ++ stack_laid d bound f 0 (length f.items)) + 1) y (laid_edges s (seam_of f 0).head ++ stack_laid d bound f 0 (length f.items)))
   stack-nested bound s y =
       whole-nested 0 y (through f 0 (length f.items)) s (stack_laid d bound f 0 (length f.items)) (omega arith) (front-through f 0 (length f.items) (let c = sound.seam_count in omega arith)) (stack-marks d bound f 0 (length f.items))
+
+  -- the places of the items from item i to item e, where nothing is taken from within an item
+  pub whole-items-nested : (inner : Inner) (i e : ℕ) → i < e → e ≤ length f.items →
+      ArePlacedNested [] (places_in d f (i ∷ []) (laid_start d f (i ∷ []) ++ laid_items inner f (start_strip d f (i ∷ [])) i row_start (e - i)))
+  whole-items-nested inner i e lt le = items-nested inner (start_strip d f (i ∷ [])) i [] row_start (e - i) (omega arith)
