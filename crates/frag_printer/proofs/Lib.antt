@@ -1,3 +1,4 @@
+pub mod FlatFragments
 pub mod Flattened
 pub mod NestedAcross
 pub mod NestedLaid
