@@ -1,1 +1,3 @@
 pub mod FlatLines
+pub mod Lines
+pub mod Placing
