@@ -24,6 +24,10 @@ abbrev pub parts_of : List Placed → List Part
 parts_of [] = []
 parts_of (p ∷ ps) = part_of p (map placed_as ps) ∷ parts_of ps
 
+-- no stack stands in another
+abbrev pub no_stacks : ℕ → ℕ → ℕ → ℕ → List TreeLine
+no_stacks s depth x y = []
+
 -- the lines of these parts, in order
 abbrev pub part_lines : FlowsData → (ℕ → ℕ → ℕ → ℕ → List TreeLine) → Flow → (depth : ℕ) → Frame → List Part → List TreeLine
 part_lines d stacks f depth frame [] = []
