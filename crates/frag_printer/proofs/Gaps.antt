@@ -147,7 +147,7 @@ leads-end old new x s ends has stands none y margins is = record {
 abbrev strip : ℕ → ℕ → Bool → Strip
 strip y pending drops = record { y = y; pending = pending; drops = drops }
 
-leads-same : (old new : Placing) (xs ys : List Laid) (s t : Strip) → xs ≡ ys → s ≡ t → Leads old ys t new → Leads old xs s new
+pub leads-same : (old new : Placing) (xs ys : List Laid) (s t : Strip) → xs ≡ ys → s ≡ t → Leads old ys t new → Leads old xs s new
 leads-same old new xs ys s t e h l = rw (e, h) l
 
 pub leads-margin : (old new : Placing) (m : ℕ) → HasMargin old → old.drops ≡ false → standing new ≡ standing old → waiting new ≡ waiting old ++ margin m ∷ [] → new.y ≡ old.y → new.margin ≡ max old.margin m → new.drops ≡ old.drops →

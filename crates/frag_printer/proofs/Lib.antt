@@ -1,3 +1,4 @@
+pub mod Edges
 pub mod FlatFragments
 pub mod Flattened
 pub mod Gaps

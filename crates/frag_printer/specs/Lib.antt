@@ -1,3 +1,4 @@
+pub mod Columns
 pub mod FlatLines
 pub mod Lines
 pub mod Placing

@@ -4,5 +4,6 @@
 //! hold atoms alone.
 #![tactic(auto)]
 
+mod columns;
 mod lines;
 mod placing;

@@ -1,10 +1,10 @@
 //! Placing what is laid in a column, gap by gap.
 
-ghost use Rattle.std.specs.Prelude.{◌≡◌, ℕ, ◌+◌, ◌<◌, ◌≤◌, ◌^◌, List, [], ◌∷◌, ◌++◌, map, cond, false, nat_eq, OnOk};
+ghost use Rattle.std.specs.Prelude.{◌≡◌, ℕ, ◌+◌, ◌<◌, ◌≤◌, ◌^◌, List, [], ◌∷◌, ◌++◌, map, cond, false, nat_eq, sum_by, OnOk};
 ghost use Rattle.std.specs.HashSet.{contains};
 ghost use Rattle.flow_list.specs.Flows.{amount};
-ghost use Rattle.flow_list.specs.Placing.{Laid, atom, gap_places, laid_edge, opens_among, placed_in_gap};
-ghost use Rattle.flow_list.specs.Strip.{lay, put, strip_at};
+ghost use Rattle.flow_list.specs.Placing.{Laid, atom, gap_places, laid_edge, laid_edges, opens_among, placed_in_gap};
+ghost use Rattle.flow_list.specs.Strip.{lay, lay_all, put, strip_at};
 ghost use Rattle.frag_printer.specs.Placing.{HasMargin, Leads, laid_as, placed_as, standing, strip_of, waiting as waits, with_more};
 
 use flow_list::Edge;
@@ -207,6 +207,18 @@ impl Placing {
                 Ok(())
             }
         }
+    }
+
+    /// Lays these edges.
+    pub fn lay_all(&mut self, alloc: Global, edges: &[Edge]) -> Result<(), NoMemory>
+        requires margin { HasMargin self.old }
+        requires room { self.old.y + self.old.margin + sum_by amount edges.now < 2 ^ 63 }
+        ensures { OnOk result (Leads self.old (laid_edges (strip_of self.old) edges.now) (lay_all (strip_of self.old) edges.now) self.new) }
+    {
+        for edge in edges {
+            self.lay(alloc, *edge)?;
+        }
+        Ok(())
     }
 
     /// Lays an atom of this height.
