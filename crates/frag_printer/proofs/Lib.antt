@@ -1,3 +1,5 @@
+pub mod AtomColumns
+pub mod ColumnsLines
 pub mod Edges
 pub mod FlatFragments
 pub mod Flattened
