@@ -1,4 +1,5 @@
 pub mod AtomColumns
+pub mod ColumnSteps
 pub mod ColumnsLines
 pub mod Edges
 pub mod FlatFragments

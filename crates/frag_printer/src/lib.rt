@@ -6,4 +6,5 @@
 
 mod columns;
 mod lines;
+mod parts;
 mod placing;
