@@ -24,7 +24,7 @@ use Rattle.frag_printer.proofs.NestedLaid.{whole-items-nested, stack-nested}
 
 -- ---- in flows of atoms no row is filled
 
-each-atom : (items : List Item) → All IsAtom items → (k : ℕ) → IsAtom (get_or items k no_item)
+pub each-atom : (items : List Item) → All IsAtom items → (k : ℕ) → IsAtom (get_or items k no_item)
 each-atom [] h k = tt
 each-atom (x ∷ xs) h zero = h 0 no_item (omega arith)
 each-atom (x ∷ xs) h (suc k) = each-atom xs (λ j e lt. h (suc j) e (omega arith)) k

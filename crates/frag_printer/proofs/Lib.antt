@@ -1,4 +1,6 @@
+pub mod AtomColumns
 pub mod ColumnSteps
+pub mod ColumnsLines
 pub mod Edges
 pub mod FlatFragments
 pub mod Flattened
