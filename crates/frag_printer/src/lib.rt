@@ -8,3 +8,4 @@ mod columns;
 mod lines;
 mod parts;
 mod placing;
+mod rows;

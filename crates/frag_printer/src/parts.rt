@@ -177,7 +177,7 @@ fn put_part(
     requires flow { flow < length flows.now.flows }
     requires known { IsPartIn flows.now (flow_of flows.now flow) (2 ^ 63 - at.y) part }
     requires x { at.x < 2 ^ 62 }
-    requires depth { at.depth < 2 ^ 63 }
+    requires depth { at.depth + 1 < 2 ^ 64 }
     requires feet { at.feet + feet_of flows.now part < 2 ^ 63 }
     ensures text { IfOk result (λ next. (more : List Part) →
         out.new ++ tree_text (part_lines flows.now no_stacks (flow_of flows.now flow) next.depth (frame_of next) more)
@@ -241,7 +241,7 @@ pub fn put_parts(
     requires flow { flow < length flows.now.flows }
     requires known { All (IsPartIn flows.now (flow_of flows.now flow) (2 ^ 63 - inside.y)) parts.now }
     requires x { inside.x < 2 ^ 62 }
-    requires depth { inside.depth + length parts.now < 2 ^ 63 }
+    requires depth { inside.depth + length parts.now < 2 ^ 64 }
     requires feet { inside.feet + sum_by (feet_of flows.now) parts.now < 2 ^ 63 }
     ensures { OnOk result (out.new ≡ out.old ++ tree_text (part_lines flows.now no_stacks (flow_of flows.now flow) inside.depth (frame_of inside) parts.now)) }
 {
