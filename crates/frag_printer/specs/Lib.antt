@@ -3,3 +3,4 @@ pub mod FlatLines
 pub mod Lines
 pub mod Parts
 pub mod Placing
+pub mod StackParts
