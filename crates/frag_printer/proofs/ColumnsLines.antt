@@ -77,6 +77,28 @@ module _ (columns : RowLaid → List PlainTree) (d : FlowsData) (stacks : ℕ �
           let a = atoms-column d f atoms i lt h in
           subst (λ (t : Token). (i < item_number t) × (item_number t ≤ length f.items) × ArePlaces f (item_number t) (end_items (columns_by made f n t))) (sym a.end) (a.later, a.limit, again a.e)
 
+-- the lines of the columns of a row that is laid whole, from its start
+pub laid-row-lines : (d : FlowsData) (r : RowLaid) → r.filled ≡ false → r.from ≡ row_start → IsSoundFlow d (flow_in d r.row) → HoldsAtoms (flow_in d r.row) →
+    (stacks : ℕ → ℕ → ℕ → ℕ → List TreeLine) (depth : ℕ) (frame : Frame) (y height : ℕ) →
+    lines_of_columns d stacks (row_of d r.row) depth frame y height 0 (plain_trees (row_fragments d (suc (length d.rows)) r))
+    ≡ columns_lines (row_fragments d (length d.rows)) d stacks (row_of d r.row) depth frame y height 0 0 (end_items (row_columns d r.row r.made_at))
+unfolding row_fragments row_columns all_rows
+laid-row-lines d r whole starts sound atoms stacks depth frame y height =
+    ap (λ b. lines_with b r.from) whole ∙ ap (lines_with false) starts
+    ∙ lines-from (row_fragments d (length d.rows)) d stacks (row_of d r.row) sound atoms r.made_at depth frame y height (left_in (all_rows d) (flow_in d r.row) row_start) 0 0
+  where
+    lines_with : Bool → Token → List TreeLine
+    lines_with b t =
+        let f = flow_in d r.row in
+        let made = column_made (all_rows d) d f r.made_at in
+        lines_of_columns d stacks (row_of d r.row) depth frame y height 0 (plain_trees (fragments_from (fragment_of (row_fragments d (length d.rows)) (all_rows d) d (row_of d r.row).flow f r.made_at) t (columns_by made f (cond b (row_of d r.row).n (left_in (all_rows d) f t)) t)))
+
+-- where they end
+pub laid-row-places : (d : FlowsData) (row : ℕ) (height : Option ℕ) → IsSoundFlow d (flow_in d row) → HoldsAtoms (flow_in d row) → ArePlaces (flow_in d row) 0 (end_items (row_columns d row height))
+unfolding row_columns
+laid-row-places d row height sound atoms =
+    chain (row_fragments d (length d.rows)) d (λ n s x y. []) (row_of d row) sound atoms height 0 (record { x = 0; y = 0; w = 0; h = 0; extent = 0; feet = 0 }) 0 0 (left_in (all_rows d) (flow_in d row) row_start) 0
+
 -- a row as it stands in a stack where this much is available
 abbrev pub laid_row : FlowsData → (row : ℕ) → (available : Option ℕ) → (height : ℕ) → RowLaid
 laid_row d row available height =
@@ -87,13 +109,10 @@ module _ (d : FlowsData) (row : ℕ) (sound : IsSoundFlow d (flow_in d row)) (at
   pub row-lines : (own : ℕ) (stacks : ℕ → ℕ → ℕ → ℕ → List TreeLine) (depth : ℕ) (frame : Frame) (y height : ℕ) →
       lines_of_columns d stacks (row_of d row) depth frame y height 0 (plain_trees (row_fragments d (suc (length d.rows)) (laid_row d row available own)))
       ≡ columns_lines (row_fragments d (length d.rows)) d stacks (row_of d row) depth frame y height 0 0 (end_items (columns_of_row d row available))
-  unfolding row_fragments columns_of_row row_columns all_rows
-  row-lines own stacks depth frame y height =
-      lines-from (row_fragments d (length d.rows)) d stacks (row_of d row) sound atoms (cond (row_of d row).auto available (Some (balanced_height available (size_of d row row_start)))) depth frame y height
-      (left_in (all_rows d) (flow_in d row) row_start) 0 0
+  unfolding columns_of_row
+  row-lines own stacks depth frame y height = laid-row-lines d (laid_row d row available own) refl refl sound atoms stacks depth frame y height
 
   -- where they end
   pub row-places : ArePlaces (flow_in d row) 0 (end_items (columns_of_row d row available))
-  unfolding columns_of_row row_columns
-  row-places = chain (row_fragments d (length d.rows)) d (λ n s x y. []) (row_of d row) sound atoms (cond (row_of d row).auto available (Some (balanced_height available (size_of d row row_start)))) 0
-      (record { x = 0; y = 0; w = 0; h = 0; extent = 0; feet = 0 }) 0 0 (left_in (all_rows d) (flow_in d row) row_start) 0
+  unfolding columns_of_row
+  row-places = laid-row-places d row (cond (row_of d row).auto available (Some (balanced_height available (size_of d row row_start)))) sound atoms

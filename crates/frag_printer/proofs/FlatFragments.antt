@@ -19,6 +19,7 @@ use Rattle.flow_list.specs.Fragments.{laid_items, fills_item, stop_of, laid_to, 
 use Rattle.flow_list.specs.Tree.{TreeLine, col, stack, lines_of_stack, Frame, column_frame, lines_of_tree, lines_of_column}
 use Rattle.flow_list.proofs.AtomFlows.{atom-row}
 use Rattle.frag_printer.specs.FlatLines.{flat_lines, ArePlacedNested}
+use Rattle.frag_printer.specs.StackParts.{stack_places}
 use Rattle.frag_printer.proofs.Flattened.{trees-flat, column-flat}
 use Rattle.frag_printer.proofs.NestedLaid.{whole-items-nested, stack-nested}
 
@@ -99,20 +100,8 @@ column-lines columns inner d stacks number f sound atoms h i e ends lt le r dept
 
 -- ---- stacks
 
--- what is laid in a stack
-abbrev pub laid_in : FlowsData → ℕ → List Laid
-laid_in d s =
-    let f = flow_of d (stack_of d s).flow in
-    laid_edges (strip_at (tops d f.opened) false) (seam_of f 0).head ++ stack_laid d (stack_of d s).bound f 0 (length f.items)
-
--- what is placed in it
-abbrev pub stack_placed : FlowsData → ℕ → List Placed
-stack_placed d s =
-    let f = flow_of d (stack_of d s).flow in
-    continued_from d 0 f.opened ++ places_from (length (laid_in d s) + 1) (tops d f.opened) (laid_in d s)
-
-pub stack-placed-nested : (d : FlowsData) (s : ℕ) → IsSoundFlow d (flow_of d (stack_of d s).flow) → ArePlacedNested [] (stack_placed d s)
-stack-placed-nested d s sound =
+pub stack-places-nested : (d : FlowsData) (s : ℕ) → IsSoundFlow d (flow_of d (stack_of d s).flow) → ArePlacedNested [] (stack_places d s)
+stack-places-nested d s sound =
     let f = flow_of d (stack_of d s).flow in
     stack-nested d f sound (stack_of d s).bound (strip_at (tops d f.opened) false) (tops d f.opened)
 
@@ -121,9 +110,9 @@ pub stack-lines : (d : FlowsData) (n s depth x y : ℕ) → IsSoundFlow d (flow_
     lines_of_stack d (suc n) s depth x y
     ≡ record { depth = depth; kind = stack s; x = x; y = y; w = (stack_of d s).w; h = stack_height d s }
     ∷ flat_lines (row_fragments d (suc (length d.rows))) d (lines_of_stack d n) (flow_of d (stack_of d s).flow) (depth + 1)
-    (record { x = x; y = y; w = (stack_of d s).w; h = stack_height d s; extent = stack_extent d (stack_of d s).bound (flow_of d (stack_of d s).flow); feet = 0 }) (stack_placed d s)
+    (record { x = x; y = y; w = (stack_of d s).w; h = stack_height d s; extent = stack_extent d (stack_of d s).bound (flow_of d (stack_of d s).flow); feet = 0 }) (stack_places d s)
 unfolding lines_of_stack lines_of_tree stack_fragment
 stack-lines d n s depth x y sound =
     ap (λ ls. record { depth = depth; kind = stack s; x = x; y = y; w = (stack_of d s).w; h = stack_height d s } ∷ ls)
-    (trees-flat (row_fragments d (suc (length d.rows))) d (lines_of_stack d n) (flow_of d (stack_of d s).flow) (stack_placed d s) (stack-placed-nested d s sound) (depth + 1)
+    (trees-flat (row_fragments d (suc (length d.rows))) d (lines_of_stack d n) (flow_of d (stack_of d s).flow) (stack_places d s) (stack-places-nested d s sound) (depth + 1)
     (record { x = x; y = y; w = (stack_of d s).w; h = stack_height d s; extent = stack_extent d (stack_of d s).bound (flow_of d (stack_of d s).flow); feet = 0 }))

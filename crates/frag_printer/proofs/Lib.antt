@@ -10,3 +10,4 @@ pub mod NestedLaid
 pub mod NestedPlaces
 pub mod OpenLists
 pub mod SoFar
+pub mod StackWalk

@@ -4,3 +4,4 @@ pub mod FlatRows
 pub mod Lines
 pub mod Parts
 pub mod Placing
+pub mod StackParts
