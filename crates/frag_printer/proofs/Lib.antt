@@ -1,4 +1,5 @@
 pub mod AtomColumns
+pub mod ColumnKnown
 pub mod ColumnSteps
 pub mod ColumnsLines
 pub mod Edges
@@ -9,5 +10,6 @@ pub mod NestedAcross
 pub mod NestedLaid
 pub mod NestedPlaces
 pub mod OpenLists
+pub mod PartLines
 pub mod SoFar
 pub mod StackWalk
