@@ -1,0 +1,12 @@
+pub mod AtomColumns
+pub mod ColumnSteps
+pub mod ColumnsLines
+pub mod Edges
+pub mod FlatFragments
+pub mod Flattened
+pub mod Gaps
+pub mod NestedAcross
+pub mod NestedLaid
+pub mod NestedPlaces
+pub mod OpenLists
+pub mod SoFar
