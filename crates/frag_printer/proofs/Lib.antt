@@ -9,4 +9,5 @@ pub mod NestedAcross
 pub mod NestedLaid
 pub mod NestedPlaces
 pub mod OpenLists
+pub mod PlacedKnown
 pub mod SoFar
