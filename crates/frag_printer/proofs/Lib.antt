@@ -11,5 +11,6 @@ pub mod NestedLaid
 pub mod NestedPlaces
 pub mod OpenLists
 pub mod PartLines
+pub mod PlacedKnown
 pub mod SoFar
 pub mod StackWalk

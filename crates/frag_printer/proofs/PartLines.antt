@@ -7,14 +7,14 @@ use Rattle.flow_list.specs.declared.data.Flow.{Flow}
 use Rattle.flow_list.specs.declared.data.FlowsData.{FlowsData}
 use Rattle.flow_list.specs.Flows.{box_of, item_of}
 use Rattle.flow_list.specs.Fragments.{bottom_of, place_of}
-use Rattle.flow_list.specs.Placing.{RowLaid, Placed as AnyPlaced}
+use Rattle.flow_list.specs.Placing.{RowLaid, Placed as AnyPlaced, opens_at, closes_at, atom_at}
 use Rattle.flow_list.specs.Tree.{TreeLine, Frame, in_box, item_lines}
 use Rattle.frag_printer.specs.declared.parts.Part.{Part}
 use Rattle.frag_printer.specs.declared.placing.Placed.{Placed}
 use Rattle.frag_printer.specs.declared.placing.Placed.TheVariants.{Opens, Closes, Atom}
 use Rattle.flow_list.specs.TreeText.{tree_line_text, tree_text}
 use Rattle.frag_printer.specs.FlatLines.{ArePlaces, box_line, out_of_box, flat_lines}
-use Rattle.frag_printer.specs.Parts.{IsPartIn, IsPlacedIn, feet_in, feet_of, part_lines, parts_of}
+use Rattle.frag_printer.specs.Parts.{IsPartIn, IsPlacedIn, feet_in, feet_of, part_lines, part_of, parts_of}
 use Rattle.frag_printer.specs.Placing.{placed_as}
 
 -- the parts have the lines of what is placed
@@ -29,9 +29,9 @@ parts-flat columns d stacks f depth frame (Atom k y ∷ ps) = ap (λ ls. item_li
 module _ (d : FlowsData) (f : Flow) where
   pub feet-are : (ps : List Placed) → sum_by (feet_of d) (parts_of ps) ≡ sum_by (feet_in d) (map placed_as ps)
   feet-are [] = refl
-  feet-are (Opens b y starts ∷ ps) = ap (λ n. (box_of d b).bottom + n) (feet-are ps)
-  feet-are (Closes b y ∷ ps) = ap (λ n. 0 + n) (feet-are ps)
-  feet-are (Atom k y ∷ ps) = ap (λ n. 0 + n) (feet-are ps)
+  feet-are (Opens b y starts ∷ ps) = sum_by-cons (feet_of d) (part_of (Opens b y starts) (map placed_as ps)) (parts_of ps) ∙ ap (λ n. (box_of d b).bottom + n) (feet-are ps) ∙ sym (sum_by-cons (feet_in d) (opens_at b y starts) (map placed_as ps))
+  feet-are (Closes b y ∷ ps) = sum_by-cons (feet_of d) (part_of (Closes b y) (map placed_as ps)) (parts_of ps) ∙ ap (λ n. 0 + n) (feet-are ps) ∙ sym (sum_by-cons (feet_in d) (closes_at b y) (map placed_as ps))
+  feet-are (Atom k y ∷ ps) = sum_by-cons (feet_of d) (part_of (Atom k y) (map placed_as ps)) (parts_of ps) ∙ ap (λ n. 0 + n) (feet-are ps) ∙ sym (sum_by-cons (feet_in d) (atom_at k y) (map placed_as ps))
 
   pub parts-known : (high low : ℕ) → high ≤ low → (ps : List Placed) → Each (IsPlacedIn d f) (map placed_as ps) → Each (λ p. place_of p < high) (map placed_as ps) → All (IsPartIn d f low) (parts_of ps)
   parts-known high low le [] known places k p lt = absurd (omega arith)

@@ -3,7 +3,7 @@ use Rattle.std.specs.List.{AllByRecursion as Each}
 use Rattle.flow_list.specs.ClonedEdges.{bottoms}
 use Rattle.flow_list.specs.Flows.{boxes_in, flow_of}
 use Rattle.flow_list.specs.Fragments.{place_of, row_fragments}
-use Rattle.flow_list.specs.Tree.{Frame}
+use Rattle.flow_list.specs.Tree.{Frame, col}
 use Rattle.flow_list.specs.Placing.{Placed}
 use Rattle.frag_printer.specs.declared.parts.Part.{Part}
 use Rattle.frag_printer.specs.Columns.{column_extent, column_places}
@@ -47,7 +47,7 @@ returns-clause-text c =
     let depth : ℕ = c.args.at.depth + 2 in
     let ps = c.in_ok-column.column.placed.items in
     let places = column_places d f c.args.begin c.args.end in
-    column-text c.args.out.now c.put_line.new.out c.put_parts.new.out _ _ (part_lines d no_stacks f depth (frame c.in_ok-column.column.extent) c.as_slice-2.result.now) c.in_ok-put_line.ensures c.in_ok-put_parts.ensures
+    column-text c.args.out.now c.put_line.new.out c.put_parts.new.out (record { depth = c.args.at.depth + 1; kind = col c.args.i; x = c.args.at.x; y = c.args.at.y; w = c.args.at.w; h = c.args.at.h }) (flat_lines columns d no_stacks f depth (frame (column_extent d f c.args.begin c.args.end)) places) (part_lines d no_stacks f depth (frame c.in_ok-column.column.extent) c.as_slice-2.result.now) c.in_ok-put_line.ensures c.in_ok-put_parts.ensures
     (sym (ap (λ x. flat_lines columns d no_stacks f depth (frame x) places) c.in_ok-column.ensures.extent) ∙ sym (ap (flat_lines columns d no_stacks f depth (frame c.in_ok-column.column.extent)) c.in_ok-column.ensures.placed)
     ∙ parts-flat columns d no_stacks f depth (frame c.in_ok-column.column.extent) ps
     ∙ ap (part_lines d no_stacks f depth (frame c.in_ok-column.column.extent)) (sym (c.as_slice-2.ensures.value ∙ c.in_ok-parts.ensures ∙ ap parts_of c.as_slice.ensures.value)))
