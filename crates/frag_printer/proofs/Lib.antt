@@ -11,3 +11,4 @@ pub mod NestedPlaces
 pub mod OpenLists
 pub mod SoFar
 pub mod StackWalk
+pub mod OneRow
