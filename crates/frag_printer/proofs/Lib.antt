@@ -14,3 +14,4 @@ pub mod PartLines
 pub mod PlacedKnown
 pub mod SoFar
 pub mod StackWalk
+pub mod OneRow
