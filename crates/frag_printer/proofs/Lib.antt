@@ -9,9 +9,9 @@ pub mod Gaps
 pub mod NestedAcross
 pub mod NestedLaid
 pub mod NestedPlaces
+pub mod OneRow
 pub mod OpenLists
 pub mod PartLines
 pub mod PlacedKnown
 pub mod SoFar
 pub mod StackWalk
-pub mod OneRow
