@@ -10,4 +10,5 @@ pub mod NestedLaid
 pub mod NestedPlaces
 pub mod OpenLists
 pub mod PlacedKnown
+pub mod PlacesLow
 pub mod SoFar
