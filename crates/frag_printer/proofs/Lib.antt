@@ -13,5 +13,6 @@ pub mod OneRow
 pub mod OpenLists
 pub mod PartLines
 pub mod PlacedKnown
+pub mod PlacesLow
 pub mod SoFar
 pub mod StackWalk
