@@ -187,3 +187,6 @@ module _ (d : FlowsData) (n : ℕ) (sound : IsSound d) (in_flows : n < length d.
 
   pub extent-room : (k : ℕ) (at : Placing) → HasRoom d f k (strip_of at) → at.y + bottoms d (open_across f k) < 2 ^ 63
   extent-room k at room = omega (arith, bound, open_across-le (λ b. (box_of d b).bottom) f k)
+
+  pub end-room : (k : ℕ) (at : Placing) → HasRoom d f k (strip_of at) → at.y + at.margin < 2 ^ 63
+  end-room k at room = omega (arith, bound)

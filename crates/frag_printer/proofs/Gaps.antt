@@ -1,15 +1,15 @@
 -- A column being placed: what waits in its gap, and what ends that.
-use Rattle.std.proofs.Common.{◌≡◌, ℕ, zero, suc, ◌+◌, ◌<◌, ◌≤◌, max, Bool, true, false, cond, not, List, [], ◌∷◌, ◌++◌, length, map, get_or, take, drop, refl, sym, ◌∙◌, ap, arith, add-one, add-zero, append_assoc}
+use Rattle.std.proofs.Common.{◌≡◌, ℕ, zero, suc, ◌+◌, ◌<◌, ◌≤◌, max, Bool, true, false, cond, not, List, [], ◌∷◌, ◌++◌, length, map, get_or, take, drop, refl, sym, ◌∙◌, ap, arith, add-one, add-zero, append_assoc, Option}
 use Rattle.std.proofs.lemmas.List.{append-nil, drop_more, take_more, map-append}
 use Rattle.std.specs.Prelude.{◌==◌}
 use Rattle.std.proofs.lemmas.Bool.Decides.{nat_tests}
 use Rattle.flow_list.specs.declared.data.Edge.TheVariants as E
 use Rattle.flow_list.specs.Strip.{Strip, put, lay}
-use Rattle.flow_list.specs.Placing.{Laid, margin, solid, wall, opens, closes, atom, ends_gap, gap_of, behind_gap, greatest_margin, laid_edge, Placed as AnyPlaced, atom_at, placed_in_gap, gap_places, placed_item, laid_height, gap_height, places_from}
+use Rattle.flow_list.specs.Placing.{Laid, margin, solid, wall, opens, closes, atom, ends_gap, gap_of, behind_gap, greatest_margin, laid_edge, Placed as AnyPlaced, atom_at, row_at, placed_in_gap, gap_places, placed_item, laid_height, gap_height, places_from, row}
 use Rattle.frag_printer.specs.declared.placing.Placing.{Placing}
 use Rattle.frag_printer.specs.declared.placing.Waiting.{Waiting}
-use Rattle.frag_printer.specs.declared.placing.Waiting.TheVariants.{Margin, Opens, Closes, Atom}
-use Rattle.frag_printer.specs.Placing.{laid_as, standing, waiting, with_more, strip_of, HasMargin, Leads}
+use Rattle.frag_printer.specs.declared.placing.Waiting.TheVariants.{Margin, Opens, Closes, Atom, Row}
+use Rattle.frag_printer.specs.Placing.{laid_as, standing, waiting, with_more, strip_of, HasMargin, Leads, margin_of, row_stands}
 
 -- one more of a gap
 pub gap-more : (y end i : ℕ) (gap : List Waiting) (w : Waiting) → i < length gap →
@@ -59,6 +59,7 @@ gap-waits (Margin m ∷ ws) xs = ap (λ ys. margin m ∷ ys) (gap-waits ws xs)
 gap-waits (Opens b ∷ ws) xs = ap (λ ys. opens b ∷ ys) (gap-waits ws xs)
 gap-waits (Closes b ∷ ws) xs = ap (λ ys. closes b ∷ ys) (gap-waits ws xs)
 gap-waits (Atom k ∷ ws) xs = ap (λ ys. atom k 0 ∷ ys) (gap-waits ws xs)
+gap-waits (Row r made ∷ ws) xs = ap (λ ys. row (row_stands r 0 made) ∷ ys) (gap-waits ws xs)
 
 behind-waits : (ws : List Waiting) (xs : List Laid) → behind_gap (map laid_as ws ++ xs) ≡ behind_gap xs
 behind-waits [] xs = refl
@@ -66,6 +67,7 @@ behind-waits (Margin m ∷ ws) xs = behind-waits ws xs
 behind-waits (Opens b ∷ ws) xs = behind-waits ws xs
 behind-waits (Closes b ∷ ws) xs = behind-waits ws xs
 behind-waits (Atom k ∷ ws) xs = behind-waits ws xs
+behind-waits (Row r made ∷ ws) xs = behind-waits ws xs
 
 -- ---- the end of a gap
 
@@ -108,22 +110,27 @@ waits-more old new w stands more_waits same more = rw (stands, more_waits, same,
 pub places-all : (p : Placing) → with_more p [] ≡ standing p ++ gap_places p.y p.y [] (waiting p)
 places-all p = ap (λ ps. standing p ++ ps) (ap (λ k. places_from k p.y (waiting p ++ [])) (add-one (length (waiting p ++ []))) ∙ places-last (length (waiting p ++ [])) p.y p.gap.items)
 
--- the margin of what waits
-abbrev pub margin_of : Waiting → ℕ
-margin_of (Margin m) = m
-margin_of (Opens b) = 0
-margin_of (Closes b) = 0
-margin_of (Atom k) = 0
-
 pub greatest-more : (ws : List Waiting) (w : Waiting) → greatest_margin (map laid_as ws ++ laid_as w ∷ []) ≡ max (greatest_margin (map laid_as ws)) (margin_of w)
 greatest-more [] (Margin m) = omega arith
 greatest-more [] (Opens b) = omega arith
 greatest-more [] (Closes b) = omega arith
 greatest-more [] (Atom k) = omega arith
+greatest-more [] (Row r made) = omega arith
 greatest-more (Margin m ∷ ws) w = let h = greatest-more ws w in omega arith
 greatest-more (Opens b ∷ ws) w = greatest-more ws w
 greatest-more (Closes b ∷ ws) w = greatest-more ws w
 greatest-more (Atom k ∷ ws) w = greatest-more ws w
+greatest-more (Row r made ∷ ws) w = greatest-more ws w
+
+-- the first of these have no greater margin than all of them
+pub greatest-part : (i : ℕ) (ws : List Waiting) → greatest_margin (map laid_as (take i ws)) ≤ greatest_margin (map laid_as ws)
+greatest-part zero ws = omega arith
+greatest-part (suc i) [] = omega arith
+greatest-part (suc i) (Margin m ∷ ws) = let h = greatest-part i ws in omega arith
+greatest-part (suc i) (Opens b ∷ ws) = greatest-part i ws
+greatest-part (suc i) (Closes b ∷ ws) = greatest-part i ws
+greatest-part (suc i) (Atom k ∷ ws) = greatest-part i ws
+greatest-part (suc i) (Row r made ∷ ws) = greatest-part i ws
 
 -- ---- what leads on
 
@@ -167,6 +174,17 @@ some-height height some = grind (arith, nat_tests)
 -- an atom of height 0 waits too
 pub leads-flat : (old new : Placing) (k height : ℕ) → HasMargin old → height ≡ 0 → standing new ≡ standing old → waiting new ≡ waiting old ++ atom k 0 ∷ [] → new.y ≡ old.y → new.margin ≡ old.margin → new.drops ≡ old.drops → Leads old (atom k height ∷ []) (put (strip_of old) height) new
 leads-flat old new k height has flat stands waits y margins drops = rw flat (leads-wait old new (Atom k) (strip_of old) has stands waits y (omega arith) (rw (y, margins, drops) refl))
+
+-- and so does a row
+pub leads-flat-row : (old new : Placing) (r height : ℕ) (made : Option ℕ) → HasMargin old → height ≡ 0 → standing new ≡ standing old → waiting new ≡ waiting old ++ row (row_stands r 0 made) ∷ [] → new.y ≡ old.y → new.margin ≡ old.margin → new.drops ≡ old.drops →
+    Leads old (row (row_stands r height made) ∷ []) (put (strip_of old) height) new
+leads-flat-row old new r height made has flat stands waits y margins drops = rw flat (leads-wait old new (Row r made) (strip_of old) has stands waits y (omega arith) (rw (y, margins, drops) refl))
+
+pub leads-row : (old new : Placing) (r height : ℕ) (made : Option ℕ) → HasMargin old → (height ≡ 0 → ⊥) → standing new ≡ (standing old ++ gap_places old.y (old.y + old.margin) [] (waiting old)) ++ row_at (row_stands r height made) (old.y + old.margin) ∷ [] → waiting new ≡ [] →
+    new.y ≡ old.y + old.margin + height → new.margin ≡ 0 → new.drops ≡ false → Leads old (row (row_stands r height made) ∷ []) (put (strip_of old) height) new
+leads-row old new r height made has some stands none y margins drops =
+    let e = some-height height some in
+    rw e (leads-end old new (row (row_stands r height made)) (record { y = old.y + old.margin + height; pending = 0; drops = false }) (ap not e) has stands none y margins (rw (y, margins, drops) refl))
 
 pub leads-solid : (old new : Placing) (a : ℕ) → HasMargin old → (a ≡ 0 → ⊥) → standing new ≡ standing old ++ gap_places old.y (old.y + old.margin) [] (waiting old) → waiting new ≡ [] → new.y ≡ old.y + old.margin + a → new.margin ≡ 0 → new.drops ≡ false →
     Leads old (laid_edge (strip_of old) (E.Solid a)) (lay (strip_of old) (E.Solid a)) new

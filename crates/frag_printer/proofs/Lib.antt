@@ -15,5 +15,6 @@ pub mod OpenLists
 pub mod PartLines
 pub mod PlacedKnown
 pub mod PlacesLow
+pub mod Rowless
 pub mod SoFar
 pub mod StackWalk

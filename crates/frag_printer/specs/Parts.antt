@@ -1,17 +1,16 @@
--- What is placed in a column, with the bottom of each box, and the lines that it has.
+-- What is placed in a column, with the bottom of each box.
 use Rattle.std.specs.Prelude.{ℕ, ◌+◌, ◌-◌, ◌<◌, List, [], ◌∷◌, ◌++◌, length, map}
 use Rattle.flow_list.specs.declared.data.Flow.{Flow}
 use Rattle.flow_list.specs.declared.data.FlowsData.{FlowsData}
 use Rattle.flow_list.specs.Flows.{box_of, item_of}
 use Rattle.flow_list.specs.Fragments.{bottom_of}
 use Rattle.flow_list.specs.Placing.{Placed as AnyPlaced, opens_at, closes_at, atom_at, row_at}
-use Rattle.flow_list.specs.Tree.{TreeLine, Frame, in_box, item_lines}
+use Rattle.flow_list.specs.Tree.{TreeLine, Frame}
 use Rattle.frag_printer.specs.declared.parts.Part.{Part}
-use Rattle.frag_printer.specs.declared.parts.Part.TheVariants.{Opens, Closes, Atom}
+use Rattle.frag_printer.specs.declared.parts.Part.TheVariants.{Opens, Closes, Atom, Row}
 use Rattle.frag_printer.specs.declared.parts.Inside.{Inside}
 use Rattle.frag_printer.specs.declared.placing.Placed.{Placed}
-use Rattle.frag_printer.specs.declared.placing.Placed.TheVariants.{Opens as OpensAt, Closes as ClosesAt, Atom as AtomAt}
-use Rattle.frag_printer.specs.FlatLines.{box_line, out_of_box}
+use Rattle.frag_printer.specs.declared.placing.Placed.TheVariants.{Opens as OpensAt, Closes as ClosesAt, Atom as AtomAt, Row as RowAt}
 use Rattle.frag_printer.specs.Placing.{placed_as}
 
 -- what is placed, where this stands behind it
@@ -19,6 +18,7 @@ abbrev pub part_of : Placed → List AnyPlaced → Part
 part_of (OpensAt number y starts) later = Opens number y starts (bottom_of number later)
 part_of (ClosesAt number y) later = Closes number
 part_of (AtomAt item y) later = Atom item y
+part_of (RowAt number height made y) later = Row number height made y
 
 abbrev pub parts_of : List Placed → List Part
 parts_of [] = []
@@ -27,13 +27,6 @@ parts_of (p ∷ ps) = part_of p (map placed_as ps) ∷ parts_of ps
 -- no stack stands in another
 abbrev pub no_stacks : ℕ → ℕ → ℕ → ℕ → List TreeLine
 no_stacks s depth x y = []
-
--- the lines of these parts, in order
-abbrev pub part_lines : FlowsData → (ℕ → ℕ → ℕ → ℕ → List TreeLine) → Flow → (depth : ℕ) → Frame → List Part → List TreeLine
-part_lines d stacks f depth frame [] = []
-part_lines d stacks f depth frame (Opens number y starts bottom ∷ ps) = box_line d depth frame number starts y bottom ∷ part_lines d stacks f (depth + 1) (in_box frame (box_of d number).bottom) ps
-part_lines d stacks f depth frame (Closes number ∷ ps) = part_lines d stacks f (depth - 1) (out_of_box frame (box_of d number).bottom) ps
-part_lines d stacks f depth frame (Atom item y ∷ ps) = item_lines stacks depth frame item y (item_of f item) ++ part_lines d stacks f depth frame ps
 
 -- where things stand, as it is kept
 abbrev pub frame_of : Inside → Frame
@@ -58,8 +51,10 @@ abbrev pub IsPartIn : FlowsData → Flow → (low : ℕ) → Part → Type 0
 IsPartIn d f low (Opens number y starts bottom) = (number < length d.boxes) × (y < low)
 IsPartIn d f low (Closes number) = number < length d.boxes
 IsPartIn d f low (Atom item y) = (item < length f.items) × (y < low)
+IsPartIn d f low (Row number height made y) = ⊥
 
 abbrev pub feet_of : FlowsData → Part → ℕ
 feet_of d (Opens number y starts bottom) = (box_of d number).bottom
 feet_of d (Closes number) = 0
 feet_of d (Atom item y) = 0
+feet_of d (Row number height made y) = 0

@@ -9,7 +9,8 @@ ghost use Rattle.flow_list.specs.Soundness.{kind_x};
 ghost use Rattle.flow_list.specs.Tree.{atom_lines, item_lines, piece_bottom};
 ghost use Rattle.flow_list.specs.TreeText.{tree_text};
 ghost use Rattle.frag_printer.specs.Lines.{line_of};
-ghost use Rattle.frag_printer.specs.Parts.{IsPartIn, feet_of, frame_of, no_stacks, part_lines, part_of, parts_of};
+ghost use Rattle.frag_printer.specs.PartLines.{part_lines};
+ghost use Rattle.frag_printer.specs.Parts.{IsPartIn, feet_of, frame_of, no_stacks, part_of, parts_of};
 ghost use Rattle.frag_printer.specs.Placing.{placed_as};
 
 use crate::lines::{Kind, Line, put_line};
@@ -20,7 +21,7 @@ use std::alloc::Global;
 use std::collections::HashMap;
 
 /// Something in a column as its line needs it: a box with its bottom, unless it continues in the next column; where a box
-/// ends; or an atom. Places are from the column's top, in units.
+/// ends; an atom; or a row. Places are from the column's top, in units.
 #[derive(Clone, Copy)]
 pub enum Part {
     Opens {
@@ -32,6 +33,12 @@ pub enum Part {
     Closes(u32),
     Atom {
         item: u32,
+        y: Units,
+    },
+    Row {
+        row: u32,
+        height: Units,
+        made_at: Option<Units>,
         y: Units,
     },
 }
@@ -78,6 +85,20 @@ fn add_part(
         }
         Placed::Atom { item, y } => {
             parts.push(Part::Atom { item, y })?;
+            Ok(())
+        }
+        Placed::Row {
+            row,
+            height,
+            made_at,
+            y,
+        } => {
+            parts.push(Part::Row {
+                row,
+                height,
+                made_at,
+                y,
+            })?;
             Ok(())
         }
     }
@@ -161,7 +182,7 @@ fn put_item(
     }
 }
 
-/// Adds the line of something, and tells where the next one stands.
+/// Adds the line of something that isn't a row, and tells where the next one stands.
 fn put_part(
     out: &mut Text,
     flows: &Flows,
@@ -222,6 +243,7 @@ fn put_part(
             put_item(out, flows, flow, at, item, y)?;
             Ok(at)
         }
+        Part::Row { .. } => unreachable!(),
     }
 }
 

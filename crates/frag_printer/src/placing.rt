@@ -3,31 +3,39 @@
 ghost use Rattle.std.specs.Prelude.{◌≡◌, ℕ, ◌+◌, ◌<◌, ◌≤◌, ◌^◌, List, [], ◌∷◌, ◌++◌, map, cond, false, nat_eq, sum_by, OnOk};
 ghost use Rattle.std.specs.HashSet.{contains};
 ghost use Rattle.flow_list.specs.Flows.{amount};
-ghost use Rattle.flow_list.specs.Placing.{Laid, atom, gap_places, laid_edge, laid_edges, opens_among, placed_in_gap};
+ghost use Rattle.flow_list.specs.Placing.{Laid, atom, gap_places, greatest_margin, laid_edge, laid_edges, opens_among, placed_in_gap, row as row_laid};
 ghost use Rattle.flow_list.specs.Strip.{lay, lay_all, put, strip_at};
-ghost use Rattle.frag_printer.specs.Placing.{HasMargin, Leads, laid_as, placed_as, standing, strip_of, waiting as waits, with_more};
+ghost use Rattle.frag_printer.specs.Placing.{HasMargin, Leads, laid_as, margin_of, placed_as, row_stands, standing, strip_of, waiting as waits, with_more};
 
 use flow_list::Edge;
 use mc_base::{NoMemory, Units};
 use std::alloc::Global;
 use std::collections::HashSet;
 
-/// What stands at a place of a column: where a box starts, also one that continues there, or ends, or an atom. `y` is
-/// from the column's top, in units.
+/// What stands at a place of a column: where a box starts, also one that continues there, or ends, an atom, or a row from
+/// its start. `y` is from the column's top, in units. `made_at` is the height of the row's columns, none where they have
+/// no end.
 #[derive(Clone, Copy)]
 pub enum Placed {
     Opens { number: u32, y: Units, starts: bool },
     Closes { number: u32, y: Units },
     Atom { item: u32, y: Units },
+    Row {
+        row: u32,
+        height: Units,
+        made_at: Option<Units>,
+        y: Units,
+    },
 }
 
-/// Something in a gap, which gets its place where the gap ends. The atom has the height 0.
+/// Something in a gap, which gets its place where the gap ends. Atoms and rows have the height 0.
 #[derive(Clone, Copy)]
 pub enum Waiting {
     Margin(Units),
     Opens(u32),
     Closes(u32),
     Atom(u32),
+    Row { row: u32, made_at: Option<Units> },
 }
 
 /// A column that is being placed: where its last gap begins, the greatest margin of that gap, whether margins are still
@@ -48,15 +56,27 @@ fn end_of_box(y: Units, end: Units, started: bool) -> Units
     if started { end } else { y }
 }
 
-/// Places something of a gap from `y` to `end`, in which these boxes started before.
+/// The margin that something in a gap is.
+fn margin_in(waiting: Waiting) -> Units
+    ensures { result ≡ margin_of waiting }
+{
+    match waiting {
+        Waiting::Margin(margin) => margin,
+        _ => 0,
+    }
+}
+
+/// Places something of a gap from `y` to `end`, in which these boxes started before, and `margin` is the greatest margin.
 fn place(
     placed: &mut Vec<Placed>,
     started: &mut HashSet<u32>,
     y: Units,
     end: Units,
+    margin: Units,
     waiting: Waiting,
 ) -> Result<(), NoMemory>
-    ensures placed { (before : List Laid) → ((q : ℕ) → contains nat_eq started.old q ≡ opens_among q before) →
+    requires { y + margin < 2 ^ 63 }
+    ensures placed { (before : List Laid) → margin ≡ greatest_margin before → ((q : ℕ) → contains nat_eq started.old q ≡ opens_among q before) →
         OnOk result (map placed_as placed.new.items ≡ map placed_as placed.old.items ++ placed_in_gap y end before (laid_as waiting)) }
     ensures started { (before : List Laid) → ((q : ℕ) → contains nat_eq started.old q ≡ opens_among q before) →
         OnOk result ((q : ℕ) → contains nat_eq started.new q ≡ opens_among q (before ++ laid_as waiting ∷ [])) }
@@ -81,6 +101,15 @@ fn place(
             placed.push(Placed::Atom { item, y: end })?;
             Ok(())
         }
+        Waiting::Row { row, made_at } => {
+            placed.push(Placed::Row {
+                row,
+                height: 0,
+                made_at,
+                y: y + margin,
+            })?;
+            Ok(())
+        }
     }
 }
 
@@ -92,11 +121,14 @@ fn place_gap(
     end: Units,
     gap: &[Waiting],
 ) -> Result<(), NoMemory>
+    requires { y + greatest_margin (map laid_as gap.now) < 2 ^ 63 }
     ensures { OnOk result (map placed_as placed.new.items ≡ map placed_as placed.old.items ++ gap_places y end [] (map laid_as gap.now)) }
 {
     let mut started = HashSet::new(alloc);
+    let mut margin: Units = 0;
     for waiting in gap {
-        place(placed, &mut started, y, end, *waiting)?;
+        place(placed, &mut started, y, end, margin, *waiting)?;
+        margin = margin.max(margin_in(*waiting));
     }
     Ok(())
 }
@@ -120,6 +152,7 @@ impl Placing {
 
     /// Ends the gap at `end`: what waits in it gets its place.
     fn end_gap(&mut self, alloc: Global, end: Units) -> Result<(), NoMemory>
+        requires { self.old.y + greatest_margin (waits self.old) < 2 ^ 63 }
         ensures placed { OnOk result (standing self.new ≡ standing self.old ++ gap_places self.old.y end [] (waits self.old)) }
         ensures gap { OnOk result (waits self.new ≡ []) }
         ensures y { OnOk result (self.new.y ≡ end) }
@@ -147,7 +180,8 @@ impl Placing {
 
     /// Ends the gap with something of this height.
     fn pass(&mut self, alloc: Global, height: Units) -> Result<(), NoMemory>
-        requires { self.old.y + self.old.margin + height < 2 ^ 63 }
+        requires margin { HasMargin self.old }
+        requires room { self.old.y + self.old.margin + height < 2 ^ 63 }
         ensures placed { OnOk result (standing self.new ≡ standing self.old ++ gap_places self.old.y (self.old.y + self.old.margin) [] (waits self.old)) }
         ensures gap { OnOk result (waits self.new ≡ []) }
         ensures y { OnOk result (self.new.y ≡ self.old.y + self.old.margin + height) }
@@ -237,8 +271,37 @@ impl Placing {
         Ok(())
     }
 
+    /// Lays a row of this height, from its start.
+    pub fn stand_row(
+        &mut self,
+        alloc: Global,
+        row: u32,
+        height: Units,
+        made_at: Option<Units>,
+    ) -> Result<(), NoMemory>
+        requires margin { HasMargin self.old }
+        requires room { self.old.y + self.old.margin + height < 2 ^ 63 }
+        ensures { OnOk result (Leads self.old (row_laid (row_stands row height made_at) ∷ []) (put (strip_of self.old) height) self.new) }
+    {
+        if height == 0 {
+            self.wait(Waiting::Row { row, made_at })?;
+            return Ok(());
+        }
+        let y = self.y + self.margin;
+        self.pass(alloc, height)?;
+        self.placed.push(Placed::Row {
+            row,
+            height,
+            made_at,
+            y,
+        })?;
+        Ok(())
+    }
+
     /// Ends the column: what waits has no height.
     pub fn finish(&mut self, alloc: Global) -> Result<(), NoMemory>
+        requires margin { HasMargin self.old }
+        requires room { self.old.y + self.old.margin < 2 ^ 63 }
         ensures placed { OnOk result (standing self.new ≡ with_more self.old []) }
         ensures y { OnOk result (self.new.y ≡ self.old.y) }
     {

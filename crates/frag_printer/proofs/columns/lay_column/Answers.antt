@@ -4,7 +4,7 @@ use Rattle.flow_list.specs.Flows.{flow_of}
 use Rattle.flow_list.specs.Strip.{Strip}
 use Rattle.frag_printer.specs.Columns.{HasRoom}
 use Rattle.frag_printer.specs.Placing.{strip_of}
-use Rattle.frag_printer.proofs.ColumnSteps.{begin-known, bottoms-room, is_atom, column-begins, strip-begins, column-goes, strip-goes, column-ends, strip-ends, first-room, past-room, across-goes, extent-room}
+use Rattle.frag_printer.proofs.ColumnSteps.{begin-known, bottoms-room, is_atom, column-begins, strip-begins, column-goes, strip-goes, column-ends, strip-ends, first-room, past-room, across-goes, extent-room, end-room}
 use Rattle.frag_printer.proofs.columns.lay_column.Goals as goal
 
 pub loop-k-init : goal.loop-k-init
@@ -70,3 +70,6 @@ returns-clause-extent c =
     let at_end : c.loop-k.k ≡ c.args.end = omega arith in
     let b : c.bottoms_of.result ≡ bottoms d (open_across f c.args.end) = c.bottoms_of.ensures ∙ ap (bottoms d) (c.as_slice-2.ensures.value ∙ c.loop-k.invariant.across) ∙ ap (λ k. bottoms d (open_across f k)) at_end in
     omega arith
+
+pub finish-requires-clause-room : goal.finish-requires-clause-room
+finish-requires-clause-room c = end-room c.args.flows.now c.args.flow c.flow_counts-counts.ensures.sound c.requires.flow c.requires.atoms c.loop-k.k c.loop-k.at c.loop-k.invariant.room

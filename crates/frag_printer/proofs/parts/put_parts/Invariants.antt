@@ -2,7 +2,8 @@
 use Rattle.std.proofs.Common.{◌≡◌, ◌+◌, ◌≤◌, ◌++◌, drop, sum_by}
 use Rattle.flow_list.specs.Flows.{flow_of}
 use Rattle.flow_list.specs.TreeText.{tree_text}
-use Rattle.frag_printer.specs.Parts.{feet_of, frame_of, no_stacks, part_lines}
+use Rattle.frag_printer.specs.PartLines.{part_lines}
+use Rattle.frag_printer.specs.Parts.{feet_of, frame_of, no_stacks}
 use Rattle.frag_printer.proofs.parts.put_parts.Given as goal
 
 abbrev pub invariant-loop-part : goal.invariant-loop-part
