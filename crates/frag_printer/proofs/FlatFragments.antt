@@ -14,8 +14,8 @@ use Rattle.flow_list.specs.ClonedEdges.{tops}
 use Rattle.flow_list.specs.Column.{Column, Inner, Step, steps, steps_from, strip_behind, start_strip, is_forced, cut, longer, room}
 use Rattle.flow_list.specs.Soundness.{IsSoundFlow}
 use Rattle.flow_list.specs.Stacks.{stack_height, stack_extent}
-use Rattle.flow_list.specs.Placing.{RowLaid, Laid, Placed, laid_edges, places_from}
-use Rattle.flow_list.specs.Fragments.{laid_items, fills_item, stop_of, laid_to, laid_start, places_in, continued_from, all_trees, column_made, fragment_of, row_fragments, stack_laid, stack_fragment}
+use Rattle.flow_list.specs.Placing.{RowLaid, Placed}
+use Rattle.flow_list.specs.Fragments.{laid_items, fills_item, stop_of, laid_to, laid_start, places_in, all_trees, column_made, fragment_of, row_fragments, stack_fragment}
 use Rattle.flow_list.specs.Tree.{TreeLine, col, stack, lines_of_stack, Frame, column_frame, lines_of_tree, lines_of_column}
 use Rattle.flow_list.proofs.AtomFlows.{atom-row}
 use Rattle.frag_printer.specs.FlatLines.{flat_lines, ArePlacedNested}

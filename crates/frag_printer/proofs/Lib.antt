@@ -12,3 +12,4 @@ pub mod OpenLists
 pub mod SoFar
 pub mod StackWalk
 pub mod OneRow
+pub mod StackRows

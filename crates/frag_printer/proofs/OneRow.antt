@@ -1,13 +1,13 @@
 -- The tree of flows whose only stack holds one row and nothing else.
-use Rattle.std.proofs.Common.{◌≡◌, ℕ, zero, suc, ◌+◌, ◌<◌, Bool, true, false, cond, not, List, [], ◌∷◌, ◌++◌, length, Option, Some, None, refl, sym, subst, ap, ◌∙◌, arith}
+use Rattle.std.proofs.Common.{◌≡◌, ℕ, suc, ◌+◌, ◌<◌, Bool, true, false, cond, not, List, [], ◌∷◌, ◌++◌, length, Option, refl, subst, ap, ◌∙◌, arith}
 use Rattle.std.specs.Prelude.{◌==◌}
 use Rattle.std.proofs.lemmas.Bool.Decides.{nat_tests}
 use Rattle.std.proofs.lemmas.List.{append-nil}
-use Rattle.mc_base.specs.PlainTree.{PlainTree, plain_trees}
+use Rattle.mc_base.specs.PlainTree.{plain_trees}
 use Rattle.flow_list.specs.declared.data.Bound.{Bound}
 use Rattle.flow_list.specs.declared.data.Flow.{Flow}
 use Rattle.flow_list.specs.declared.data.FlowsData.{FlowsData}
-use Rattle.flow_list.specs.declared.data.Item.TheVariants.{Atom, Row}
+use Rattle.flow_list.specs.declared.data.Item.TheVariants.{Row}
 use Rattle.flow_list.specs.Atoms.{HoldsAtoms}
 use Rattle.flow_list.specs.Flows.{no_flow, no_row, no_item, no_seam, flow_of, flow_in, row_of, stack_of, seam_of}
 use Rattle.flow_list.specs.ClonedEdges.{tops}
@@ -15,14 +15,14 @@ use Rattle.flow_list.specs.Soundness.{IsSound, IsSoundFlow}
 use Rattle.flow_list.specs.Strip.{strip_at}
 use Rattle.flow_list.specs.Tokens.{Token, row_start}
 use Rattle.flow_list.specs.RowHeights.{row_height, columns_of_row}
-use Rattle.flow_list.specs.Stacks.{available_at, available_to, stack_strip, stack_extent, stack_height}
+use Rattle.flow_list.specs.Stacks.{available_at, stack_strip, stack_extent, stack_height}
 use Rattle.flow_list.specs.Placing.{RowLaid, Laid, row, laid_edges, Placed, row_at, gap_places, gap_height, placed_item, laid_height, places_from}
 use Rattle.flow_list.specs.Fragments.{continued_from, row_fragments, stack_laid}
 use Rattle.flow_list.specs.Tree.{TreeLine, stack, Frame, lines_of_columns, lines_of_stack, tree_of}
-use Rattle.frag_printer.specs.FlatLines.{row_line, flat_lines, columns_lines}
+use Rattle.frag_printer.specs.FlatLines.{row_line, flat_lines}
 use Rattle.frag_printer.specs.Parts.{no_stacks}
 use Rattle.frag_printer.specs.FlatRows.{ends_before, flat_row_lines}
-use Rattle.frag_printer.proofs.ColumnsLines.{end_items, laid_row, row-lines}
+use Rattle.frag_printer.proofs.ColumnsLines.{laid_row, row-lines}
 use Rattle.frag_printer.proofs.FlatFragments.{stack-lines}
 
 -- a flow of one row and nothing else

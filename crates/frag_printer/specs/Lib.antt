@@ -1,6 +1,7 @@
 pub mod Columns
 pub mod FlatLines
 pub mod FlatRows
+pub mod FlatStack
 pub mod Lines
 pub mod Parts
 pub mod Placing
