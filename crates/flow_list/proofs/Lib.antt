@@ -6,6 +6,7 @@ pub mod Fitting
 pub mod LeastHeight
 pub mod OpenBoxes
 pub mod PiecesLoop
+pub mod PlaceBounds
 pub mod PlainLaws
 pub mod PlainSound
 mod SoundExamples

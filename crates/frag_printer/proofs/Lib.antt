@@ -1,4 +1,5 @@
 pub mod AtomColumns
+pub mod ColumnKnown
 pub mod ColumnSteps
 pub mod ColumnsLines
 pub mod Edges
@@ -8,8 +9,11 @@ pub mod Gaps
 pub mod NestedAcross
 pub mod NestedLaid
 pub mod NestedPlaces
-pub mod OpenLists
-pub mod SoFar
-pub mod StackWalk
 pub mod OneRow
+pub mod OpenLists
+pub mod PartLines
+pub mod PlacedKnown
+pub mod PlacesLow
+pub mod SoFar
 pub mod StackRows
+pub mod StackWalk

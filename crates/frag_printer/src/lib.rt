@@ -9,3 +9,6 @@ mod lines;
 mod parts;
 mod placing;
 mod rows;
+mod tree;
+
+pub use tree::write_flat;
