@@ -1,6 +1,5 @@
 -- A column of a flow of atoms, item by item.
-use Rattle.std.proofs.Common.{◌≡◌, ℕ, zero, suc, ◌+◌, ◌-◌, ◌<◌, ◌≤◌, ◌^◌, List, [], ◌∷◌, ◌++◌, length, take, drop, map, refl, sym, subst, ◌∙◌, ap, arith, append_assoc, sum_by, All, fold}
-use Rattle.std.specs.Prelude.{cond, ◌==◌, not, ◌||◌}
+use Rattle.std.proofs.Common.{◌≡◌, ℕ, zero, suc, ◌+◌, ◌-◌, ◌<◌, ◌≤◌, ◌^◌, List, [], ◌∷◌, ◌++◌, length, map, refl, sym, subst, ◌∙◌, ap, arith, append_assoc, sum_by, All, fold}
 use Rattle.flow_list.specs.declared.data.Edge.{Edge}
 use Rattle.flow_list.specs.declared.data.Flow.{Flow}
 use Rattle.flow_list.specs.declared.data.FlowsData.{FlowsData}
@@ -8,11 +7,11 @@ use Rattle.flow_list.specs.declared.data.Item.{Item}
 use Rattle.flow_list.specs.declared.data.Item.TheVariants.{Atom, Row}
 use Rattle.flow_list.specs.Atoms.{IsAtom, HoldsAtoms}
 use Rattle.flow_list.specs.ClonedEdges.{open_across, tops, bottoms}
-use Rattle.flow_list.specs.Column.{Inner, height_of, start_strip, strip_behind}
-use Rattle.flow_list.specs.Flows.{no_flow, no_item, flow_of, item_of, seam_of, box_of, amount, atom_height, boxes_in, open_at}
+use Rattle.flow_list.specs.Column.{Inner, height_of, start_strip}
+use Rattle.flow_list.specs.Flows.{no_flow, no_item, flow_of, item_of, seam_of, box_of, amount, atom_height}
 use Rattle.flow_list.specs.Fragments.{continued_from, laid_start, laid_item, laid_items, strip_after}
 use Rattle.flow_list.specs.Placing.{Laid, atom, laid_edges, Placed, places_from}
-use Rattle.flow_list.specs.Rows.{all_rows, heights_from, amounts_in, reach}
+use Rattle.flow_list.specs.Rows.{all_rows, reach}
 use Rattle.flow_list.specs.Soundness.{IsSound, IsSoundFlow}
 use Rattle.flow_list.specs.Strip.{Strip, put, lay_all}
 use Rattle.flow_list.specs.Tokens.{Token, row_start}
@@ -21,8 +20,8 @@ use Rattle.flow_list.proofs.Fitting.{first-height, first-amounts, amounts-drop, 
 use Rattle.flow_list.proofs.OpenBoxes.{across-known}
 use Rattle.flow_list.proofs.StripBounds.{put_le, lay_all_le}
 use Rattle.frag_printer.specs.declared.placing.Placing.{Placing}
-use Rattle.frag_printer.specs.Columns.{column_laid, column_places, column_extent, column_strip, item_laid, strip_past, HasRoom, opened_by}
-use Rattle.frag_printer.specs.Placing.{placed_as, laid_as, standing, waiting, with_more, strip_of, HasMargin, Leads}
+use Rattle.frag_printer.specs.Columns.{column_laid, column_places, column_strip, item_laid, strip_past, HasRoom, opened_by}
+use Rattle.frag_printer.specs.Placing.{laid_as, standing, waiting, with_more, strip_of, Leads}
 use Rattle.frag_printer.proofs.Gaps.{leads-both, leads-same}
 use Rattle.frag_printer.proofs.OpenLists.{after-head, after-tail}
 

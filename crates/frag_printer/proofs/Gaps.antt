@@ -3,14 +3,13 @@ use Rattle.std.proofs.Common.{◌≡◌, ℕ, zero, suc, ◌+◌, ◌<◌, ◌�
 use Rattle.std.proofs.lemmas.List.{append-nil, drop_more, take_more, map-append}
 use Rattle.std.specs.Prelude.{◌==◌}
 use Rattle.std.proofs.lemmas.Bool.Decides.{nat_tests}
-use Rattle.flow_list.specs.declared.data.Edge.{Edge}
 use Rattle.flow_list.specs.declared.data.Edge.TheVariants as E
 use Rattle.flow_list.specs.Strip.{Strip, put, lay}
-use Rattle.flow_list.specs.Placing.{RowLaid, Laid, margin, solid, wall, opens, closes, atom, row, ends_gap, gap_of, behind_gap, greatest_margin, laid_edge, Placed as AnyPlaced, atom_at, placed_in_gap, gap_places, placed_item, laid_height, gap_height, places_from}
+use Rattle.flow_list.specs.Placing.{Laid, margin, solid, wall, opens, closes, atom, ends_gap, gap_of, behind_gap, greatest_margin, laid_edge, Placed as AnyPlaced, atom_at, placed_in_gap, gap_places, placed_item, laid_height, gap_height, places_from}
 use Rattle.frag_printer.specs.declared.placing.Placing.{Placing}
 use Rattle.frag_printer.specs.declared.placing.Waiting.{Waiting}
 use Rattle.frag_printer.specs.declared.placing.Waiting.TheVariants.{Margin, Opens, Closes, Atom}
-use Rattle.frag_printer.specs.Placing.{placed_as, laid_as, standing, waiting, with_more, strip_of, HasMargin, Leads}
+use Rattle.frag_printer.specs.Placing.{laid_as, standing, waiting, with_more, strip_of, HasMargin, Leads}
 
 -- one more of a gap
 pub gap-more : (y end i : ℕ) (gap : List Waiting) (w : Waiting) → i < length gap →

@@ -1,5 +1,5 @@
 -- The parts of a column, and what is known of them.
-use Rattle.std.proofs.Common.{◌≡◌, ℕ, zero, suc, ◌+◌, ◌-◌, ◌<◌, ◌≤◌, ◌^◌, List, [], ◌∷◌, ◌++◌, length, map, get_or, refl, sym, subst, ◌∙◌, ap, arith, All, sum_by, append_assoc}
+use Rattle.std.proofs.Common.{◌≡◌, ℕ, zero, suc, ◌+◌, ◌-◌, ◌<◌, ◌≤◌, List, [], ◌∷◌, ◌++◌, length, map, refl, sym, ◌∙◌, ap, arith, All, sum_by, append_assoc}
 use Rattle.std.specs.List.{AllByRecursion as Each}
 use Rattle.std.proofs.lemmas.List.Sums.{sum_by-cons}
 use Rattle.mc_base.specs.PlainTree.{PlainTree}
@@ -7,9 +7,8 @@ use Rattle.flow_list.specs.declared.data.Flow.{Flow}
 use Rattle.flow_list.specs.declared.data.FlowsData.{FlowsData}
 use Rattle.flow_list.specs.Flows.{box_of, item_of}
 use Rattle.flow_list.specs.Fragments.{bottom_of, place_of}
-use Rattle.flow_list.specs.Placing.{RowLaid, Placed as AnyPlaced, opens_at, closes_at, atom_at}
+use Rattle.flow_list.specs.Placing.{RowLaid, opens_at, closes_at, atom_at}
 use Rattle.flow_list.specs.Tree.{TreeLine, Frame, in_box, item_lines}
-use Rattle.frag_printer.specs.declared.parts.Part.{Part}
 use Rattle.frag_printer.specs.declared.placing.Placed.{Placed}
 use Rattle.frag_printer.specs.declared.placing.Placed.TheVariants.{Opens, Closes, Atom}
 use Rattle.flow_list.specs.TreeText.{tree_line_text, tree_text}

@@ -1,5 +1,5 @@
 -- What is placed so far in a column, and what leads on from it.
-use Rattle.std.specs.Prelude.{◌≡◌, ℕ, ◌+◌, List, [], ◌∷◌, ◌++◌, length, map}
+use Rattle.std.specs.Prelude.{◌≡◌, ◌+◌, List, ◌++◌, length, map}
 use Rattle.flow_list.specs.Strip.{Strip}
 use Rattle.flow_list.specs.Placing.{Laid, margin, opens, closes, atom, greatest_margin, Placed as AnyPlaced, opens_at, closes_at, atom_at, places_from}
 use Rattle.frag_printer.specs.declared.placing.Placed.{Placed}

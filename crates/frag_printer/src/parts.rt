@@ -115,12 +115,7 @@ fn line_of_atom(at: Inside, item: u32, y: Units, height: Units, kind: AtomKind) 
 {
     let (kind, x, w) = match kind {
         AtomKind::Plain => (Kind::Atom(item), 0, at.w),
-        AtomKind::Line {
-            owner,
-            index,
-            x,
-            w,
-        } => (Kind::Line { owner, index }, x, w),
+        AtomKind::Line { owner, index, x, w } => (Kind::Line { owner, index }, x, w),
         AtomKind::Void { owner, x, w } => (Kind::Void(owner), x, w),
         AtomKind::Image { owner, x, w } => (Kind::Image(owner), x, w),
         AtomKind::Bounded { .. } => return None,

@@ -1,8 +1,8 @@
-use Rattle.std.proofs.Common.{◌≡◌, ◌+◌, ◌<◌, ◌≤◌, ◌^◌, ◌∙◌, ap, sym, subst, arith, ℕ, length}
+use Rattle.std.proofs.Common.{◌≡◌, ◌+◌, ◌<◌, ◌≤◌, ◌∙◌, ap, sym, subst, arith, length}
 use Rattle.flow_list.specs.ClonedEdges.{open_across, bottoms}
 use Rattle.flow_list.specs.Flows.{flow_of}
 use Rattle.flow_list.specs.Strip.{Strip}
-use Rattle.frag_printer.specs.Columns.{HasRoom, column_strip}
+use Rattle.frag_printer.specs.Columns.{HasRoom}
 use Rattle.frag_printer.specs.Placing.{strip_of}
 use Rattle.frag_printer.proofs.ColumnSteps.{begin-known, bottoms-room, is_atom, column-begins, strip-begins, column-goes, strip-goes, column-ends, strip-ends, first-room, past-room, across-goes, extent-room}
 use Rattle.frag_printer.proofs.columns.lay_column.Goals as goal

@@ -1,5 +1,5 @@
 -- what is put, and the parts to come, which stand in the same column
-use Rattle.std.proofs.Common.{◌≡◌, ◌+◌, ◌≤◌, ◌++◌, drop, length, sum_by}
+use Rattle.std.proofs.Common.{◌≡◌, ◌+◌, ◌≤◌, ◌++◌, drop, sum_by}
 use Rattle.flow_list.specs.Flows.{flow_of}
 use Rattle.flow_list.specs.TreeText.{tree_text}
 use Rattle.frag_printer.specs.Parts.{feet_of, frame_of, no_stacks, part_lines}

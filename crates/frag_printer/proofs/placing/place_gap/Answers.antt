@@ -1,4 +1,4 @@
-use Rattle.std.proofs.Common.{◌+◌, ◌∙◌, sym, ap, map, take, drop, List}
+use Rattle.std.proofs.Common.{◌∙◌, sym, ap, map, take, drop, List}
 use Rattle.flow_list.specs.Placing.{Laid, gap_places, opens_among}
 use Rattle.frag_printer.specs.declared.placing.Waiting.TheVariants.{Margin}
 use Rattle.frag_printer.specs.Placing.{laid_as, placed_as}

@@ -1,7 +1,6 @@
-use Rattle.std.proofs.Common.{◌≡◌, ℕ, ◌+◌, ◌-◌, ◌<◌, ◌≤◌, ◌^◌, ◌∙◌, ap, sym, subst, arith, All, List, map, length, sum_by}
+use Rattle.std.proofs.Common.{◌≡◌, ℕ, ◌+◌, ◌-◌, ◌<◌, ◌≤◌, ◌^◌, ◌∙◌, ap, sym, subst, arith, All, List, length, sum_by}
 use Rattle.std.specs.List.{AllByRecursion as Each}
-use Rattle.flow_list.specs.ClonedEdges.{bottoms}
-use Rattle.flow_list.specs.Flows.{boxes_in, flow_of}
+use Rattle.flow_list.specs.Flows.{flow_of}
 use Rattle.flow_list.specs.Fragments.{place_of, row_fragments}
 use Rattle.flow_list.specs.Tree.{Frame, col}
 use Rattle.flow_list.specs.Placing.{Placed}
@@ -9,7 +8,6 @@ use Rattle.frag_printer.specs.declared.parts.Part.{Part}
 use Rattle.frag_printer.specs.Columns.{column_extent, column_places}
 use Rattle.frag_printer.specs.FlatLines.{flat_lines}
 use Rattle.frag_printer.specs.Parts.{IsPartIn, IsPlacedIn, feet_in, feet_of, frame_of, no_stacks, part_lines, parts_of}
-use Rattle.frag_printer.specs.Placing.{placed_as}
 use Rattle.frag_printer.proofs.PartLines.{parts-flat, feet-are, parts-known, column-text}
 use Rattle.frag_printer.proofs.ColumnKnown.{column-known}
 use Rattle.frag_printer.proofs.rows.put_column.Goals as goal
