@@ -16,5 +16,5 @@ pub mod PartLines
 pub mod PlacedKnown
 pub mod PlacesLow
 pub mod SoFar
-pub mod StackRows
+pub mod StackLines
 pub mod StackWalk

@@ -1,7 +1,6 @@
 pub mod Columns
 pub mod FlatLines
 pub mod FlatRows
-pub mod FlatStack
 pub mod Lines
 pub mod Parts
 pub mod Placing
