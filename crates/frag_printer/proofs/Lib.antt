@@ -17,4 +17,5 @@ pub mod PlacedKnown
 pub mod PlacesLow
 pub mod Rowless
 pub mod SoFar
+pub mod StackLines
 pub mod StackWalk

@@ -90,7 +90,7 @@ item-marks y (closes b) h = cc
 item-marks y (atom k height) h = refl
 item-marks y (row r) h = refl
 
-gap-split : (xs : List Laid) → xs ≡ gap_of xs ++ behind_gap xs
+pub gap-split : (xs : List Laid) → xs ≡ gap_of xs ++ behind_gap xs
 gap-split [] = refl
 gap-split (x ∷ xs) = go (ends_gap x) (gap-split xs)
   where
@@ -99,11 +99,11 @@ gap-split (x ∷ xs) = go (ends_gap x) (gap-split xs)
     go false h = ap (λ ys. x ∷ ys) h
 
 -- what stands behind a gap is no longer than all, and its first ends the gap
-record Behind (xs rest : List Laid) : Type 0 where
-  short : length rest ≤ length xs
-  ends : (x : Laid) (later : List Laid) → rest ≡ x ∷ later → ends_gap x ≡ true
+pub record Behind (xs rest : List Laid) : Type 0 where
+  pub short : length rest ≤ length xs
+  pub ends : (x : Laid) (later : List Laid) → rest ≡ x ∷ later → ends_gap x ≡ true
 
-behind-is : (xs : List Laid) → Behind xs (behind_gap xs)
+pub behind-is : (xs : List Laid) → Behind xs (behind_gap xs)
 behind-is [] = record { short = omega arith; ends = λ x later e. cc }
 behind-is (y ∷ xs) = go (ends_gap y) refl (behind-is xs)
   where
