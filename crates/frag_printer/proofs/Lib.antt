@@ -18,4 +18,5 @@ pub mod PlacesLow
 pub mod Rowless
 pub mod SoFar
 pub mod StackLines
+pub mod StackSteps
 pub mod StackWalk

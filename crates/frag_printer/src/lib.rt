@@ -9,6 +9,7 @@ mod lines;
 mod parts;
 mod placing;
 mod rows;
+mod stack;
 mod tree;
 
 pub use tree::write_flat;
