@@ -17,6 +17,7 @@ pub mod PlacedKnown
 pub mod PlacesLow
 pub mod Rowless
 pub mod SoFar
+pub mod StackKnown
 pub mod StackLines
 pub mod StackSteps
 pub mod StackWalk

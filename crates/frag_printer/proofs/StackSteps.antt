@@ -1,4 +1,8 @@
 -- A stack, item by item, with rows that were laid out.
+use Rattle.frag_printer.specs.StackParts.{before_head, behind_item, stack_item}
+use Rattle.frag_printer.proofs.StackWalk.{behind-head, next-head}
+use Rattle.frag_printer.proofs.Gaps.{leads-both, leads-same}
+use Rattle.flow_list.proofs.StripBounds.{put_le, lay_all_le}
 use Rattle.std.proofs.Common.{◌≡◌, ℕ, zero, suc, ◌+◌, ◌-◌, ◌<◌, ◌≤◌, ◌^◌, Bool, true, false, cond, List, [], ◌∷◌, ◌++◌, length, get_or, drop, map, refl, sym, subst, ◌∙◌, ap, arith, Option, Some, ◌⊎◌, inl, inr, append_assoc, sum_by, fold}
 use Rattle.std.proofs.lemmas.Bool.{cases_lt}
 use Rattle.std.proofs.lemmas.List.{drop_more}
@@ -9,7 +13,7 @@ use Rattle.flow_list.specs.declared.data.Flow.{Flow}
 use Rattle.flow_list.specs.declared.data.FlowsData.{FlowsData}
 use Rattle.flow_list.specs.declared.data.Item.{Item}
 use Rattle.flow_list.specs.declared.data.Item.TheVariants.{Row}
-use Rattle.flow_list.specs.Flows.{item_of, no_item, row_of, seam_of}
+use Rattle.flow_list.specs.Flows.{item_of, no_item, row_of, seam_of, amount}
 use Rattle.flow_list.specs.Fragments.{laid_in_stack}
 use Rattle.flow_list.specs.Placing.{RowLaid, Laid, row, laid_edges}
 use Rattle.flow_list.specs.RowHeights.{balanced_height, columns_of_row, row_height, size_of}
@@ -69,3 +73,56 @@ module _ (d : FlowsData) (bound : Bound) (f : Flow) (k r : ℕ) (lt : k < length
       let Q : ℕ → Type 0 = λ h. Leads at (laid_in_stack d bound f k (Row r) ∷ []) (put (strip_of at) h) new in
       let R : Item → Type 0 = λ item. Leads at (laid_in_stack d bound f k item ∷ []) (put (strip_of at) (height_in_stack d bound item (begins (strip_of at)))) new in
       subst R is (subst Q reached (subst P laid led))
+
+-- ---- an item with the head before it and the tail behind it
+
+leads-three : (a b c e : Placing) (head tail : List Edge) (x : Laid) (s t u : Strip) → Leads a (laid_edges (strip_of a) head) s b → Leads b (x ∷ []) t c → Leads c (laid_edges t tail) u e → Leads a (laid_edges (strip_of a) head ++ x ∷ laid_edges t tail) u e
+leads-three a b c e head tail x s t u l m n =
+    leads-same a e _ _ u u (sym (append_assoc (laid_edges (strip_of a) head) (x ∷ []) (laid_edges t tail))) refl
+    (leads-both a c e (laid_edges (strip_of a) head ++ x ∷ []) (laid_edges t tail) t u (leads-both a b c (laid_edges (strip_of a) head) (x ∷ []) s t l m) n)
+
+module _ (d : FlowsData) (bound : Bound) (f : Flow) (k : ℕ) (a : Placing) (is : strip_of a ≡ before_head d bound f k)
+    (room : (before_head d bound f k).y + (before_head d bound f k).pending + sum_by amount (seam_of f k).head + height_in_stack d bound (item_of f k) (begins (stack_strip d bound f k)) + sum_by amount (seam_of f (k + 1)).tail < 2 ^ 61)
+    (head : List Edge) (whole : head ≡ (seam_of f k).head) where
+  begin-is : a.y + a.margin ≡ (before_head d bound f k).y + (before_head d bound f k).pending
+  begin-is = ap (λ (s : Strip). s.y + s.pending) is
+
+  pub stack-head-room : a.y + a.margin + sum_by amount head < 2 ^ 63
+  stack-head-room = let b = begin-is in let w = ap (sum_by amount) whole in omega arith
+
+  module _ (b : Placing) (led : Leads a (laid_edges (strip_of a) head) (lay_all (strip_of a) head) b) where
+    pub stack-strip : strip_of b ≡ stack_strip d bound f k
+    stack-strip = led.strip ∙ ap (λ s. lay_all s head) is ∙ ap (lay_all (before_head d bound f k)) whole ∙ behind-head d bound f k
+
+    reached : (stack_strip d bound f k).y + (stack_strip d bound f k).pending ≤ (before_head d bound f k).y + (before_head d bound f k).pending + sum_by amount (seam_of f k).head
+    reached = let e = ap (λ (s : Strip). s.y + s.pending) (behind-head d bound f k) in omega (arith, e, lay_all_le (before_head d bound f k) (seam_of f k).head)
+
+    high : height_in_stack d bound (item_of f k) (begins (strip_of b)) ≡ height_in_stack d bound (item_of f k) (begins (stack_strip d bound f k))
+    high = ap (λ (s : Strip). height_in_stack d bound (item_of f k) (begins s)) stack-strip
+
+    pub stack-stand-room : b.y + b.margin + height_in_stack d bound (item_of f k) (begins (strip_of b)) < 2 ^ 63
+    stack-stand-room = let e = ap (λ (s : Strip). s.y + s.pending) stack-strip in let r = reached in let h = high in omega arith
+
+    module _ (c : Placing) (stood : Leads b (laid_in_stack d bound f k (item_of f k) ∷ []) (put (strip_of b) (height_in_stack d bound (item_of f k) (begins (strip_of b)))) c) (tail : List Edge) (whole_tail : tail ≡ (seam_of f (k + 1)).tail) where
+      behind : strip_of c ≡ behind_item d bound f k
+      behind = stood.strip ∙ ap (λ (s : Strip). put s (height_in_stack d bound (item_of f k) (begins s))) stack-strip
+
+      pub stack-tail-room : c.y + c.margin + sum_by amount tail < 2 ^ 63
+      stack-tail-room =
+          let e = ap (λ (s : Strip). s.y + s.pending) behind in
+          let r = reached in
+          let w = ap (sum_by amount) whole_tail in
+          omega (arith, put_le (stack_strip d bound f k) (height_in_stack d bound (item_of f k) (begins (stack_strip d bound f k))))
+
+      pub stack-leads : (e : Placing) → Leads c (laid_edges (strip_of c) tail) (lay_all (strip_of c) tail) e → Leads a (stack_item d bound f k) (before_head d bound f (k + 1)) e
+      stack-leads e ended =
+          let x = laid_in_stack d bound f k (item_of f k) in
+          let P : Strip → Type 0 = λ t. Leads b (x ∷ []) t c in
+          let all = leads-three a b c e head tail x (lay_all (strip_of a) head) (strip_of c) (lay_all (strip_of c) tail) led (subst P (sym stood.strip) stood) ended in
+          let M : Strip → List Edge → Strip → List Edge → Type 0 = λ s hd t tl. Leads a (laid_edges s hd ++ x ∷ laid_edges t tl) (lay_all t tl) e in
+          let Q : Strip → Type 0 = λ u. Leads a (stack_item d bound f k) u e in
+          subst Q (next-head d bound f k)
+          (subst (M (before_head d bound f k) (seam_of f k).head (behind_item d bound f k)) whole_tail
+          (subst (λ t. M (before_head d bound f k) (seam_of f k).head t tail) behind
+          (subst (λ hd. M (before_head d bound f k) hd (strip_of c) tail) whole
+          (subst (λ s. M s head (strip_of c) tail) is all))))

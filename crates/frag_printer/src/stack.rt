@@ -104,6 +104,7 @@ fn lay_stack_item(
     at: &mut Placing,
     k: u32,
 ) -> Result<usize, NoMemory>
+    requires some { 0 < length flows.now.stacks }
     requires stack { stack ≡ stack_of flows.now 0 }
     requires flat { HoldsFlatRows flows.now }
     requires flow { stack.flow < length flows.now.flows }
