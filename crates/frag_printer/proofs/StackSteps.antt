@@ -1,11 +1,19 @@
 -- A stack, item by item, with rows that were laid out.
+use Rattle.frag_printer.proofs.OpenLists.{after-head, after-tail}
+use Rattle.frag_printer.specs.Columns.{opened_by}
+use Rattle.flow_list.proofs.AtomFlows.{one-of}
+use Rattle.flow_list.proofs.OpenBoxes.{across-known}
+use Rattle.flow_list.proofs.Fitting.{open_across-le}
+use Rattle.flow_list.specs.Soundness.{IsSound, IsSoundFlow, flow_height}
+use Rattle.flow_list.specs.ClonedEdges.{open_across, tops, bottoms}
+use Rattle.std.proofs.lemmas.List.Sums.{sum_by-cons}
 use Rattle.frag_printer.specs.StackParts.{before_head, behind_item, stack_item}
-use Rattle.frag_printer.proofs.StackWalk.{behind-head, next-head}
+use Rattle.frag_printer.proofs.StackWalk.{behind-head, next-head, stack_rest, rest-end, rest-more}
 use Rattle.frag_printer.proofs.Gaps.{leads-both, leads-same}
 use Rattle.flow_list.proofs.StripBounds.{put_le, lay_all_le}
-use Rattle.std.proofs.Common.{◌≡◌, ℕ, zero, suc, ◌+◌, ◌-◌, ◌<◌, ◌≤◌, ◌^◌, Bool, true, false, cond, List, [], ◌∷◌, ◌++◌, length, get_or, drop, map, refl, sym, subst, ◌∙◌, ap, arith, Option, Some, ◌⊎◌, inl, inr, append_assoc, sum_by, fold}
+use Rattle.std.proofs.Common.{◌≡◌, ℕ, zero, suc, ◌+◌, ◌-◌, ◌<◌, ◌≤◌, ◌^◌, Bool, true, false, cond, List, [], ◌∷◌, ◌++◌, length, get_or, drop, map, refl, sym, subst, ◌∙◌, ap, arith, Option, Some, ◌⊎◌, inl, inr, append_assoc, sum_by, fold, All}
 use Rattle.std.proofs.lemmas.Bool.{cases_lt}
-use Rattle.std.proofs.lemmas.List.{drop_more}
+use Rattle.std.proofs.lemmas.List.{drop_more, append-nil}
 use Rattle.flow_list.specs.declared.data.Bound.{Bound}
 use Rattle.flow_list.specs.declared.data.Edge.{Edge}
 use Rattle.flow_list.specs.declared.data.FlatRow.{FlatRow}
@@ -13,16 +21,16 @@ use Rattle.flow_list.specs.declared.data.Flow.{Flow}
 use Rattle.flow_list.specs.declared.data.FlowsData.{FlowsData}
 use Rattle.flow_list.specs.declared.data.Item.{Item}
 use Rattle.flow_list.specs.declared.data.Item.TheVariants.{Row}
-use Rattle.flow_list.specs.Flows.{item_of, no_item, row_of, seam_of, amount}
+use Rattle.flow_list.specs.Flows.{item_of, no_item, row_of, seam_of, amount, box_of, boxes_in, flow_of, no_flow}
 use Rattle.flow_list.specs.Fragments.{laid_in_stack}
-use Rattle.flow_list.specs.Placing.{RowLaid, Laid, row, laid_edges}
+use Rattle.flow_list.specs.Placing.{RowLaid, Laid, row, laid_edges, Placed}
 use Rattle.flow_list.specs.RowHeights.{balanced_height, columns_of_row, row_height, size_of}
 use Rattle.flow_list.specs.Stacks.{available_at, available_to, height_in_stack, stack_strip}
 use Rattle.flow_list.specs.Strip.{Strip, begins, put, lay_all}
 use Rattle.flow_list.specs.Tokens.{row_start}
 use Rattle.frag_printer.specs.declared.placing.Placing.{Placing}
 use Rattle.frag_printer.specs.FlatRows.{ends_before, flat_rows_from}
-use Rattle.frag_printer.specs.Placing.{Leads, row_stands, strip_of}
+use Rattle.frag_printer.specs.Placing.{Leads, row_stands, strip_of, with_more}
 
 drop-past : {A : Type 0} (xs : List A) (n : ℕ) → length xs ≤ n → drop n xs ≡ []
 drop-past [] zero le = refl
@@ -126,3 +134,46 @@ module _ (d : FlowsData) (bound : Bound) (f : Flow) (k : ℕ) (a : Placing) (is 
           (subst (λ t. M (before_head d bound f k) (seam_of f k).head t tail) behind
           (subst (λ hd. M (before_head d bound f k) hd (strip_of c) tail) whole
           (subst (λ s. M s head (strip_of c) tail) is all))))
+
+-- ---- the end
+
+module _ (d : FlowsData) (bound : Bound) (f : Flow) (k n : ℕ) (le : n ≤ k) (a b : Placing) (is : strip_of a ≡ before_head d bound f k) (head : List Edge) (whole : head ≡ (seam_of f k).head) (led : Leads a (laid_edges (strip_of a) head) (lay_all (strip_of a) head) b) where
+  pub stack-ends : (ps : List Placed) → with_more a (stack_rest d bound f k (n - k)) ≡ ps → with_more b [] ≡ ps
+  stack-ends ps h =
+      let none : n - k ≡ 0 = omega arith in
+      let head_laid : stack_rest d bound f k (n - k) ≡ laid_edges (strip_of a) head ++ [] =
+      ap (stack_rest d bound f k) none ∙ rest-end d bound f k ∙ sym (ap (λ s. laid_edges s head) is ∙ ap (laid_edges (before_head d bound f k)) whole) ∙ sym (append-nil (laid_edges (strip_of a) head)) in
+      sym (led.places []) ∙ sym (ap (with_more a) head_laid) ∙ h
+
+  pub end-strip : strip_of b ≡ stack_strip d bound f k
+  end-strip = led.strip ∙ ap (λ s. lay_all s head) is ∙ ap (lay_all (before_head d bound f k)) whole ∙ behind-head d bound f k
+
+pub stack-goes : (d : FlowsData) (bound : Bound) (f : Flow) (k n : ℕ) → k < n → (a b : Placing) (s : Strip) → Leads a (stack_item d bound f k) s b → (ps : List Placed) → with_more a (stack_rest d bound f k (n - k)) ≡ ps → with_more b (stack_rest d bound f (k + 1) (n - (k + 1))) ≡ ps
+stack-goes d bound f k n lt a b s led ps h =
+    let less : n - k ≡ suc (n - (k + 1)) = omega arith in
+    sym (led.places (stack_rest d bound f (k + 1) (n - (k + 1)))) ∙ sym (ap (λ m. with_more a (stack_rest d bound f k m)) less ∙ ap (with_more a) (rest-more d bound f k (n - (k + 1)))) ∙ h
+
+-- the boxes that are open, item by item
+pub stack-across : (d : FlowsData) (f : Flow) (sound : IsSoundFlow d f) (k : ℕ) → k < length f.items → (boxes next : List ℕ) → boxes ≡ open_across f k → next ≡ fold opened_by (fold opened_by boxes (seam_of f k).head) (seam_of f (k + 1)).tail → next ≡ open_across f (k + 1)
+stack-across d f sound k lt boxes next is passed =
+    let count = sound.seam_count in
+    passed ∙ ap (λ bs. fold opened_by (fold opened_by bs (seam_of f k).head) (seam_of f (k + 1)).tail) is
+    ∙ ap (λ bs. fold opened_by bs (seam_of f (k + 1)).tail) (after-head d f sound k (omega arith)) ∙ after-tail d f sound k (omega arith)
+
+-- what the boxes of a flow have above or below again is within all heights
+module _ (d : FlowsData) (n : ℕ) (sound : IsSound d) (lt : n < length d.flows) where
+  heights-bound : sum_by (λ b. (box_of d b).top + (box_of d b).bottom) (boxes_in (flow_of d n)) < 2 ^ 60
+  heights-bound = let h = sound.heights in omega (arith, one-of (flow_height d) d.flows n no_flow lt)
+
+  sums : (bs : List ℕ) → tops d bs + bottoms d bs ≡ sum_by (λ b. (box_of d b).top + (box_of d b).bottom) bs
+  sums [] = refl
+  sums (b ∷ bs) = omega (arith, sums bs, sum_by-cons (λ b. (box_of d b).top) b bs, sum_by-cons (λ b. (box_of d b).bottom) b bs, sum_by-cons (λ b. (box_of d b).top + (box_of d b).bottom) b bs)
+
+  pub tops-low : (k : ℕ) (boxes : List ℕ) → boxes ≡ open_across (flow_of d n) k → tops d boxes < 2 ^ 60
+  tops-low k boxes is = rw is (omega (arith, heights-bound, sums (boxes_in (flow_of d n)), open_across-le (λ b. (box_of d b).top) (flow_of d n) k))
+
+  pub bottoms-low : (k : ℕ) (boxes : List ℕ) → boxes ≡ open_across (flow_of d n) k → bottoms d boxes < 2 ^ 60
+  bottoms-low k boxes is = rw is (omega (arith, heights-bound, sums (boxes_in (flow_of d n)), open_across-le (λ b. (box_of d b).bottom) (flow_of d n) k))
+
+  pub boxes-known : (k : ℕ) (boxes : List ℕ) → boxes ≡ open_across (flow_of d n) k → All (λ b. b < length d.boxes) boxes
+  boxes-known k boxes is = rw is (across-known d (flow_of d n) (sound.flows n no_flow lt) k)
