@@ -11,7 +11,7 @@ use Rattle.flow_list.specs.Soundness.{IsSound}
 use Rattle.flow_list.specs.Stacks.{height_in_stack, stack_extent, stack_strip}
 use Rattle.flow_list.specs.Strip.{begins}
 use Rattle.frag_printer.specs.FlatRows.{HoldsFlatRows, IsPlacedInStack}
-use Rattle.frag_printer.specs.Parts.{feet_in}
+use Rattle.frag_printer.specs.Parts.{feet_in, opens_in}
 use Rattle.frag_printer.specs.StackParts.{before_head, stack_places}
 
 abbrev pub HasItemRoom : FlowsData → Stack → ℕ → Type 0
@@ -33,6 +33,7 @@ pub record IsKnownStack (d : FlowsData) (s : Stack) : Type 0 where
   pub known : Each (IsPlacedInStack d (flow_of d s.flow)) (stack_places d 0)
   pub low : Each (λ p. place_of p < 2 ^ 61) (stack_places d 0)
   pub feet : sum_by (feet_in d) (stack_places d 0) < 2 ^ 61
+  pub opens : sum_by opens_in (stack_places d 0) < 2 ^ 61
 
 zero-known : (d : FlowsData) → IsSound d → 0 < length d.stacks → HoldsFlatRows d → IsKnownStack d (stack_of d 0)
 zero-known d sound some flat = ?
