@@ -1,0 +1,42 @@
+-- What stands in stack 0 leaves room, and names what there is.
+use Rattle.std.proofs.Common.{◌≡◌, ℕ, ◌+◌, ◌<◌, ◌≤◌, ◌^◌, length, sum_by, sym, subst}
+use Rattle.std.specs.List.{AllByRecursion as Each}
+use Rattle.flow_list.specs.declared.data.Bound.{Bound}
+use Rattle.flow_list.specs.declared.data.Flow.{Flow}
+use Rattle.flow_list.specs.declared.data.FlowsData.{FlowsData}
+use Rattle.flow_list.specs.declared.data.Stack.{Stack}
+use Rattle.flow_list.specs.Flows.{amount, flow_of, item_of, seam_of, stack_of}
+use Rattle.flow_list.specs.Fragments.{place_of}
+use Rattle.flow_list.specs.Soundness.{IsSound}
+use Rattle.flow_list.specs.Stacks.{height_in_stack, stack_extent, stack_strip}
+use Rattle.flow_list.specs.Strip.{begins}
+use Rattle.frag_printer.specs.FlatRows.{HoldsFlatRows, IsPlacedInStack}
+use Rattle.frag_printer.specs.Parts.{feet_in, opens_in}
+use Rattle.frag_printer.specs.StackParts.{before_head, stack_places}
+
+abbrev pub HasItemRoom : FlowsData → Stack → ℕ → Type 0
+HasItemRoom d s k =
+    let f = flow_of d s.flow in
+    let b = before_head d s.bound f k in
+    b.y + b.pending + sum_by amount (seam_of f k).head + height_in_stack d s.bound (item_of f k) (begins (stack_strip d s.bound f k)) + sum_by amount (seam_of f (k + 1)).tail < 2 ^ 61
+
+abbrev pub HasEndRoom : FlowsData → Stack → Type 0
+HasEndRoom d s =
+    let f = flow_of d s.flow in
+    let b = before_head d s.bound f (length f.items) in
+    b.y + b.pending + sum_by amount (seam_of f (length f.items)).head < 2 ^ 61
+
+pub record IsKnownStack (d : FlowsData) (s : Stack) : Type 0 where
+  pub item_room : (k : ℕ) → k < length (flow_of d s.flow).items → HasItemRoom d s k
+  pub end_room : HasEndRoom d s
+  pub extent : stack_extent d s.bound (flow_of d s.flow) < 2 ^ 61
+  pub known : Each (IsPlacedInStack d (flow_of d s.flow)) (stack_places d 0)
+  pub low : Each (λ p. place_of p < 2 ^ 61) (stack_places d 0)
+  pub feet : sum_by (feet_in d) (stack_places d 0) < 2 ^ 61
+  pub opens : sum_by opens_in (stack_places d 0) < 2 ^ 61
+
+zero-known : (d : FlowsData) → IsSound d → 0 < length d.stacks → HoldsFlatRows d → IsKnownStack d (stack_of d 0)
+zero-known d sound some flat = ?
+
+pub stack-known : (d : FlowsData) → IsSound d → 0 < length d.stacks → HoldsFlatRows d → (s : Stack) → s ≡ stack_of d 0 → IsKnownStack d s
+stack-known d sound some flat s is = let P : Stack → Type 0 = IsKnownStack d in subst P (sym is) (zero-known d sound some flat)
