@@ -19,5 +19,7 @@ pub mod Rowless
 pub mod SoFar
 pub mod StackKnown
 pub mod StackLines
+pub mod StackNames
+pub mod StackRoom
 pub mod StackSteps
 pub mod StackWalk

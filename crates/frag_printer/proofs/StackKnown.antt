@@ -1,8 +1,6 @@
 -- What stands in stack 0 leaves room, and names what there is.
-use Rattle.std.proofs.Common.{◌≡◌, ℕ, ◌+◌, ◌<◌, ◌≤◌, ◌^◌, length, sum_by, sym, subst}
+use Rattle.std.proofs.Common.{◌≡◌, ℕ, ◌+◌, ◌<◌, ◌^◌, length, sum_by, sym, subst, arith}
 use Rattle.std.specs.List.{AllByRecursion as Each}
-use Rattle.flow_list.specs.declared.data.Bound.{Bound}
-use Rattle.flow_list.specs.declared.data.Flow.{Flow}
 use Rattle.flow_list.specs.declared.data.FlowsData.{FlowsData}
 use Rattle.flow_list.specs.declared.data.Stack.{Stack}
 use Rattle.flow_list.specs.Flows.{amount, flow_of, item_of, seam_of, stack_of}
@@ -13,6 +11,8 @@ use Rattle.flow_list.specs.Strip.{begins}
 use Rattle.frag_printer.specs.FlatRows.{HoldsFlatRows, IsPlacedInStack}
 use Rattle.frag_printer.specs.Parts.{feet_in, opens_in}
 use Rattle.frag_printer.specs.StackParts.{before_head, stack_places}
+use Rattle.frag_printer.proofs.StackNames.{feet-in_stack, known-in_stack, opens-in_stack}
+use Rattle.frag_printer.proofs.StackRoom.{bottoms-le, end-room, extent-low, heights-total, item-room, places-low, row_total, whole-small}
 
 abbrev pub HasItemRoom : FlowsData → Stack → ℕ → Type 0
 HasItemRoom d s k =
@@ -36,7 +36,19 @@ pub record IsKnownStack (d : FlowsData) (s : Stack) : Type 0 where
   pub opens : sum_by opens_in (stack_places d 0) < 2 ^ 61
 
 zero-known : (d : FlowsData) → IsSound d → 0 < length d.stacks → HoldsFlatRows d → IsKnownStack d (stack_of d 0)
-zero-known d sound some flat = ?
+zero-known d sound some flat =
+    let f = flow_of d (stack_of d 0).flow in
+    let bound = (stack_of d 0).bound in
+    let small = whole-small d sound some in
+    record {
+      item_room = λ k lt. let room = item-room d f (row_total d) bound (heights-total d) k in omega arith;
+      end_room = let room = end-room d f (row_total d) bound (heights-total d) in omega arith;
+      extent = extent-low d sound some;
+      known = known-in_stack d sound some flat;
+      low = places-low d sound some;
+      feet = let feet = feet-in_stack d sound some flat in let all = bottoms-le d f (row_total d) bound (heights-total d) in omega arith;
+      opens = let opens = opens-in_stack d sound some flat in let few = sound.box_count in omega arith;
+    }
 
 pub stack-known : (d : FlowsData) → IsSound d → 0 < length d.stacks → HoldsFlatRows d → (s : Stack) → s ≡ stack_of d 0 → IsKnownStack d s
 stack-known d sound some flat s is = let P : Stack → Type 0 = IsKnownStack d in subst P (sym is) (zero-known d sound some flat)
