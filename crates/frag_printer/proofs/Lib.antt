@@ -20,4 +20,5 @@ pub mod SoFar
 pub mod StackKnown
 pub mod StackLines
 pub mod StackSteps
+pub mod StackText
 pub mod StackWalk
