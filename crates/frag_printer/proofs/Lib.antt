@@ -22,4 +22,5 @@ pub mod StackLines
 pub mod StackNames
 pub mod StackRoom
 pub mod StackSteps
+pub mod StackText
 pub mod StackWalk
