@@ -11,7 +11,7 @@ use Rattle.frag_printer.specs.StackParts.{before_head, behind_item, stack_item}
 use Rattle.frag_printer.proofs.StackWalk.{behind-head, next-head, stack_rest, rest-end, rest-more}
 use Rattle.frag_printer.proofs.Gaps.{leads-both, leads-same}
 use Rattle.flow_list.proofs.StripBounds.{put_le, lay_all_le}
-use Rattle.std.proofs.Common.{◌≡◌, ℕ, zero, suc, ◌+◌, ◌-◌, ◌<◌, ◌≤◌, ◌^◌, Bool, true, false, cond, List, [], ◌∷◌, ◌++◌, length, get_or, drop, map, refl, sym, subst, ◌∙◌, ap, arith, Option, Some, ◌⊎◌, inl, inr, append_assoc, sum_by, fold, All}
+use Rattle.std.proofs.Common.{◌≡◌, ℕ, zero, suc, ◌+◌, ◌-◌, ◌<◌, ◌≤◌, ◌^◌, Bool, true, false, cond, List, [], ◌∷◌, ◌++◌, length, get_or, drop, refl, sym, subst, ◌∙◌, ap, arith, Option, Some, ◌⊎◌, inl, inr, append_assoc, sum_by, fold, All}
 use Rattle.std.proofs.lemmas.Bool.{cases_lt}
 use Rattle.std.proofs.lemmas.List.{drop_more, append-nil}
 use Rattle.flow_list.specs.declared.data.Bound.{Bound}
@@ -23,7 +23,7 @@ use Rattle.flow_list.specs.declared.data.Item.{Item}
 use Rattle.flow_list.specs.declared.data.Item.TheVariants.{Row}
 use Rattle.flow_list.specs.Flows.{item_of, no_item, row_of, seam_of, amount, box_of, boxes_in, flow_of, no_flow}
 use Rattle.flow_list.specs.Fragments.{laid_in_stack}
-use Rattle.flow_list.specs.Placing.{RowLaid, Laid, row, laid_edges, Placed}
+use Rattle.flow_list.specs.Placing.{Laid, row, laid_edges, Placed}
 use Rattle.flow_list.specs.RowHeights.{balanced_height, columns_of_row, row_height, size_of}
 use Rattle.flow_list.specs.Stacks.{available_at, available_to, height_in_stack, stack_strip}
 use Rattle.flow_list.specs.Strip.{Strip, begins, put, lay_all}

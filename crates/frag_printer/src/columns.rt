@@ -49,7 +49,12 @@ fn pass_edge(boxes: &mut Vec<u32>, edge: Edge) -> Result<(), NoMemory>
 
 /// The boxes that continue at a column's top, each below the upper cloned edges of those around it
 /// (CSS Fragmentation 3, section 5.4), and how far down these edges reach.
-pub fn continued(alloc: Global, flows: &Flows, boxes: &[u32], drops: bool) -> Result<Placing, NoMemory>
+pub fn continued(
+    alloc: Global,
+    flows: &Flows,
+    boxes: &[u32],
+    drops: bool,
+) -> Result<Placing, NoMemory>
     requires known { All (λ b. b < length flows.now.boxes) boxes.now }
     requires room { tops flows.now boxes.now < 2 ^ 63 }
     ensures placed { IfOk result (λ p. map placed_as p.placed.items ≡ continued_from flows.now 0 boxes.now) }

@@ -33,12 +33,7 @@ fn available_in(bound: Bound, y: Units) -> Option<Units>
 }
 
 /// The height of the columns of a row of this height: with `column-fill: auto` what is available.
-fn columns_height(
-    flows: &Flows,
-    row: u32,
-    height: Units,
-    available: Option<Units>,
-) -> Option<Units>
+fn columns_height(flows: &Flows, row: u32, height: Units, available: Option<Units>) -> Option<Units>
     requires { row < length flows.now.rows }
     ensures { result ≡ cond (row_of flows.now row).auto available (Some height) }
 {

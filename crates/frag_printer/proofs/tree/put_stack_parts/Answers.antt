@@ -1,4 +1,4 @@
-use Rattle.std.proofs.Common.{◌≡◌, ◌+◌, ◌≤◌, ◌∷◌, ◌++◌, ◌∙◌, ap, sym, arith, drop, get_or, false, None, sum_by}
+use Rattle.std.proofs.Common.{◌+◌, ◌++◌, ◌∙◌, ap, sym, arith, drop, false, None}
 use Rattle.std.proofs.lemmas.List.{drop_more}
 use Rattle.std.proofs.lemmas.List.Sums.{sum_by-drop_more}
 use Rattle.flow_list.specs.Flows.{flow_of}
@@ -6,7 +6,6 @@ use Rattle.flow_list.specs.TreeText.{tree_text}
 use Rattle.frag_printer.specs.declared.parts.Part.TheVariants.{Opens}
 use Rattle.frag_printer.specs.PartLines.{part_lines}
 use Rattle.frag_printer.specs.Parts.{feet_of, frame_of, no_stacks, opens_of}
-use Rattle.frag_printer.specs.StackLines.{row_parts}
 use Rattle.frag_printer.proofs.StackText.{rows-next}
 use Rattle.frag_printer.proofs.tree.put_stack_parts.Goals as goal
 

@@ -1,4 +1,4 @@
-use Rattle.std.proofs.Common.{◌≡◌, ◌+◌, ◌<◌, ◌≤◌, ◌^◌, ◌∙◌, ap, arith, length}
+use Rattle.std.proofs.Common.{◌<◌, ◌∙◌, ap, arith, length}
 use Rattle.frag_printer.specs.Parts.{parts_of}
 use Rattle.frag_printer.proofs.StackKnown.{stack-known}
 use Rattle.frag_printer.proofs.StackText.{parts-known, parts-open, parts-feet, parts-rows, stack-text}
