@@ -9,8 +9,6 @@ pub mod Gaps
 pub mod NestedAcross
 pub mod NestedLaid
 pub mod NestedPlaces
-pub mod OneFlat
-pub mod OneRow
 pub mod OpenLists
 pub mod PartLines
 pub mod PlacedKnown

@@ -46,10 +46,6 @@ flat_row_lines d depth frame y flat =
     record { depth = depth; kind = row flat.row row_start; x = frame.x + (row_of d flat.row).x; y = frame.y + y; w = row_width (row_of d flat.row); h = flat.height }
     ∷ columns_lines (row_fragments d (length d.rows)) d no_stacks (row_of d flat.row) depth frame y flat.height 0 0 flat.ends
 
--- the flow of a stack that holds this row and nothing else
-abbrev pub row_alone : ℕ → Flow
-row_alone r = record { opened = []; items = Row r ∷ []; seams = no_seam ∷ no_seam ∷ [] }
-
 -- the row that is placed there, as it was laid out
 abbrev pub row_placed : FlowsData → Placed → List FlatRow
 row_placed d (opens_at b y starts) = []
