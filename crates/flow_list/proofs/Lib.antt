@@ -1,13 +1,9 @@
 pub mod AtomFlows
-pub mod Digits
 pub mod EdgeSums
-pub mod Fields
 pub mod Fitting
 pub mod LeastHeight
 pub mod OpenBoxes
-pub mod PiecesLoop
-pub mod PlainLaws
-pub mod PlainSound
+pub mod OuterFlow
 mod SoundExamples
 pub mod StripBounds
 pub mod Walk

@@ -13,7 +13,7 @@ use Rattle.flow_list.specs.declared.data.Item.TheVariants.{Atom, Row}
 use Rattle.flow_list.specs.declared.data.Seam.{Seam}
 use Rattle.flow_list.specs.Flows.{no_seam, no_flow, flow_of, row_of, box_of, open_at}
 use Rattle.flow_list.specs.Soundness.{IsSoundItem, IsSoundSeam, IsSoundFlow, IsSoundRow, IsSoundStack, IsSound, NestsAtMost, Held, FitsAcross, item_x}
-use Rattle.flow_list.proofs.PlainSound.{outer_sound, each_of_one, each_of_two, all_from_one}
+use Rattle.flow_list.proofs.OuterFlow.{outer_sound, each_of_one, each_of_two, all_from_one}
 
 -- stack 0 holds row 0, whose flow is a line between these two seams
 abbrev line_in : List Edge → List Edge → FlowsData

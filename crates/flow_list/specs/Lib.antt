@@ -4,12 +4,11 @@ pub mod ClonedEdges
 pub mod Column
 pub mod Counts
 pub mod Flows
+pub mod FileFlows
 pub mod Fragments
 pub mod Looks
 pub mod Placing
-pub mod Plain
 pub mod Ranges
-pub mod Reading
 pub mod ResultText
 pub mod RowHeights
 pub mod Rows

@@ -7,7 +7,6 @@
 
 mod data;
 mod flows;
-mod plain;
 mod read;
 mod tally;
 
@@ -20,6 +19,3 @@ pub use flows::{
 };
 pub use read::read_flow;
 pub use tally::{Counts, Tally};
-
-#[cfg(test)]
-mod tests;
