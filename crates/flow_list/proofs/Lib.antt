@@ -1,4 +1,5 @@
 pub mod AtomFlows
+pub mod Built
 pub mod EdgeSums
 pub mod Fitting
 pub mod LeastHeight
