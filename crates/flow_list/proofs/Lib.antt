@@ -1,5 +1,6 @@
 pub mod AtomFlows
 pub mod EdgeSums
+pub mod FileLimits
 pub mod Fitting
 pub mod LeastHeight
 pub mod OpenBoxes
