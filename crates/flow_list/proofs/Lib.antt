@@ -1,6 +1,7 @@
 pub mod AtomFlows
 pub mod EdgeSums
 pub mod FileLimits
+pub mod FilePlaces
 pub mod Fitting
 pub mod LeastHeight
 pub mod OpenBoxes
