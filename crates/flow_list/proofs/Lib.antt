@@ -1,6 +1,8 @@
 pub mod AtomFlows
 pub mod EdgeSums
 pub mod FileLimits
+pub mod FileNests
+pub mod FileNumbers
 pub mod FilePlaces
 pub mod Fitting
 pub mod LeastHeight
