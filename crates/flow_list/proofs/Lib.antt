@@ -1,9 +1,11 @@
 pub mod AtomFlows
 pub mod EdgeSums
+pub mod FileAcross
 pub mod FileLimits
 pub mod FileNests
 pub mod FileNumbers
 pub mod FilePlaces
+pub mod FileSums
 pub mod Fitting
 pub mod LeastHeight
 pub mod OpenBoxes
