@@ -1,5 +1,5 @@
 -- Flows whose atoms are plain: they name no stack, and nothing stands far from the left.
-use Rattle.std.proofs.Common.{◌≡◌, ℕ, zero, suc, ◌+◌, ◌-◌, ◌*◌, ◌^◌, ◌<◌, ◌≤◌, false, List, [], ◌∷◌, ◌++◌, length, get_or, refl, sym, ap, ◌∙◌, subst, arith, inl, inr, ◌⊎◌, All}
+use Rattle.std.proofs.Common.{◌≡◌, ℕ, zero, suc, ◌+◌, ◌*◌, ◌^◌, ◌<◌, ◌≤◌, false, List, [], ◌∷◌, ◌++◌, length, get_or, refl, sym, subst, arith, inl, inr, ◌⊎◌, All}
 use Rattle.std.specs.Prelude.{⊤, flat_map}
 use Rattle.std.proofs.lemmas.Bool.{cases_lt}
 use Rattle.std.proofs.lemmas.List.{get_or_past}
@@ -12,9 +12,9 @@ use Rattle.flow_list.specs.declared.data.FlowsData.{FlowsData}
 use Rattle.flow_list.specs.declared.data.Item.{Item}
 use Rattle.flow_list.specs.declared.data.Item.TheVariants.{Atom, Row}
 use Rattle.flow_list.specs.declared.data.RowInfo.{RowInfo}
-use Rattle.flow_list.specs.Flows.{no_flow, no_row, flow_of, row_of, box_of, boxes_in}
-use Rattle.flow_list.specs.FileFlows.{row_count, items_from, row_flow, rows_from, flows_from}
-use Rattle.flow_list.specs.Soundness.{IsSoundRow, stack_in, stacks_in, item_x, Held, held_in, FitsAcross, flows_within}
+use Rattle.flow_list.specs.Flows.{no_flow, no_row, flow_of, row_of, boxes_in}
+use Rattle.flow_list.specs.FileFlows.{outer_flow, row_count, items_from, row_flow, rows_from, flows_from}
+use Rattle.flow_list.specs.Soundness.{IsSoundRow, stack_in, stacks_in, item_x, Held, held_in, FitsAcross}
 use Rattle.flow_list.proofs.FileLimits.{IsLow}
 use Rattle.flow_list.proofs.FileSums.{IsLowBox, box_is_low}
 
@@ -51,6 +51,9 @@ plain_flows (row at n w step x content ended rest) k =
     let next = suc k + row_count content in
     All-cons IsPlainFlow (row_flow (suc k) content) (flows_from (suc k) content ++ flows_from next rest) (plain_items content (suc k))
     (All-append IsPlainFlow (flows_from (suc k) content) (flows_from next rest) (plain_flows content (suc k)) (plain_flows rest next))
+
+pub outer_plain : IsPlainFlow outer_flow
+outer_plain = All-cons IsPlainItem (Row 0) [] tt (All-nil _)
 
 pub all_plain : (outer : Flow) (rest : Rest) (k : ℕ) → IsPlainFlow outer → All IsPlainFlow (outer ∷ row_flow k rest ∷ flows_from k rest)
 all_plain outer rest k h =
@@ -166,8 +169,8 @@ across d boxes rows flows (suc n) left f lt =
       λ k e below. let b = box_is_low d boxes (get_or (boxes_in flow) k e) in omega (arith, b.0),
       λ k e below. let x = near_item d rows (get_or flow.items k e) (All-get_or IsPlainItem flow.items k e below plain) in omega arith,
       λ k e below.
-        let held = flat_map (held_in d) flow.items in
-        let h = get_or held k e in
-        let x = All-get_or (λ (h : Held). h.x ≤ 2 ^ 24) held k e below (all_held d rows flow.items plain) in
-        across d boxes rows flows n (left + h.x) h.flow (omega arith),
+          let held = flat_map (held_in d) flow.items in
+          let h = get_or held k e in
+          let x = All-get_or (λ (h : Held). h.x ≤ 2 ^ 24) held k e below (all_held d rows flow.items plain) in
+          across d boxes rows flows n (left + h.x) h.flow (omega arith),
     )

@@ -5,6 +5,7 @@ pub mod FileLimits
 pub mod FileNests
 pub mod FileNumbers
 pub mod FilePlaces
+pub mod FileSound
 pub mod FileSums
 pub mod Fitting
 pub mod LeastHeight
