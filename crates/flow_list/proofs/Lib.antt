@@ -1,6 +1,13 @@
 pub mod AtomFlows
 pub mod Built
 pub mod EdgeSums
+pub mod FileAcross
+pub mod FileLimits
+pub mod FileNests
+pub mod FileNumbers
+pub mod FilePlaces
+pub mod FileSound
+pub mod FileSums
 pub mod Fitting
 pub mod LeastHeight
 pub mod OpenBoxes
