@@ -1,5 +1,7 @@
 pub mod AtomFlows
 pub mod EdgeSums
+pub mod FileKnown
+pub mod FileSeams
 pub mod Fitting
 pub mod LeastHeight
 pub mod OpenBoxes
