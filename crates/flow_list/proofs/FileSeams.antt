@@ -119,10 +119,10 @@ pub below_more : (k m : ℕ) (boxes : List ℕ) → k ≤ m → Below k boxes �
 below_more k m [] le h = tt
 below_more k m (b ∷ boxes) le h = let lt = h.0 in (omega arith, below_more k m boxes le h.1)
 
-same_boxes : (a b : List ℕ) → Some a ≡ Some b → a ≡ b
+pub same_boxes : (a b : List ℕ) → Some a ≡ Some b → a ≡ b
 same_boxes a b e = cc
 
-ended_open : (number : ℕ) (opened next : List ℕ) (k : ℕ) → boxes_behind (forms.End number) true opened ≡ Some next → Below k opened → (number < k) × Below k next
+pub ended_open : (number : ℕ) (opened next : List ℕ) (k : ℕ) → boxes_behind (forms.End number) true opened ≡ Some next → Below k opened → (number < k) × Below k next
 ended_open number [] next k e h = absurd cc
 ended_open number (b ∷ opened) next k e h = go (eqb b number) refl e
   where

@@ -1,6 +1,7 @@
 pub mod AtomFlows
 pub mod EdgeSums
 pub mod FileKnown
+pub mod FileNested
 pub mod FileSeams
 pub mod Fitting
 pub mod LeastHeight
