@@ -1,7 +1,12 @@
 pub mod AtomFlows
 pub mod EdgeSums
+pub mod FileFlowSound
 pub mod FileKnown
+pub mod FileLimits
 pub mod FileNested
+pub mod FileNests
+pub mod FileNumbers
+pub mod FilePlaces
 pub mod FileSeams
 pub mod Fitting
 pub mod LeastHeight
