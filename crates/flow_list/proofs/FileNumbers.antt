@@ -1,5 +1,5 @@
 -- Each number of a row of a flow file stands once: in an item, and in the list of rows.
-use Rattle.std.proofs.Common.{◌≡◌, ℕ, suc, ◌+◌, ◌-◌, ◌<◌, ◌≤◌, min, eqb, cond, Bool, true, false, List, ◌∷◌, ◌++◌, map, refl, ap, ◌∙◌, subst, arith}
+use Rattle.std.proofs.Common.{◌≡◌, ℕ, suc, ◌+◌, ◌-◌, ◌<◌, ◌≤◌, min, eqb, cond, Bool, true, false, List, [], ◌∷◌, ◌++◌, map, refl, sym, ap, ◌∙◌, subst, arith, sum_by}
 use Rattle.std.specs.Prelude.{flat_map}
 use Rattle.std.proofs.lemmas.Bool.{eqb-true, eqb-false}
 use Rattle.std.proofs.lemmas.List.{map-append}
@@ -62,7 +62,7 @@ count-rows_in j (row at n w step x content ended rest) k =
     let f1 = flat_map rows_in (flows_from (suc k) content) in
     let f2 = flat_map rows_in (flows_from next rest) in
     let split : count_of j (flat_map rows_in (flows_from (suc k) content ++ flows_from next rest)) ≡ count_of j f1 + count_of j f2 =
-    ap (count_of j) (flat_map-append rows_in (flows_from (suc k) content) (flows_from next rest)) ∙ count-append j f1 f2 in
+        ap (count_of j) (flat_map-append rows_in (flows_from (suc k) content) (flows_from next rest)) ∙ count-append j f1 f2 in
     let all = count-append j (own_rows (suc k) content) (flat_map rows_in (flows_from (suc k) content ++ flows_from next rest)) in
     let parts = in_parts j k (row_count content) (row_count rest) in
     omega arith
@@ -84,7 +84,7 @@ count-flow_numbers j (row at n w step x content ended rest) k =
     let r2 = rows_from next rest in
     let first = count-cons j (suc k) (flow_numbers (r1 ++ r2)) in
     let split : count_of j (flow_numbers (r1 ++ r2)) ≡ count_of j (flow_numbers r1) + count_of j (flow_numbers r2) =
-    ap (count_of j) (map-append (λ (r : RowInfo). r.flow) r1 r2) ∙ count-append j (flow_numbers r1) (flow_numbers r2) in
+        ap (count_of j) (map-append (λ (r : RowInfo). r.flow) r1 r2) ∙ count-append j (flow_numbers r1) (flow_numbers r2) in
     adding _ _ _ _ _ _ _ _ first split inside behind (in_parts j (suc k) (row_count content) (row_count rest))
 
 pub in-once : (j k n : ℕ) → k ≤ j → j < k + n → times_in j k n ≡ 1
