@@ -48,10 +48,10 @@ pub record IsWithinLimits (text : List ℕ) (file : FlowFile) : Type 0 where
 
 -- ---- lines
 
-abbrev IsLowForm : Form → Type 0
+abbrev pub IsLowForm : Form → Type 0
 IsLowForm form = AreLow (numbers form) × AllByRecursion (λ n. n ≤ 32) (columns form) × AllByRecursion (λ n. 0 < n) (columns form)
 
-abbrev AreLowLines : List Line → Type 0
+abbrev pub AreLowLines : List Line → Type 0
 AreLowLines [] = ⊤
 AreLowLines (l ∷ lines) = IsLowForm l.form × AreLowLines lines
 
@@ -80,14 +80,14 @@ some_columns (forms.Row n w step x) text h = (h.0, tt)
 some_columns (forms.Break level) text h = tt
 some_columns forms.Close text h = tt
 
-low_lines : (lines : List Line) (at : ℕ) (text : List ℕ) → IsText at lines text → first_long lines ≡ None → first_wide lines ≡ None → AreLowLines lines
+pub low_lines : (lines : List Line) (at : ℕ) (text : List ℕ) → IsText at lines text → first_long lines ≡ None → first_wide lines ≡ None → AreLowLines lines
 low_lines [] at text h long wide = tt
 low_lines (l ∷ lines) at text h long wide =
     let longs = neither (long_in l.form) (first_long lines) long in
     let wides = neither (wide_in l.form) (first_wide lines) wide in
     ((none_above (2 ^ 24) (numbers l.form) longs.0, none_above 32 (columns l.form) wides.0, some_columns l.form h.1 h.3), low_lines lines (at + length h.1 + 1) h.2 h.5 longs.1 wides.1)
 
-line_count : (lines : List Line) (at : ℕ) (text : List ℕ) → IsText at lines text → length lines ≤ length text
+pub line_count : (lines : List Line) (at : ℕ) (text : List ℕ) → IsText at lines text → length lines ≤ length text
 line_count [] at text h = omega arith
 line_count (l ∷ lines) at text h =
     let rest = line_count lines (at + length h.1 + 1) h.2 h.5 in
@@ -119,12 +119,12 @@ low_w n w step (Some a) auto h = (h.0.1.0, h.0.1.1.0)
 
 -- ---- the limits
 
-record PassesNone (lines : List Line) : Type 0 where
-  long : first_long lines ≡ None
-  wide : first_wide lines ≡ None
-  deep : is_deep 0 lines ≡ false
-  many : ltb 100000 (items lines) ≡ false
-  crowded : has_crowded_row no_counts lines ≡ false
+pub record PassesNone (lines : List Line) : Type 0 where
+  pub long : first_long lines ≡ None
+  pub wide : first_wide lines ≡ None
+  pub deep : is_deep 0 lines ≡ false
+  pub many : ltb 100000 (items lines) ≡ false
+  pub crowded : has_crowded_row no_counts lines ≡ false
 
 not_long : (a : Option ℕ) (other : Option Refusal) → or_long a other ≡ None → (a ≡ None) × (other ≡ None)
 not_long None other h = (refl, h)
@@ -149,7 +149,7 @@ not_many n other h = go (ltb 100000 n) refl h
     go false e h = (e, h)
     go true e h = absurd cc
 
-passes_none : (lines : List Line) → limit_passed lines ≡ None → PassesNone lines
+pub passes_none : (lines : List Line) → limit_passed lines ≡ None → PassesNone lines
 unfolding limit_passed
 passes_none lines h =
     let many = or_many (items lines) (or_crowded (has_crowded_row no_counts lines)) in

@@ -4,6 +4,7 @@ ghost use Rattle.std.specs.Prelude.{◌≡◌, ◌^◌, ◌≤◌, ◌⊎◌, le
 ghost use Rattle.flow_text.specs.Grammar.{FlowFile};
 ghost use Rattle.flow_list.specs.FileFlows.{IsFile, RefusesText, flows_of, limit_of};
 
+use crate::build::build;
 use crate::flows::Flows;
 use mc_base::Refusal;
 use std::alloc::Global;
@@ -25,5 +26,7 @@ pub fn read_flow(alloc: Global, text: &[u8]) -> Result<Flows, Refusal>
     // Every other text is refused for its first fault.
     ensures refused { IfErr result (RefusesText text.now) }
 {
-    Err(Refusal::NoMemory)
+    let lines = flow_text::read(alloc, text)?;
+    let parts = build(alloc, lines.as_slice())?;
+    Ok(Flows::seal(parts))
 }
