@@ -1,0 +1,75 @@
+//! Flow files and the flows that they say.
+
+use super::*;
+use mc_base::Level;
+use std::test::Fail;
+
+const NESTED: &[u8] =
+    b"flow 1\nrow 2 100 110 64 auto\n( 0 5 90 avoid\nm 4\na 10\n| 1\nrow 2 40 50 3\nrow 3 9 9 1\na 1\nend\nend\nm 6\n| F\ns 2\nrow 1 30 30 7\na 2\n| 0\na 3\nend\n) 0\nend\n";
+
+/// Each file with the numbers of its flows, rows and boxes, and of the items in its first row.
+#[test]
+fn files_have_their_parts(rt: HostRuntime) -> Result<(), Fail> {
+    let cases: [(&[u8], u32, u32, u32, u32); 4] = [
+        (b"flow 1\nrow 2 100 110 - balance\nend\n", 2, 1, 0, 0),
+        (
+            b"flow 1\nrow 1 0 0 64 auto\na 7\n| 2\na 0\nend\n",
+            2,
+            1,
+            0,
+            2,
+        ),
+        (
+            b"flow 1\nrow 1 9 9 - auto\n( 0 0 9 auto\n( 1 0 9 auto\na 1\n) 1\n) 0\nend\n",
+            2,
+            1,
+            2,
+            1,
+        ),
+        (NESTED, 5, 4, 1, 3),
+    ];
+    for (text, flow_count, row_count, box_count, items) in cases {
+        let flows = read_flow(rt.alloc(), text).ok().ok_or("a flow file")?;
+        let counts = flow_counts(&flows);
+        assert_eq!(rt; counts.flows, flow_count);
+        assert_eq!(rt; counts.rows, row_count);
+        assert_eq!(rt; counts.boxes, box_count);
+        assert_eq!(rt; counts.stacks, 1);
+        assert_eq!(rt; item_count(&flows, 1), items);
+    }
+    Ok(())
+}
+
+/// The parts of a file with rows inside its first row.
+#[test]
+fn rows_stand_in_rows(rt: HostRuntime) -> Result<(), Fail> {
+    let flows = read_flow(rt.alloc(), NESTED).ok().ok_or("a flow file")?;
+    let counts = flow_counts(&flows);
+    assert_eq!(rt; counts.flows, 5);
+    assert_eq!(rt; counts.rows, 4);
+    let inner = row_at(&flows, 3);
+    assert_eq!(rt; inner.flow, 4);
+    assert_eq!(rt; inner.x, 7);
+    assert_eq!(rt; item_count(&flows, 1), 3);
+    let mut tally = Counts {
+        reads: 0,
+        below: 0,
+        folds: 0,
+    };
+    assert!(rt; matches!(item_at(&flows, 1, 2, &mut tally), Item::Row(3)));
+    assert_eq!(rt; tally.reads, 1);
+    Ok(())
+}
+
+#[test]
+fn seams_have_edges_and_levels(rt: HostRuntime) -> Result<(), Fail> {
+    let flows = read_flow(rt.alloc(), NESTED).ok().ok_or("a flow file")?;
+    assert_eq!(rt; flow_counts(&flows).flows, 5);
+    assert_eq!(rt; item_count(&flows, 1), 3);
+    let seam = seam_at(&flows, 1, 2);
+    assert_eq!(rt; seam.level, Level::Forced);
+    assert!(rt; matches!(seam.tail.as_slice(), [Edge::Margin(6)]));
+    assert!(rt; matches!(seam.head.as_slice(), [Edge::Solid(2)]));
+    assert!(rt; matches!(seam_at(&flows, 1, 3).tail.as_slice(), [Edge::End(0)]));
+    Ok(())
+}
