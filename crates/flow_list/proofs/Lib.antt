@@ -2,12 +2,16 @@ pub mod AtomFlows
 pub mod Built
 pub mod EdgeSums
 pub mod FileAcross
+pub mod FileFlowSound
+pub mod FileKnown
 pub mod FileLimits
+pub mod FileNested
 pub mod FileNests
 pub mod FileNumbers
 pub mod FilePlaces
 pub mod FileSound
 pub mod FileSums
+pub mod FileSeams
 pub mod Fitting
 pub mod LeastHeight
 pub mod OpenBoxes
