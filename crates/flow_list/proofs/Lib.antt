@@ -9,6 +9,7 @@ pub mod PiecesLoop
 pub mod PlainLaws
 pub mod PlainSound
 mod SoundExamples
+pub mod SoundSeams
 pub mod StripBounds
 pub mod Walk
 mod Worked
