@@ -2,6 +2,7 @@ pub mod AtomFlows
 pub mod Digits
 pub mod EdgeSums
 pub mod Fields
+pub mod FilledBoxes
 pub mod Fitting
 pub mod LeastHeight
 pub mod OpenBoxes
@@ -9,6 +10,7 @@ pub mod PiecesLoop
 pub mod PlainLaws
 pub mod PlainSound
 mod SoundExamples
+pub mod SoundFlow
 pub mod SoundSeams
 pub mod StripBounds
 pub mod Walk

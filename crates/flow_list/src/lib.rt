@@ -9,6 +9,7 @@ mod data;
 mod flows;
 mod plain;
 mod read;
+mod sound_boxes;
 mod sound_flow;
 mod sound_seams;
 mod tally;

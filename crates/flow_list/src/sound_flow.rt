@@ -1,11 +1,12 @@
 //! Whether a flow is sound: its items, its seams, and the boxes that stand in it.
 
-ghost use Rattle.std.specs.Prelude.{◌≡◌, ◌↔◌, ◌+◌, ◌^◌, ◌<◌, ◌≤◌, ℕ, IsTrue, All, length};
-ghost use Rattle.flow_list.specs.Soundness.{IsSoundAtom, IsSoundItem, HasStackOfItsHeight, owners_in, kind_x, kind_w};
+ghost use Rattle.std.specs.Prelude.{◌≡◌, ◌↔◌, ◌+◌, ◌^◌, ◌<◌, IsTrue, IfOk, All, length};
+ghost use Rattle.flow_list.specs.Soundness.{IsSoundAtom, IsSoundItem, IsSoundSeam, HasStackOfItsHeight, owners_in, kind_x, kind_w};
 ghost use Rattle.flow_list.specs.Flows.{stack_of};
 
-use crate::data::{AtomKind, Bound, Flow, FlowsData, Item};
-use mc_base::{List, NoMemory, Units};
+use crate::data::{AtomKind, Bound, Flow, FlowsData, Item, Seam};
+use crate::sound_seams::is_sound_seam;
+use mc_base::{NoMemory, Units};
 use std::alloc::Global;
 
 /// The greatest height of an atom.
@@ -85,4 +86,11 @@ fn are_sound_items(parts: &FlowsData, items: &[Item]) -> bool
     ensures { IsTrue result ↔ All (IsSoundItem parts.now) items.now }
 {
     items.iter().all(|item| is_sound_item(parts, item))
+}
+
+/// Whether the seams of a flow are sound.
+fn are_sound_seams(parts: &FlowsData, seams: &[Seam]) -> bool
+    ensures { IsTrue result ↔ All (IsSoundSeam parts.now) seams.now }
+{
+    seams.iter().all(|seam| is_sound_seam(parts, seam))
 }
