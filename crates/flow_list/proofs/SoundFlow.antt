@@ -1,5 +1,5 @@
 -- Boxes that are named once, and nesting along a walk over edges.
-use Rattle.std.proofs.Common.{◌≡◌, ◌≢◌, ℕ, zero, suc, ◌+◌, ◌<◌, ◌≤◌, Bool, true, false, cond, ◌||◌, List, [], ◌∷◌, ◌++◌, length, take, drop, get_or, refl, sym, subst, ap, ◌∙◌, arith, eqb-true, eq-eqb, length-take}
+use Rattle.std.proofs.Common.{◌≡◌, ◌≢◌, ℕ, ◌+◌, ◌<◌, Bool, true, false, cond, ◌||◌, List, [], ◌∷◌, ◌++◌, length, take, get_or, sym, subst, ap, ◌∙◌, arith, eqb-true, eq-eqb, length-take}
 use Rattle.std.specs.Prelude.{AllPairs, ◌==◌}
 use Rattle.std.specs.BTreeMap.{is_at}
 use Rattle.std.specs.Ordering.{nat_cmp}
@@ -25,8 +25,8 @@ pub apart : (xs : List ℕ) (i x : ℕ) → i < length xs → x ≡ get_or xs i 
 apart xs i x lt here among pairs =
     let more : take (i + 1) xs ≡ take i xs ++ x ∷ [] = take_more xs i x lt ∙ ap (λ y. take i xs ++ y ∷ []) (sym here) in
     subst (AllPairs (λ a b. a ≢ b)) (sym more) (all_pairs_push (λ a b. a ≢ b) (take i xs) x pairs (λ k d within same.
-        let twice : is_among (take i xs) x ≡ true = list_any_at (λ c. c == x) (take i xs) k d within (eq-eqb (get_or (take i xs) k d) x same) in
-        absurd cc))
+    let twice : is_among (take i xs) x ≡ true = list_any_at (λ c. c == x) (take i xs) k d within (eq-eqb (get_or (take i xs) k d) x same) in
+    absurd cc))
 
 -- what a set has seen once it has x too
 pub seen_more : (xs : List ℕ) (i x q : ℕ) (was : Bool) → i < length xs → x ≡ get_or xs i x → was ≡ is_among (take i xs) q → cond (is_at (nat_cmp x) q) true was ≡ is_among (take (i + 1) xs) q

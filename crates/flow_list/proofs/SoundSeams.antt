@@ -1,5 +1,5 @@
 -- Tests of each item of a list, and of the edges of seams.
-use Rattle.std.proofs.Common.{◌≡◌, ℕ, zero, suc, ◌+◌, ◌<◌, Bool, true, false, List, [], ◌∷◌, ◌++◌, length, get_or, refl, sym, ap, ◌∙◌, arith, All, flat_map}
+use Rattle.std.proofs.Common.{◌≡◌, ℕ, ◌<◌, Bool, true, false, List, [], ◌∷◌, ◌++◌, length, refl, arith, All, flat_map}
 use Rattle.std.specs.Prelude.{◌↔◌, MatchBool}
 use Rattle.std.specs.List.{AllWithin, HoldsAt}
 use Rattle.std.proofs.lemmas.List.Elements.{All-from_all_within, All-nil, All-cons, All-head, All-tail}

@@ -1,10 +1,11 @@
 //! Whether a flow is sound: its items, its seams, and the boxes that stand in it.
 
-ghost use Rattle.std.specs.Prelude.{◌≡◌, ◌↔◌, ◌+◌, ◌^◌, ◌<◌, IsTrue, IfOk, All, length};
-ghost use Rattle.flow_list.specs.Soundness.{IsSoundAtom, IsSoundItem, IsSoundSeam, HasStackOfItsHeight, owners_in, kind_x, kind_w};
+ghost use Rattle.std.specs.Prelude.{◌≡◌, ◌↔◌, ◌+◌, ◌^◌, ◌<◌, true, IsTrue, IfOk, All, length};
+ghost use Rattle.flow_list.specs.Soundness.{IsSoundAtom, IsSoundItem, IsSoundFlow, IsSoundSeam, HasStackOfItsHeight, owners_in, kind_x, kind_w};
 ghost use Rattle.flow_list.specs.Flows.{stack_of};
 
 use crate::data::{AtomKind, Bound, Flow, FlowsData, Item, Seam};
+use crate::sound_boxes::{are_filled, are_sound_boxes};
 use crate::sound_seams::is_sound_seam;
 use mc_base::{NoMemory, Units};
 use std::alloc::Global;
@@ -93,4 +94,27 @@ fn are_sound_seams(parts: &FlowsData, seams: &[Seam]) -> bool
     ensures { IsTrue result ↔ All (IsSoundSeam parts.now) seams.now }
 {
     seams.iter().all(|seam| is_sound_seam(parts, seam))
+}
+
+/// Whether the items and the seams of a flow are sound, and there is one seam more than items.
+fn has_sound_parts(parts: &FlowsData, flow: &Flow) -> bool
+    ensures { IsTrue result ↔ ((length flow.now.items < 2 ^ 32)
+        × (length flow.now.seams ≡ length flow.now.items + 1)
+        × All (IsSoundItem parts.now) flow.now.items
+        × All (IsSoundSeam parts.now) flow.now.seams) }
+{
+    flow.items.len() < ITEM_LIMIT
+        && flow.seams.len() == flow.items.len() + 1
+        && are_sound_items(parts, flow.items.as_slice())
+        && are_sound_seams(parts, flow.seams.as_slice())
+}
+
+/// Whether a flow of the data is sound.
+pub fn is_sound_flow(alloc: Global, parts: &FlowsData, flow: &Flow) -> Result<bool, NoMemory>
+    ensures { IfOk result (λ found. (found ≡ true) ↔ IsSoundFlow parts.now flow.now) }
+{
+    if !has_sound_parts(parts, flow) || !are_sound_boxes(alloc, parts, flow)? {
+        return Ok(false);
+    }
+    Ok(are_filled(flow))
 }

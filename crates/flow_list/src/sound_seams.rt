@@ -9,31 +9,31 @@ use crate::data::{Edge, FlowsData, Seam};
 use mc_base::Units;
 
 /// Whether an edge starts no box.
-fn starts_none(edge: &Edge) -> bool
+fn is_no_start(edge: &Edge) -> bool
     ensures { IsTrue result ↔ (started edge.now ≡ []) }
 {
     !matches!(edge, Edge::Start(_))
 }
 
 /// Whether an edge ends no box.
-fn ends_none(edge: &Edge) -> bool
+fn is_no_end(edge: &Edge) -> bool
     ensures { IsTrue result ↔ (ended edge.now ≡ []) }
 {
     !matches!(edge, Edge::End(_))
 }
 
 /// Whether no box starts among these edges.
-pub fn start_none(edges: &[Edge]) -> bool
+pub fn has_no_start(edges: &[Edge]) -> bool
     ensures { IsTrue result ↔ (flat_map started edges.now ≡ []) }
 {
-    edges.iter().all(starts_none)
+    edges.iter().all(is_no_start)
 }
 
 /// Whether no box ends among these edges.
-pub fn end_none(edges: &[Edge]) -> bool
+pub fn has_no_end(edges: &[Edge]) -> bool
     ensures { IsTrue result ↔ (flat_map ended edges.now ≡ []) }
 {
-    edges.iter().all(ends_none)
+    edges.iter().all(is_no_end)
 }
 
 /// The border and padding that a box has again above at each break, and below.
@@ -110,8 +110,8 @@ pub fn is_sound_seam(parts: &FlowsData, seam: &Seam) -> bool
 {
     let tail = seam.tail.as_slice();
     let head = seam.head.as_slice();
-    start_none(tail)
-        && end_none(head)
+    has_no_start(tail)
+        && has_no_end(head)
         && has_cloned_tops(parts, head)
         && has_cloned_bottoms(parts, tail)
 }

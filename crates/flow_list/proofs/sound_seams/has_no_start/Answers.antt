@@ -3,7 +3,7 @@ use Rattle.std.proofs.lemmas.Iterator.{cases_from_all, YieldsList-from_slice}
 use borrow.Author.Tests.{tests}
 use Rattle.flow_list.specs.Flows.{started}
 use Rattle.flow_list.proofs.SoundSeams.{all_iff, joined_none, both_ways}
-use Rattle.flow_list.proofs.sound_seams.start_none.Goals as goal
+use Rattle.flow_list.proofs.sound_seams.has_no_start.Goals as goal
 
 pub returns : goal.returns
 returns c =
