@@ -12,11 +12,15 @@ pub mod FilePlaces
 pub mod FileSound
 pub mod FileSums
 pub mod FileSeams
+pub mod Fields
+pub mod FilledBoxes
 pub mod Fitting
 pub mod LeastHeight
 pub mod OpenBoxes
 pub mod OuterFlow
 mod SoundExamples
+pub mod SoundFlow
+pub mod SoundSeams
 pub mod StripBounds
 pub mod Walk
 mod Worked
