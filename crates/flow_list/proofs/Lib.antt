@@ -12,7 +12,6 @@ pub mod FilePlaces
 pub mod FileSound
 pub mod FileSums
 pub mod FileSeams
-pub mod Fields
 pub mod FilledBoxes
 pub mod Fitting
 pub mod LeastHeight
