@@ -17,6 +17,7 @@ pub mod Walk
 mod Worked
 mod WorkedCertificates
 mod WorkedCloned
+mod WorkedFiles
 mod WorkedNested
 mod WorkedParts
 mod WorkedRanges
