@@ -1,10 +1,14 @@
 pub mod AtomFlows
 pub mod EdgeSums
 pub mod FileAcross
+pub mod FileFlowSound
+pub mod FileKnown
 pub mod FileLimits
+pub mod FileNested
 pub mod FileNests
 pub mod FileNumbers
 pub mod FilePlaces
+pub mod FileSeams
 pub mod FileSound
 pub mod FileSums
 pub mod Fitting
