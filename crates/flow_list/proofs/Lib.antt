@@ -1,4 +1,5 @@
 pub mod AtomFlows
+pub mod Built
 pub mod EdgeSums
 pub mod FileAcross
 pub mod FileFlowSound
@@ -11,11 +12,14 @@ pub mod FilePlaces
 pub mod FileSeams
 pub mod FileSound
 pub mod FileSums
+pub mod FilledBoxes
 pub mod Fitting
 pub mod LeastHeight
 pub mod OpenBoxes
 pub mod OuterFlow
 mod SoundExamples
+pub mod SoundFlow
+pub mod SoundSeams
 pub mod StripBounds
 pub mod Walk
 mod Worked

@@ -1,4 +1,5 @@
 pub mod Atoms
+pub mod Building
 pub mod Certificate
 pub mod ClonedEdges
 pub mod Column

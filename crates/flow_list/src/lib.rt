@@ -5,9 +5,13 @@
 //! sums stay below 2^60. Each look promises which part of the data it answers, and a look at an item is counted.
 #![tactic(auto)]
 
+mod build;
 mod data;
 mod flows;
 mod read;
+mod sound_boxes;
+mod sound_flow;
+mod sound_seams;
 mod tally;
 
 pub use data::{
