@@ -19,6 +19,7 @@ use Rattle.flow_list.specs.FileFlows.{IsFile, limit_of, flows_of, outer_flow, ro
 use Rattle.flow_list.specs.Soundness.{count_of, flow_height, flow_owners, IsSoundFlow, IsSoundRow, IsInnerRow, NestsAtMost, flows_within, IsSoundStack, IsSound}
 use Rattle.flow_list.proofs.OuterFlow.{outer_sound, each_of_one}
 use Rattle.flow_list.proofs.FileLimits.{IsLow, IsLowContent, IsWithinLimits, file_within_limits}
+use Rattle.flow_list.proofs.FileFlowSound.{content_flows_all}
 use Rattle.flow_list.proofs.FilePlaces.{length-flows, length-rows, line_total, length-lines, row-lines, box-lines, ArePlaced, are_placed, ForRows, for_each}
 use Rattle.flow_list.proofs.FileNumbers.{times_in, count-cons, count-append, own_rows, count-rows_in, flow_numbers, count-flow_numbers}
 use Rattle.flow_list.proofs.FileNests.{length-items, nests, all_nest, HaveItems, have_items, inner, all_inner}
@@ -235,7 +236,7 @@ small_file text file few is h =
     }
 
 -- where its flows are each sound
-pub sound_from_flows : (text : List ℕ) (file : FlowFile) → length text ≤ 2 ^ 28 → IsFile text file → limit_of file ≡ None → All (IsSoundFlow (flows_of file)) (content_flows file.content) → IsSound (flows_of file)
+sound_from_flows : (text : List ℕ) (file : FlowFile) → length text ≤ 2 ^ 28 → IsFile text file → limit_of file ≡ None → All (IsSoundFlow (flows_of file)) (content_flows file.content) → IsSound (flows_of file)
 sound_from_flows text file few is none flows =
     let f = first_of file in
     let rest = rest_of file.content in
@@ -244,3 +245,8 @@ sound_from_flows text file few is none flows =
     let outer = outer_sound (flows_of file) (omega arith) in
     let sound : All (IsSoundFlow (flows_of file)) (flows_of file).flows = All-cons (IsSoundFlow (flows_of file)) outer_flow (content_flows file.content) outer flows in
     subst IsSound same (sound_data f rest small (subst (λ (d : FlowsData). All (IsSoundFlow d) d.flows) (sym same) sound))
+
+pub file_is_sound : (text : List ℕ) (file : FlowFile) → length text ≤ 2 ^ 28 → IsFile text file → limit_of file ≡ None → IsSound (flows_of file)
+file_is_sound text file few is none =
+    let limits = file_within_limits text file is none in
+    sound_from_flows text file few is none (content_flows_all file is.lines is.on_grammar limits.low limits.item_limit)

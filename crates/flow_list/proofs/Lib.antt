@@ -9,9 +9,9 @@ pub mod FileNested
 pub mod FileNests
 pub mod FileNumbers
 pub mod FilePlaces
+pub mod FileSeams
 pub mod FileSound
 pub mod FileSums
-pub mod FileSeams
 pub mod FilledBoxes
 pub mod Fitting
 pub mod LeastHeight
@@ -25,6 +25,7 @@ pub mod Walk
 mod Worked
 mod WorkedCertificates
 mod WorkedCloned
+mod WorkedFiles
 mod WorkedNested
 mod WorkedParts
 mod WorkedRanges
