@@ -20,6 +20,7 @@ use Rattle.flow_list.specs.Soundness.{count_of, flow_height, flow_owners, IsSoun
 use Rattle.flow_list.proofs.OuterFlow.{outer_sound, each_of_one}
 use Rattle.flow_list.proofs.FileFlowSound.{content_flows_all}
 use Rattle.flow_list.proofs.FileLimits.{IsLow, IsLowContent, IsWithinLimits, file_within_limits}
+use Rattle.flow_list.proofs.FileFlowSound.{content_flows_all}
 use Rattle.flow_list.proofs.FilePlaces.{length-flows, length-rows, line_total, length-lines, row-lines, box-lines, ArePlaced, are_placed, ForRows, for_each}
 use Rattle.flow_list.proofs.FileNumbers.{times_in, count-cons, count-append, own_rows, count-rows_in, flow_numbers, count-flow_numbers}
 use Rattle.flow_list.proofs.FileNests.{length-items, nests, all_nest, HaveItems, have_items, inner, all_inner}

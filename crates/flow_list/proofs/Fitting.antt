@@ -24,7 +24,7 @@ use Rattle.flow_list.proofs.LeastHeight.{IsLeast, least-is}
 
 -- ---- what is open in a flow has no more cloned edges than all its boxes
 
-filter-le : (g : ℕ → ℕ) (p : ℕ → Bool) (xs : List ℕ) → sum_by g (filter p xs) ≤ sum_by g xs
+pub filter-le : (g : ℕ → ℕ) (p : ℕ → Bool) (xs : List ℕ) → sum_by g (filter p xs) ≤ sum_by g xs
 filter-le g p xs = omega (arith, sum_by-filter_both p (λ x. not (p x)) (λ x. refl) g xs)
 
 pub starts-take : (g : ℕ → ℕ) (n : ℕ) (seams : List Seam) → sum_by g (starts_in (take n seams)) ≤ sum_by g (starts_in seams)

@@ -13,16 +13,20 @@ pub mod FileReadings
 pub mod FileSeams
 pub mod FileSound
 pub mod FileSums
+pub mod FilledBoxes
 pub mod Fitting
 pub mod LeastHeight
 pub mod OpenBoxes
 pub mod OuterFlow
 mod SoundExamples
+pub mod SoundFlow
+pub mod SoundSeams
 pub mod StripBounds
 pub mod Walk
 mod Worked
 mod WorkedCertificates
 mod WorkedCloned
+mod WorkedFiles
 mod WorkedNested
 mod WorkedParts
 mod WorkedRanges

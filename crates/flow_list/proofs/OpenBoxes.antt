@@ -25,13 +25,13 @@ use Rattle.flow_list.proofs.Fitting.{starts-take, open_at-le}
 count-cons : (n x : ℕ) (xs : List ℕ) → count_of n (x ∷ xs) ≡ cond (x == n) 1 0 + count_of n xs
 count-cons n x xs = sum_by-cons (λ m. cond (m == n) 1 0) x xs
 
-count-append : (n : ℕ) (xs ys : List ℕ) → count_of n (xs ++ ys) ≡ count_of n xs + count_of n ys
+pub count-append : (n : ℕ) (xs ys : List ℕ) → count_of n (xs ++ ys) ≡ count_of n xs + count_of n ys
 count-append n xs ys = sum_by-append (λ m. cond (m == n) 1 0) xs ys
 
-count-reverse : (n : ℕ) (xs : List ℕ) → count_of n (reverse xs) ≡ count_of n xs
+pub count-reverse : (n : ℕ) (xs : List ℕ) → count_of n (reverse xs) ≡ count_of n xs
 count-reverse n xs = sum_by-IsPermutation (λ m. cond (m == n) 1 0) xs (reverse xs) (IsPermutation-reverse xs)
 
-count-self : (n : ℕ) (xs : List ℕ) → count_of n (n ∷ xs) ≡ suc (count_of n xs)
+pub count-self : (n : ℕ) (xs : List ℕ) → count_of n (n ∷ xs) ≡ suc (count_of n xs)
 count-self n xs = count-cons n n xs ∙ grind (arith, nat_tests)
 
 count-yes : (n x : ℕ) (xs : List ℕ) → (x == n) ≡ true → count_of n (x ∷ xs) ≡ suc (count_of n xs)
@@ -41,7 +41,7 @@ count-no : (n x : ℕ) (xs : List ℕ) → (x == n) ≡ false → count_of n (x 
 count-no n x xs e = count-cons n x xs ∙ rw e (zero-add _)
 
 -- a number that is among these is counted, and one that isn't is not
-count-among : (n : ℕ) (xs : List ℕ) → count_of n xs ≡ 0 → is_among xs n ≡ false
+pub count-among : (n : ℕ) (xs : List ℕ) → count_of n xs ≡ 0 → is_among xs n ≡ false
 count-among n [] z = refl
 count-among n (x ∷ xs) z = go (x == n) refl (λ e. count-among n xs e)
   where
@@ -90,7 +90,7 @@ sum-without g n (x ∷ xs) = go (x == n) refl (sum-without g n xs)
 abbrev pub less : List ℕ → List ℕ → List ℕ
 less es xs = filter (λ b. not (is_among es b)) xs
 
-count-less : (n : ℕ) (es xs : List ℕ) → is_among es n ≡ false → count_of n (less es xs) ≡ count_of n xs
+pub count-less : (n : ℕ) (es xs : List ℕ) → is_among es n ≡ false → count_of n (less es xs) ≡ count_of n xs
 count-less n es [] out = refl
 count-less n es (x ∷ xs) out = go (x == n) refl (is_among es x) refl (count-less n es xs out)
   where
@@ -142,16 +142,16 @@ sum-less g (e ∷ es) xs within once =
 
 -- ---- nesting, by counts
 
-abbrev both : Seam → List Edge
+abbrev pub both : Seam → List Edge
 both s = s.tail ++ s.head
 
 -- After some edges these boxes are open: those that were, and those that started there, less those that ended there.
-record After (before starts ends : List ℕ) (rest : List Edge) : Type 0 where
-  boxes : List ℕ
-  nested : AreNested boxes rest
-  counts : (n : ℕ) → count_of n before + count_of n starts ≡ count_of n boxes + count_of n ends
+pub record After (before starts ends : List ℕ) (rest : List Edge) : Type 0 where
+  pub boxes : List ℕ
+  pub nested : AreNested boxes rest
+  pub counts : (n : ℕ) → count_of n before + count_of n starts ≡ count_of n boxes + count_of n ends
 
-edges-after : (es rest : List Edge) (before : List ℕ) → AreNested before (es ++ rest) → After before (flat_map started es) (flat_map ended es) rest
+pub edges-after : (es rest : List Edge) (before : List ℕ) → AreNested before (es ++ rest) → After before (flat_map started es) (flat_map ended es) rest
 edges-after [] rest before h = record { boxes = before; nested = h; counts = λ n. refl }
 edges-after (Margin m ∷ es) rest before h = edges-after es rest before h
 edges-after (Solid a ∷ es) rest before h = edges-after es rest before h
@@ -166,14 +166,14 @@ edges-after (End b ∷ es) rest (i ∷ outer) h =
     record { boxes = r.boxes; nested = r.nested; counts = λ n. let c : count_of n (i ∷ outer) ≡ cond (b == n) 1 0 + count_of n outer = count-cons n i outer ∙ rw e refl in omega (arith, r.counts n, count-cons n b (flat_map ended es)) }
 
 -- starts stand in heads alone, and ends in tails
-record Sides (seams : List Seam) : Type 0 where
-  tail : (k : ℕ) (s : Seam) → k < length seams → flat_map started (get_or seams k s).tail ≡ []
-  head : (k : ℕ) (s : Seam) → k < length seams → flat_map ended (get_or seams k s).head ≡ []
+pub record Sides (seams : List Seam) : Type 0 where
+  pub tail : (k : ℕ) (s : Seam) → k < length seams → flat_map started (get_or seams k s).tail ≡ []
+  pub head : (k : ℕ) (s : Seam) → k < length seams → flat_map ended (get_or seams k s).head ≡ []
 
 sides-later : (s : Seam) (ss : List Seam) → Sides (s ∷ ss) → Sides ss
 sides-later s ss h = record { tail = λ k x lt. h.tail (suc k) x (omega arith); head = λ k x lt. h.head (suc k) x (omega arith) }
 
-seams-after : (seams : List Seam) (n : ℕ) (before : List ℕ) → Sides seams → AreNested before (flat_map both seams) → After before (starts_in (take n seams)) (ends_in (take n seams)) (flat_map both (drop n seams))
+pub seams-after : (seams : List Seam) (n : ℕ) (before : List ℕ) → Sides seams → AreNested before (flat_map both seams) → After before (starts_in (take n seams)) (ends_in (take n seams)) (flat_map both (drop n seams))
 seams-after seams zero before sides h = record { boxes = before; nested = h; counts = λ n. refl }
 seams-after [] (suc n) before sides h = record { boxes = before; nested = h; counts = λ n. refl }
 seams-after (s ∷ ss) (suc n) before sides h =
@@ -199,7 +199,7 @@ none-count n (x ∷ xs) h = go (x == n) refl (none-count n xs (λ j lt. h (suc j
     go true e ih = absurd (h 0 (omega arith) (grind (arith, nat_tests)))
     go false e ih = count-no n x xs e ∙ ih
 
-once : (n : ℕ) (xs : List ℕ) → AllPairs (λ a b. a ≢ b) xs → count_of n xs ≤ 1
+pub once : (n : ℕ) (xs : List ℕ) → AllPairs (λ a b. a ≢ b) xs → count_of n xs ≤ 1
 once n [] h = omega arith
 once n (x ∷ xs) h = go (x == n) refl (once n xs (λ i j d lt in_range. h (suc i) (suc j) d (omega arith) (omega arith)))
   where
@@ -215,7 +215,7 @@ not-true : (b : Bool) → not b ≡ true → b ≡ false
 not-true true e = cc
 not-true false e = refl
 
-some-index : (n : ℕ) (xs : List ℕ) → 0 < count_of n xs → (k : ℕ) × (k < length xs) × (get_or xs k n ≡ n)
+pub some-index : (n : ℕ) (xs : List ℕ) → 0 < count_of n xs → (k : ℕ) × (k < length xs) × (get_or xs k n ≡ n)
 some-index n [] h = absurd (omega arith)
 some-index n (x ∷ xs) h = go (x == n) refl (some-index n xs)
   where
@@ -227,12 +227,12 @@ first-ends : (m : ℕ) (seams : List Seam) (i : ℕ) → count_of m (flat_map en
 first-ends m [] i = omega arith
 first-ends m (s ∷ ss) i = rw add-one (omega (arith, count-append m (flat_map ended s.tail) (ends_in (take i ss))))
 
-has-count : (xs : List ℕ) (j b : ℕ) → j < length xs → 0 < count_of (get_or xs j b) xs
+pub has-count : (xs : List ℕ) (j b : ℕ) → j < length xs → 0 < count_of (get_or xs j b) xs
 has-count [] j b lt = absurd (omega arith)
 has-count (x ∷ xs) zero b lt = let c = count-self x xs in omega arith
 has-count (x ∷ xs) (suc j) b lt = let r = has-count xs j b (omega arith) in let c = count-cons (get_or xs j b) x xs in omega arith
 
-starts-one : (g : ℕ → ℕ) (seams : List Seam) (k : ℕ) (s : Seam) → k < length seams → sum_by g (flat_map started (get_or seams k s).head) ≤ sum_by g (starts_in seams)
+pub starts-one : (g : ℕ → ℕ) (seams : List Seam) (k : ℕ) (s : Seam) → k < length seams → sum_by g (flat_map started (get_or seams k s).head) ≤ sum_by g (starts_in seams)
 starts-one g [] k s lt = absurd (omega arith)
 starts-one g (x ∷ xs) zero s lt = let a = sum_by-append g (flat_map started x.head) (starts_in xs) in omega arith
 starts-one g (x ∷ xs) (suc k) s lt = let a = sum_by-append g (flat_map started x.head) (starts_in xs) in let r = starts-one g xs k s (omega arith) in omega arith
@@ -340,7 +340,7 @@ module _ (d : FlowsData) (f : Flow) (sound : IsSoundFlow d f) where
           let one = first-ends m f.seams i in
           omega arith
 
-  first-tail : (xs : List ℕ) → flat_map ended (seam_of f 0).tail ≡ xs → xs ≡ []
+  pub first-tail : (xs : List ℕ) → flat_map ended (seam_of f 0).tail ≡ xs → xs ≡ []
   first-tail [] e = refl
   first-tail (x ∷ xs) e = absurd (first-out x (let c = count-self x xs in rw e (omega arith)))
 

@@ -9,6 +9,9 @@ mod build;
 mod data;
 mod flows;
 mod read;
+mod sound_boxes;
+mod sound_flow;
+mod sound_seams;
 mod tally;
 
 pub use data::{
