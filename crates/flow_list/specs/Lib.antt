@@ -1,3 +1,4 @@
+pub mod Across
 pub mod Atoms
 pub mod Certificate
 pub mod ClonedEdges
