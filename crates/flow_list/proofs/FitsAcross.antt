@@ -1,14 +1,14 @@
 -- A walk over places that are left to look at, in place of the recursion over flows in flows.
-use Rattle.std.proofs.Common.{◌≡◌, ℕ, zero, suc, ◌+◌, ◌-◌, ◌<◌, ◌^◌, List, [], ◌∷◌, ◌++◌, All, ◌↔◌, length, map, sum_by, flat_map, refl, sym, ap, subst, ◌∙◌, arith}
+use Rattle.std.proofs.Common.{◌≡◌, ℕ, zero, suc, ◌+◌, ◌-◌, ◌<◌, List, [], ◌∷◌, ◌++◌, All, ◌↔◌, length, map, sum_by, flat_map, refl, sym, ap, subst, ◌∙◌, arith}
 use Rattle.std.specs.Prelude.{◌≢◌}
 use Rattle.std.proofs.lemmas.List.Elements.{All-append, All-nil, All-cons, All-head, All-tail, All-map}
 use Rattle.std.proofs.lemmas.List.Sums.{sum_by-append, sum_by-cons}
 use Rattle.flow_list.specs.declared.across.Place.{Place}
 use Rattle.flow_list.specs.declared.data.FlowsData.{FlowsData}
 use Rattle.flow_list.specs.declared.data.Item.{Item}
-use Rattle.flow_list.specs.Across.{place_of}
-use Rattle.flow_list.specs.Flows.{flow_of, box_of, stack_of, boxes_in}
-use Rattle.flow_list.specs.Soundness.{FitsAcross, Held, held_in, item_x}
+use Rattle.flow_list.specs.Across.{IsBoxInReach, IsItemInReach, place_of}
+use Rattle.flow_list.specs.Flows.{flow_of, stack_of, boxes_in}
+use Rattle.flow_list.specs.Soundness.{FitsAcross, Held, held_in}
 use Rattle.flow_list.proofs.Everywhere.{all-left, all-right}
 
 -- how many places are looked at from a flow on, n flows deep
@@ -26,7 +26,7 @@ FitsAt d p = FitsAcross d p.depth p.left p.flow
 
 -- the boxes and the items of a flow are below 2^60 from the left of stack 0
 abbrev pub Reaches : FlowsData → ℕ → ℕ → Type 0
-Reaches d left f = All (λ b. left + (box_of d b).x < 2 ^ 60) (boxes_in (flow_of d f)) × All (λ item. left + item_x d item < 2 ^ 60) (flow_of d f).items
+Reaches d left f = All (IsBoxInReach d left) (boxes_in (flow_of d f)) × All (IsItemInReach d left) (flow_of d f).items
 
 abbrev pub HeldFit : FlowsData → ℕ → ℕ → List Item → Type 0
 HeldFit d n left items = All (λ (h : Held). FitsAcross d n (left + h.x) h.flow) (flat_map (held_in d) items)

@@ -14,6 +14,7 @@ pub mod Reading
 pub mod ResultText
 pub mod RowHeights
 pub mod Rows
+pub mod Sizes
 pub mod Soundness
 pub mod Stacks
 pub mod Strip

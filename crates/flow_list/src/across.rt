@@ -1,19 +1,16 @@
 //! Whether all places stay below 2^60 from the left of stack 0.
 
 ghost use Rattle.std.specs.Prelude.{◌≡◌, ◌↔◌, ◌+◌, ◌-◌, ◌<◌, ◌^◌, ◌++◌, true, All, IfOk, OnOk, length, map, flat_map, option_to_list};
-ghost use Rattle.flow_list.specs.Across.{place_of};
+ghost use Rattle.flow_list.specs.Across.{IsBoxInReach, IsItemInReach, place_of};
 ghost use Rattle.flow_list.specs.Flows as parts_by_number;
 ghost use Rattle.flow_list.specs.Flows.{flow_of, started, boxes_in};
 ghost use Rattle.flow_list.specs.declared.data.Seam.{Seam as Between};
 ghost use Rattle.flow_list.specs.Soundness.{item_x, held_in, FitsAcross};
 
 use crate::data::{AtomKind, Edge, FlowsData, Item, Seam};
-use crate::parts::{box_of, items_of, opened_of, row_of, seams_of, stack_of};
+use crate::parts::{LENGTH_LIMIT, box_of, items_of, opened_of, row_of, seams_of, stack_of};
 use mc_base::{NoMemory, Units};
 use std::alloc::{AllocError, Global};
-
-/// The least distance that is too great, in units.
-const TOO_FAR: Units = 1 << 60;
 
 /// Where a flow stands: its left edge from the left of stack 0, and how many flows deep it is looked at.
 #[derive(Clone, Copy)]
@@ -24,19 +21,19 @@ pub struct Place {
 }
 
 fn box_fits(parts: &FlowsData, left: Units, number: u32) -> bool
-    ensures { (result ≡ true) ↔ left + (parts_by_number.box_of parts.now number).x < 2 ^ 60 }
+    ensures { (result ≡ true) ↔ IsBoxInReach parts.now left number }
 {
-    left.saturating_add(box_of(parts, number).x) < TOO_FAR
+    left.saturating_add(box_of(parts, number).x) < LENGTH_LIMIT
 }
 
 fn opened_fit(parts: &FlowsData, left: Units, opened: &[u32]) -> bool
-    ensures { (result ≡ true) ↔ All (λ b. left + (parts_by_number.box_of parts.now b).x < 2 ^ 60) opened.now }
+    ensures { (result ≡ true) ↔ All (IsBoxInReach parts.now left) opened.now }
 {
     opened.iter().all(|number| box_fits(parts, left, *number))
 }
 
 fn edge_fits(parts: &FlowsData, left: Units, edge: &Edge) -> bool
-    ensures { (result ≡ true) ↔ All (λ b. left + (parts_by_number.box_of parts.now b).x < 2 ^ 60) (started edge.now) }
+    ensures { (result ≡ true) ↔ All (IsBoxInReach parts.now left) (started edge.now) }
 {
     match edge {
         Edge::Start(number) => box_fits(parts, left, *number),
@@ -45,13 +42,13 @@ fn edge_fits(parts: &FlowsData, left: Units, edge: &Edge) -> bool
 }
 
 fn edges_fit(parts: &FlowsData, left: Units, edges: &[Edge]) -> bool
-    ensures { (result ≡ true) ↔ All (λ edge. All (λ b. left + (parts_by_number.box_of parts.now b).x < 2 ^ 60) (started edge)) edges.now }
+    ensures { (result ≡ true) ↔ All (λ edge. All (IsBoxInReach parts.now left) (started edge)) edges.now }
 {
     edges.iter().all(|edge| edge_fits(parts, left, edge))
 }
 
 fn seams_fit(parts: &FlowsData, left: Units, seams: &[Seam]) -> bool
-    ensures { (result ≡ true) ↔ All (λ (s : Between). All (λ edge. All (λ b. left + (parts_by_number.box_of parts.now b).x < 2 ^ 60) (started edge)) s.head) seams.now }
+    ensures { (result ≡ true) ↔ All (λ (s : Between). All (λ edge. All (IsBoxInReach parts.now left) (started edge)) s.head) seams.now }
 {
     seams
         .iter()
@@ -75,30 +72,28 @@ fn x_of(parts: &FlowsData, item: &Item) -> Units
 }
 
 fn items_fit(parts: &FlowsData, left: Units, items: &[Item]) -> bool
-    ensures { (result ≡ true) ↔ All (λ item. left + item_x parts.now item < 2 ^ 60) items.now }
+    ensures { (result ≡ true) ↔ All (IsItemInReach parts.now left) items.now }
 {
-    items
-        .iter()
-        .all(|item| left.saturating_add(x_of(parts, item)) < TOO_FAR)
+    items.iter().all(|item| left.saturating_add(x_of(parts, item)) < LENGTH_LIMIT)
 }
 
 fn boxes_fit(parts: &FlowsData, left: Units, flow: u32) -> bool
-    ensures { (result ≡ true) ↔ All (λ b. left + (parts_by_number.box_of parts.now b).x < 2 ^ 60) (boxes_in (flow_of parts.now flow)) }
+    ensures { (result ≡ true) ↔ All (IsBoxInReach parts.now left) (boxes_in (flow_of parts.now flow)) }
 {
     opened_fit(parts, left, opened_of(parts, flow)) && seams_fit(parts, left, seams_of(parts, flow))
 }
 
 /// Whether the boxes and the items of a flow stay within reach, if its left edge is there.
 fn is_within_reach(parts: &FlowsData, left: Units, flow: u32) -> bool
-    ensures { (result ≡ true) ↔ (All (λ b. left + (parts_by_number.box_of parts.now b).x < 2 ^ 60) (boxes_in (flow_of parts.now flow))
-        × All (λ item. left + item_x parts.now item < 2 ^ 60) (flow_of parts.now flow).items) }
+    ensures { (result ≡ true) ↔ (All (IsBoxInReach parts.now left) (boxes_in (flow_of parts.now flow))
+        × All (IsItemInReach parts.now left) (flow_of parts.now flow).items) }
 {
     boxes_fit(parts, left, flow) && items_fit(parts, left, items_of(parts, flow))
 }
 
 /// Where the flow that an item holds stands, if it holds one.
 fn place_in(parts: &FlowsData, left: Units, depth: usize, item: &Item) -> Option<Place>
-    requires { left + item_x parts.now item.now < 2 ^ 60 }
+    requires { IsItemInReach parts.now left item.now }
     ensures { option_to_list result ≡ map (place_of left depth) (held_in parts.now item.now) }
 {
     match item {
@@ -130,7 +125,7 @@ fn push_places(
     items: &[Item],
     places: &mut Vec<Place>,
 ) -> Result<(), AllocError>
-    requires { All (λ item. left + item_x parts.now item < 2 ^ 60) items.now }
+    requires { All (IsItemInReach parts.now left) items.now }
     ensures { OnOk result (places.new.items ≡ places.old.items ++ map (place_of left depth) (flat_map (held_in parts.now) items.now)) }
 {
     for item in items {

@@ -5,6 +5,12 @@ ghost use Rattle.flow_list.specs.Flows as parts_by_number;
 ghost use Rattle.flow_list.specs.Flows.{flow_of};
 
 use crate::data::{Bound, BoxInfo, FlowsData, Item, RowInfo, Seam, Stack};
+use mc_base::Units;
+
+/// Places, widths, and all heights together are below this, in units.
+pub const LENGTH_LIMIT: Units = 1 << 60;
+/// The most rows that stand one inside another.
+pub const MOST_NESTED: u32 = 3;
 
 /// The items of a flow.
 pub fn items_of(parts: &FlowsData, flow: u32) -> &[Item]

@@ -4,19 +4,17 @@ ghost use Rattle.std.specs.Prelude.{◌≡◌, ◌↔◌, ◌+◌, ◌-◌, ◌<
 ghost use Rattle.flow_list.specs.declared.data.RowInfo.{RowInfo as Row};
 ghost use Rattle.flow_list.specs.declared.data.Seam.{Seam as Between};
 ghost use Rattle.flow_list.specs.declared.data.Stack.{Stack as Laid};
-ghost use Rattle.flow_list.specs.Flows as parts_by_number;
 ghost use Rattle.flow_list.specs.Flows.{flow_of, atom_height, amount, started, starts_in};
+ghost use Rattle.flow_list.specs.Sizes.{cloned_height};
 ghost use Rattle.flow_list.specs.Soundness as soundness;
 ghost use Rattle.flow_list.specs.Soundness.{item_total, is_atom};
 
 use crate::data::{Edge, Flow, FlowsData, Item, Seam};
-use crate::parts::{box_of, items_of};
+use crate::parts::{LENGTH_LIMIT, box_of, items_of};
 use mc_base::Units;
 
 /// The most items of rows, and atoms of stacks.
 const MOST_ITEMS: u64 = 100_000;
-/// The least height of all flows that is too great, in units.
-const TOO_HIGH: Units = 1 << 60;
 
 /// How many items the flows of all rows have.
 fn row_items(parts: &FlowsData) -> u64
@@ -85,7 +83,7 @@ fn edges_height(edges: &[Edge]) -> Units
 
 /// The cloned edges of boxes together.
 fn boxes_height(parts: &FlowsData, boxes: &[u32]) -> Units
-    ensures { result ≡ min (sum_by (λ b. (parts_by_number.box_of parts.now b).top + (parts_by_number.box_of parts.now b).bottom) boxes.now) (2 ^ 64 - 1) }
+    ensures { result ≡ min (sum_by (cloned_height parts.now) boxes.now) (2 ^ 64 - 1) }
 {
     let mut sum: Units = 0;
     for number in boxes {
@@ -97,7 +95,7 @@ fn boxes_height(parts: &FlowsData, boxes: &[u32]) -> Units
 
 /// The cloned edges of the boxes that start among edges.
 fn started_height(parts: &FlowsData, edges: &[Edge]) -> Units
-    ensures { result ≡ min (sum_by (λ b. (parts_by_number.box_of parts.now b).top + (parts_by_number.box_of parts.now b).bottom) (flat_map started edges.now)) (2 ^ 64 - 1) }
+    ensures { result ≡ min (sum_by (cloned_height parts.now) (flat_map started edges.now)) (2 ^ 64 - 1) }
 {
     let mut sum: Units = 0;
     for edge in edges {
@@ -112,7 +110,7 @@ fn started_height(parts: &FlowsData, edges: &[Edge]) -> Units
 /// The edges of seams, and the cloned edges of the boxes that start in their heads.
 fn seams_height(parts: &FlowsData, seams: &[Seam]) -> Units
     ensures { result ≡ min (sum_by (λ (s : Between). sum_by amount s.tail + sum_by amount s.head) seams.now
-        + sum_by (λ b. (parts_by_number.box_of parts.now b).top + (parts_by_number.box_of parts.now b).bottom) (starts_in seams.now)) (2 ^ 64 - 1) }
+        + sum_by (cloned_height parts.now) (starts_in seams.now)) (2 ^ 64 - 1) }
 {
     let mut sum: Units = 0;
     for seam in seams {
@@ -141,5 +139,5 @@ pub fn heights_are_low(parts: &FlowsData) -> bool
     for flow in parts.flows.as_slice() {
         sum = sum.saturating_add(flow_height(parts, flow));
     }
-    sum < TOO_HIGH
+    sum < LENGTH_LIMIT
 }

@@ -7,19 +7,15 @@ ghost use Rattle.flow_list.specs.Flows as parts_by_number;
 ghost use Rattle.flow_list.specs.Soundness.{IsSoundRow, IsInnerRow, NestsAtMost};
 
 use crate::data::{FlowsData, Item, RowInfo};
-use crate::parts::{items_of, row_of};
+use crate::parts::{LENGTH_LIMIT, MOST_NESTED, items_of, row_of};
 use mc_base::Units;
 
-/// The least distance and width that are too great, in units.
-const TOO_FAR: Units = 1 << 60;
 /// The most columns that a row can want.
 const MOST_COLUMNS: u32 = 32;
 /// The greatest distance from one column to the next, in units.
 const MOST_STEP: Units = 1 << 25;
 /// The most items of a row that stands in another row.
 const MOST_INNER_ITEMS: usize = 2000;
-/// The most rows that stand one inside another.
-const MOST_NESTED: u32 = 3;
 
 fn is_sound_row(parts: &FlowsData, row: &RowInfo) -> bool
     ensures { (result ≡ true) ↔ IsSoundRow parts.now row.now }
@@ -28,8 +24,8 @@ fn is_sound_row(parts: &FlowsData, row: &RowInfo) -> bool
         && row.n > 0
         && row.n <= MOST_COLUMNS
         && row.step <= MOST_STEP
-        && row.x < TOO_FAR
-        && row.w < TOO_FAR
+        && row.x < LENGTH_LIMIT
+        && row.w < LENGTH_LIMIT
 }
 
 /// Whether each row is sound by itself.
@@ -51,7 +47,7 @@ pub fn boxes_are_sound(parts: &FlowsData) -> bool
         .boxes
         .as_slice()
         .iter()
-        .all(|info| info.x < TOO_FAR && info.w < TOO_FAR)
+        .all(|info| info.x < LENGTH_LIMIT && info.w < LENGTH_LIMIT)
 }
 
 fn is_inner_row(parts: &FlowsData, outer: u32, inner: u32) -> bool

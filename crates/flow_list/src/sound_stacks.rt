@@ -6,20 +6,15 @@ ghost use Rattle.flow_list.specs.Flows.{flow_of};
 ghost use Rattle.flow_list.specs.Soundness.{stack_in, stacks_in, flows_within, stacks_within};
 
 use crate::data::{AtomKind, FlowsData, Item};
-use crate::parts::{items_of, row_of, stack_of};
+use crate::parts::{LENGTH_LIMIT, MOST_NESTED, items_of, row_of, stack_of};
 use mc_base::Units;
-
-/// The least width that is too great, in units.
-const TOO_WIDE: Units = 1 << 60;
-/// The most rows that stand one inside another.
-const MOST_NESTED: u32 = 3;
 
 /// Whether each stack has a flow of the data, and its width below 2^60.
 pub fn stacks_are_in_range(parts: &FlowsData) -> bool
     ensures { (result ≡ true) ↔ All (λ (s : Laid). (s.flow < length parts.now.flows) × (s.w < 2 ^ 60)) parts.now.stacks }
 {
     parts.stacks.as_slice().iter().all(|stack| (stack.flow as usize) < parts.flows.len()
-        && stack.w < TOO_WIDE)
+        && stack.w < LENGTH_LIMIT)
 }
 
 fn names_behind(stack: u32, item: &Item) -> bool
