@@ -13,7 +13,9 @@ pub mod FileReadings
 pub mod FileSeams
 pub mod FileSound
 pub mod FileSums
+pub mod Everywhere
 pub mod FilledBoxes
+pub mod FitsAcross
 pub mod Fitting
 pub mod LeastHeight
 pub mod OpenBoxes
@@ -21,7 +23,9 @@ pub mod OuterFlow
 mod SoundExamples
 pub mod SoundFlow
 pub mod SoundSeams
+pub mod StandsOnce
 pub mod StripBounds
+pub mod Verdicts
 pub mod Walk
 mod Worked
 mod WorkedCertificates

@@ -1,3 +1,4 @@
+pub mod Across
 pub mod Atoms
 pub mod Building
 pub mod Certificate
@@ -13,6 +14,7 @@ pub mod Ranges
 pub mod ResultText
 pub mod RowHeights
 pub mod Rows
+pub mod Sizes
 pub mod Soundness
 pub mod Stacks
 pub mod Strip

@@ -5,13 +5,20 @@
 //! sums stay below 2^60. Each look promises which part of the data it answers, and a look at an item is counted.
 #![tactic(auto)]
 
+mod across;
+mod belongs;
 mod build;
 mod data;
 mod flows;
+mod parts;
 mod read;
+mod sizes;
 mod sound_boxes;
+mod sound_data;
 mod sound_flow;
+mod sound_rows;
 mod sound_seams;
+mod sound_stacks;
 mod tally;
 
 pub use data::{
@@ -22,6 +29,7 @@ pub use flows::{
     stack_at,
 };
 pub use read::read_flow;
+pub use sound_data::sound;
 pub use tally::{Counts, Tally};
 
 #[cfg(test)]
