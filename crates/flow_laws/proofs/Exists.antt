@@ -1,21 +1,16 @@
 -- A height that fits exists: at the reach only forced breaks remain.
-use Rattle.std.proofs.Common.{◌≡◌, ℕ, zero, suc, ◌+◌, ◌-◌, ◌<◌, ◌≤◌, Bool, true, false, cond, List, [], ◌∷◌, length, take, drop, None, refl, sym, subst, ◌∙◌, ap, arith, get_or, add-one, below_more, ◌⊎◌, inl, inr}
-use Rattle.std.specs.Prelude.{count_by}
-use Rattle.std.specs.List.{list_any}
-use Rattle.std.proofs.lemmas.Bool.{le-ltb, cases_lt, cases_order}
+use Rattle.std.proofs.Common.{◌≡◌, ℕ, zero, suc, ◌+◌, ◌-◌, ◌<◌, ◌≤◌, Bool, true, false, List, [], ◌∷◌, length, None, refl, sym, subst, ap, arith, ◌⊎◌, inl, inr}
+use Rattle.std.proofs.lemmas.Bool.{cases_order}
 use Rattle.std.proofs.lemmas.Bool.Decides.{nat_tests}
-use Rattle.std.proofs.lemmas.List.{drop-drop, drop-take}
-use Rattle.std.proofs.lemmas.List.Sums.{sum_by-cons, sum_by-take-drop}
 use Rattle.flow_list.specs.Column.{endless_column}
 use Rattle.flow_list.specs.declared.data.Flow.{Flow}
 use Rattle.flow_list.specs.declared.data.FlowsData.{FlowsData}
-use Rattle.flow_list.specs.declared.data.Seam.{Seam}
-use Rattle.flow_list.specs.Flows.{row_of, flow_in, seam_of, no_seam}
+use Rattle.flow_list.specs.Flows.{row_of, flow_in, seam_of}
 use Rattle.flow_list.specs.Tokens.{Token, row_start, item_number, within, is_end}
 use Rattle.flow_list.specs.Strip.{Strip, lay_all}
-use Rattle.flow_list.specs.Column.{Column, Inner, Step, Place, cut, step_at, steps, strip_behind, steps_from, start_strip, is_forced, column, column_over, unstopped, column_to, last_place, no_place, avoids_at, rows_among}
-use Rattle.flow_list.specs.Rows.{columns, columns_by, end_of, fits, fails, forced_above, most_columns, least, reach, size_in}
-use Rattle.flow_laws.specs.LeastHeight.{IsLeast, IsNextForced, EndsAtForced, SizesAreLeast}
+use Rattle.flow_list.specs.Column.{Column, Inner, Step, Place, step_at, steps, strip_behind, steps_from, start_strip, is_forced, column, unstopped, column_to, last_place, no_place, rows_among}
+use Rattle.flow_list.specs.Rows.{fits, most_columns, reach, size_in}
+use Rattle.flow_laws.specs.LeastHeight.{IsLeast, EndsAtForced, SizesAreLeast}
 use Rattle.flow_list.proofs.Fitting.{reach-endless, reach_end-past, size-least}
 use Rattle.flow_list.proofs.LeastHeight.{IsLeast as Least, least-unique}
 

@@ -1,5 +1,5 @@
 -- Columns advance in rows, and in rows within rows: by how many of them stand one inside another.
-use Rattle.std.proofs.Common.{◌≡◌, ℕ, zero, suc, ◌+◌, ◌-◌, ◌<◌, ◌≤◌, Bool, true, false, List, [], ◌∷◌, ◌++◌, length, drop, refl, sym, subst, ◌∙◌, ap, arith, ◌⊎◌, inl, inr, length-append}
+use Rattle.std.proofs.Common.{◌≡◌, ℕ, zero, suc, ◌+◌, ◌-◌, ◌<◌, ◌≤◌, true, false, List, [], ◌∷◌, ◌++◌, length, drop, refl, sym, subst, ◌∙◌, ap, arith, ◌⊎◌, inl, inr, length-append}
 use Rattle.std.specs.Prelude.{All}
 use Rattle.std.specs.List.{flat_map}
 use Rattle.std.proofs.lemmas.Bool.Decides.{nat_tests}
@@ -25,7 +25,7 @@ use Rattle.flow_laws.proofs.DepthSame.{told-alike}
 abbrev pub IsGoodRow : FlowsData → ℕ → Type 0
 IsGoodRow d r = (r < length d.rows) × (0 < length (flow_in d r).items)
 
-rows-in-range : (d : FlowsData) (items : List Item) → All (IsSoundItem d) items → All (λ r. r < length d.rows) (flat_map row_in items)
+pub rows-in-range : (d : FlowsData) (items : List Item) → All (IsSoundItem d) items → All (λ r. r < length d.rows) (flat_map row_in items)
 rows-in-range d [] all = λ k e lt. absurd (omega arith)
 rows-in-range d (Atom height kind ∷ items) all = rows-in-range d items (λ k e lt. all (suc k) e (omega arith))
 rows-in-range d (Row r ∷ items) all = both (all 0 (Row r) (omega arith)) (rows-in-range d items (λ k e lt. all (suc k) e (omega arith)))

@@ -13,8 +13,8 @@ use Rattle.flow_list.specs.ClonedEdges.{tops, open_across, bottoms}
 use Rattle.flow_list.specs.Soundness.{IsSound, IsSoundFlow, NestsAtMost, flow_height}
 use Rattle.flow_list.specs.Tokens.{Token, row_start, item_number, within}
 use Rattle.flow_list.specs.Strip.{Strip, strip_at, put, lay_all}
-use Rattle.flow_list.specs.Column.{Filled, Inner, Step, Place, Cut, cut, longer, height_of, strip_behind, steps, steps_from, start_strip, is_forced, tail_from, inside, inside_place, alone_place, whole_place, is_cut, room, best, choose, seams_before, seams_between, last_place, no_place, fill_in_room, column, column_up_to, avoids_at}
-use Rattle.flow_list.specs.Rows.{heights_from, amounts_in, reach, size_in, fits, rows_to, all_rows, least}
+use Rattle.flow_list.specs.Column.{Filled, Inner, Step, Place, Cut, cut, longer, height_of, strip_behind, steps, steps_from, start_strip, is_forced, tail_from, inside, inside_place, alone_place, whole_place, is_cut, room, best, choose, seams_before, seams_between, last_place, no_place, fill_in_room, column, endless_column, column_up_to, avoids_at}
+use Rattle.flow_list.specs.Rows.{heights_from, amounts_in, reach, size_in, rows_to, all_rows}
 use Rattle.flow_list.specs.RowHeights.{size_of}
 use Rattle.flow_laws.specs.Bounds.{NeedsRise, NeedsAreSmall, NeedsAndBounds}
 use Rattle.flow_list.proofs.StripBounds.{put_le, lay_all_le}
@@ -49,7 +49,7 @@ heights-part inner total q (suc n) (Atom height kind ∷ items) all = let rest =
 heights-part inner total q (suc n) (Row r ∷ items) all =
     let rest = heights-part inner total q n items (λ k e lt. all (suc k) e (omega arith)) in omega (arith, sum_by-cons atom_height (Row r) items, sum_by-cons total r (flat_map row_in items))
 
-reach-total : (inner : Inner) (d : FlowsData) (f : Flow) (total : ℕ → ℕ) (q : Token) → All (λ s. (p : Token) → inner.size s p ≤ total s) (rows_in f) →
+pub reach-total : (inner : Inner) (d : FlowsData) (f : Flow) (total : ℕ → ℕ) (q : Token) → All (λ s. (p : Token) → inner.size s p ≤ total s) (rows_in f) →
     reach inner d f q ≤ flow_height d f + sum_by total (rows_in f)
 reach-total inner d f total q all =
     let h = heights-part inner total (within q) (item_number q) f.items all in
@@ -114,7 +114,7 @@ module _ (d : FlowsData) (sound : IsSound d) where
 
 -- ---- needs, places and extents are no more than the reach
 
-start-le : (d : FlowsData) (f : Flow) (t : Token) → (start_strip d f t).y + (start_strip d f t).pending ≤ tops d (boxes_in f) + sum_by amount (seam_of f (item_number t)).head
+pub start-le : (d : FlowsData) (f : Flow) (t : Token) → (start_strip d f t).y + (start_strip d f t).pending ≤ tops d (boxes_in f) + sum_by amount (seam_of f (item_number t)).head
 start-le d f [] = omega arith
 start-le d f (i ∷ []) = start (not (i == 0 || is_forced (seam_of f i).level))
   where
@@ -261,9 +261,13 @@ module _ (inner : Inner) (d : FlowsData) (f : Flow) (top : ℕ) where
       choose-reach (seams_between (u.before ++ s ∷ []) ++ inside (avoids s.item) s h (fill_in_room inner s.row (room s h))) (alone_place (avoids s.item) s h (fill_in_room inner s.row (room s h)))
       (AllReach-append (seams_between (u.before ++ s ∷ [])) _ (between-reach (u.before ++ s ∷ []) w.0) m.0) m.1
 
-  column-reach : (t : Token) (h : ℕ) → item_number t < length f.items → reach inner d f t ≤ top → (column inner d f t h).extent ≤ top
+  pub column-reach : (t : Token) (h : ℕ) → item_number t < length f.items → reach inner d f t ≤ top → (column inner d f t h).extent ≤ top
   unfolding column
   column-reach t h lt le = up_to-reach (avoids_at d f) h (cut h (steps_from inner d f t)) (cut h (steps_from inner d f t)).stop (cut-within h (steps_from inner d f t) (within-reach t lt le))
+
+  pub endless-reach : (t : Token) → item_number t < length f.items → reach inner d f t ≤ top → (endless_column inner d f t).extent ≤ top
+  unfolding endless_column
+  endless-reach t lt le = last-reach no_place (steps_from inner d f t) (omega arith) (within-reach t lt le)
 
   needs-small : (ss : List Step) → top < 2 ^ 60 → AllWithinTop ss → NeedsAreSmall ss
   unfolding AllWithinTop

@@ -5,7 +5,7 @@ use Rattle.std.specs.Prelude.{All}
 use Rattle.std.specs.List.{flat_map}
 use Rattle.std.proofs.lemmas.Bool.Decides.{nat_tests}
 use Rattle.std.proofs.lemmas.Bool.{cases_lt}
-use Rattle.std.proofs.lemmas.List.Sums.{sum_by-cons, sum_by-append}
+use Rattle.std.proofs.lemmas.List.Sums.{sum_by-cons, sum_by-append, sum_by-le-sum_by}
 use Rattle.flow_list.specs.declared.data.Flow.{Flow}
 use Rattle.flow_list.specs.declared.data.FlowsData.{FlowsData}
 use Rattle.flow_list.specs.declared.data.RowInfo.{RowInfo}
@@ -21,15 +21,15 @@ sum-same : (g h : ℕ → ℕ) (xs : List ℕ) → All (λ x. g x ≡ h x) xs �
 sum-same g h [] same = refl
 sum-same g h (x ∷ xs) same = let first = same 0 x (omega arith) in let rest = sum-same g h xs (λ k e lt. same (suc k) e (omega arith)) in omega (arith, sum_by-cons g x xs, sum_by-cons h x xs)
 
-sum-map : {X : Type 0} (g : ℕ → ℕ) (h : X → ℕ) (xs : List X) → sum_by g (map h xs) ≡ sum_by (λ x. g (h x)) xs
+pub sum-map : {X : Type 0} (g : ℕ → ℕ) (h : X → ℕ) (xs : List X) → sum_by g (map h xs) ≡ sum_by (λ x. g (h x)) xs
 sum-map g h [] = refl
 sum-map g h (x ∷ xs) = omega (arith, sum-map g h xs, sum_by-cons g (h x) (map h xs), sum_by-cons (λ x. g (h x)) x xs)
 
-sum-flat : {X : Type 0} (g : ℕ → ℕ) (f : X → List ℕ) (xs : List X) → sum_by g (flat_map f xs) ≡ sum_by (λ x. sum_by g (f x)) xs
+pub sum-flat : {X : Type 0} (g : ℕ → ℕ) (f : X → List ℕ) (xs : List X) → sum_by g (flat_map f xs) ≡ sum_by (λ x. sum_by g (f x)) xs
 sum-flat g f [] = refl
 sum-flat g f (x ∷ xs) = omega (arith, sum-flat g f xs, sum_by-append g (f x) (flat_map f xs), sum_by-cons (λ x. sum_by g (f x)) x xs)
 
-sum-both : (g h : ℕ → ℕ) (xs : List ℕ) → sum_by (λ x. g x + h x) xs ≡ sum_by g xs + sum_by h xs
+pub sum-both : (g h : ℕ → ℕ) (xs : List ℕ) → sum_by (λ x. g x + h x) xs ≡ sum_by g xs + sum_by h xs
 sum-both g h [] = refl
 sum-both g h (x ∷ xs) = omega (arith, sum-both g h xs, sum_by-cons (λ x. g x + h x) x xs, sum_by-cons g x xs, sum_by-cons h x xs)
 
@@ -47,6 +47,14 @@ up-more : (g : ℕ → ℕ) (k m : ℕ) → up g k (suc m) ≡ g k + up g (suc k
 unfolding up count_up
 up-more g k m = sum_by-cons g k (count_up (suc k) m)
 
+pub up-both : (g h : ℕ → ℕ) (k m : ℕ) → up (λ i. g i + h i) k m ≡ up g k m + up h k m
+unfolding up
+up-both g h k m = sum-both g h (count_up k m)
+
+pub up-below : (g h : ℕ → ℕ) (k m : ℕ) → ((i : ℕ) → g i ≤ h i) → up g k m ≤ up h k m
+unfolding up
+up-below g h k m below = sum_by-le-sum_by g h (count_up k m) below
+
 up-from-start : (g : ℕ → ℕ) (k m : ℕ) → up g k m ≤ up g 0 (k + m)
 up-from-start g zero m = let e : 0 + m ≡ m = omega arith in rw e (omega arith)
 up-from-start g (suc k) m =
@@ -55,7 +63,7 @@ up-from-start g (suc k) m =
     let later' = rw e at later in
     omega (arith, up-more g k m)
 
-up-list : {X : Type 0} (g : ℕ → ℕ) (h : X → ℕ) (d : X) (k : ℕ) (xs : List X) → ((i : ℕ) → i < length xs → g (k + i) ≡ h (get_or xs i d)) → up g k (length xs) ≡ sum_by h xs
+pub up-list : {X : Type 0} (g : ℕ → ℕ) (h : X → ℕ) (d : X) (k : ℕ) (xs : List X) → ((i : ℕ) → i < length xs → g (k + i) ≡ h (get_or xs i d)) → up g k (length xs) ≡ sum_by h xs
 unfolding up count_up
 up-list g h d k [] same = refl
 up-list g h d k (x ∷ xs) same =
@@ -63,10 +71,10 @@ up-list g h d k (x ∷ xs) same =
     let rest = up-list g h d (suc k) xs (λ i lt. let e : suc k + i ≡ k + suc i = omega arith in rw e (same (suc i) (omega arith))) in
     omega (arith, sum_by-cons g k (count_up (suc k) (length xs)), sum_by-cons h x xs)
 
-count-cons : (n x : ℕ) (xs : List ℕ) → count_of n (x ∷ xs) ≡ cond (x == n) 1 0 + count_of n xs
+pub count-cons : (n x : ℕ) (xs : List ℕ) → count_of n (x ∷ xs) ≡ cond (x == n) 1 0 + count_of n xs
 count-cons n x xs = sum_by-cons (λ m. cond (m == n) 1 0) x xs
 
-count-other : (n x : ℕ) (xs : List ℕ) → (x == n) ≡ false → count_of n (x ∷ xs) ≡ count_of n xs
+pub count-other : (n x : ℕ) (xs : List ℕ) → (x == n) ≡ false → count_of n (x ∷ xs) ≡ count_of n xs
 count-other n x xs e = count-cons n x xs ∙ ap (λ b. cond b 1 0 + count_of n xs) e ∙ zero-add _
 
 count-this : (n x : ℕ) (xs : List ℕ) → (x == n) ≡ true → count_of n (x ∷ xs) ≡ 1 + count_of n xs
@@ -96,16 +104,16 @@ count-up-in n k (suc m) le lt = go (k == n) refl (λ a b. count-up-in n (suc k) 
     go false e rest = let other : k ≢ n = grind (arith, nat_tests) in let r = rest (omega arith) (omega arith) in let c = count-other n k (count_up (suc k) m) e in omega arith
 
 -- each of these numbers is at least low and below high
-AllIn : ℕ → ℕ → List ℕ → Type 0
+unfoldable pub AllIn : ℕ → ℕ → List ℕ → Type 0
 AllIn low high [] = Unit {0}
 AllIn low high (x ∷ xs) = (low ≤ x) × (x < high) × AllIn low high xs
 
-AllIn-append : (low high : ℕ) (xs ys : List ℕ) → AllIn low high xs → AllIn low high ys → AllIn low high (xs ++ ys)
+pub AllIn-append : (low high : ℕ) (xs ys : List ℕ) → AllIn low high xs → AllIn low high ys → AllIn low high (xs ++ ys)
 unfolding AllIn
 AllIn-append low high [] ys a b = b
 AllIn-append low high (x ∷ xs) ys a b = (a.0, a.1, AllIn-append low high xs ys a.2 b)
 
-AllIn-all : (low high : ℕ) (xs : List ℕ) → All (λ x. (low ≤ x) × (x < high)) xs → AllIn low high xs
+pub AllIn-all : (low high : ℕ) (xs : List ℕ) → All (λ x. (low ≤ x) × (x < high)) xs → AllIn low high xs
 unfolding AllIn
 AllIn-all low high [] all = tt
 AllIn-all low high (x ∷ xs) all = let f = all 0 x (omega arith) in (f.0, f.1, AllIn-all low high xs (λ k e lt. all (suc k) e (omega arith)))
@@ -127,7 +135,7 @@ count-none n low high (x ∷ xs) all out =
     which e (inr g) = let b = all.1 in omega arith
 
 -- each number of a list without doubles below high is counted once from low on
-within-up : (g : ℕ → ℕ) (low m : ℕ) (es : List ℕ) → AllIn low (low + m) es → ((n : ℕ) → n < low + m → count_of n es ≤ 1) → sum_by g es ≤ up g low m
+pub within-up : (g : ℕ → ℕ) (low m : ℕ) (es : List ℕ) → AllIn low (low + m) es → ((n : ℕ) → n < low + m → count_of n es ≤ 1) → sum_by g es ≤ up g low m
 unfolding up
 within-up g low m es all once = let e = sum-less g es (count_up low m) (λ n. within n (cases_lt n low) (cases_lt n (low + m))) (λ n. count-up-once n low m) in omega arith
   where
@@ -135,6 +143,24 @@ within-up g low m es all once = let e = sum-less g es (count_up low m) (λ n. wi
     within n (inl l) b = let z = count-none n low (low + m) es all (inl l) in omega arith
     within n (inr g) (inl lt) = let o = once n lt in let i = count-up-in n low m g lt in omega arith
     within n (inr g) (inr ge) = let z = count-none n low (low + m) es all (inr ge) in omega arith
+
+count-up-high : (n k m : ℕ) → k + m ≤ n → count_of n (count_up k m) ≡ 0
+unfolding count_up
+count-up-high n k zero le = refl
+count-up-high n k (suc m) le = let rest = count-up-high n (suc k) m (omega arith) in let c = count-cons n k (count_up (suc k) m) in grind (arith, nat_tests)
+
+-- each number from low on is no more often counted than in a list that has each once
+pub up-within : (g : ℕ → ℕ) (low m : ℕ) (xs : List ℕ) → AllIn low (low + m) xs → ((n : ℕ) → n < low + m → count_of n xs ≡ 1) → up g low m ≤ sum_by g xs
+unfolding up
+up-within g low m xs all each = let e = sum-less g (count_up low m) xs (λ n. within n (cases_lt n (low + m))) (λ n. once n (cases_lt n (low + m))) in omega arith
+  where
+    within : (n : ℕ) → (n < low + m) ⊎ (low + m ≤ n) → count_of n (count_up low m) ≤ count_of n xs
+    within n (inl lt) = let o = each n lt in let u = count-up-once n low m in omega arith
+    within n (inr ge) = let z = count-up-high n low m ge in omega arith
+
+    once : (n : ℕ) → (n < low + m) ⊎ (low + m ≤ n) → count_of n xs ≤ 1
+    once n (inl lt) = let o = each n lt in omega arith
+    once n (inr ge) = let z = count-none n low (low + m) xs all (inr ge) in omega arith
 
 -- ---- rows and flows
 

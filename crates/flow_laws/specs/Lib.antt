@@ -3,4 +3,5 @@ pub mod Constant
 pub mod Depth
 pub mod LeastHeight
 pub mod Progress
+pub mod Rectangles
 pub mod Rejection

@@ -11,6 +11,7 @@ ghost use Rattle.flow_laws.specs.Constant.{BreaksAreConstant};
 ghost use Rattle.flow_laws.specs.Depth.{DepthChangesNothing};
 ghost use Rattle.flow_laws.specs.LeastHeight.{SizesAreLeast};
 ghost use Rattle.flow_laws.specs.Progress.{ColumnsAdvance, IsPlaceBefore};
+ghost use Rattle.flow_laws.specs.Rectangles.{RectanglesAreBounded};
 ghost use Rattle.flow_laws.specs.Rejection.{TallAndAreaReject};
 ghost use Rattle.flow_list.specs.Flows.{flow_in};
 ghost use Rattle.flow_list.specs.Tokens.{Token};
@@ -51,4 +52,10 @@ pub fn tall_and_area_reject()
 /// extents are all below 2^60.
 pub fn needs_and_bounds()
     ensures { (d : FlowsData) → IsSound d → (r : ℕ) → r < length d.rows → NeedsAndBounds d r }
+{}
+
+/// In sound flows every rectangle of a whole tree ends below 2^63, from the left and from the top of the document: those of stacks, rows,
+/// columns, pieces of boxes and items, however deep they stand.
+pub fn rectangles_are_bounded()
+    ensures { (d : FlowsData) → IsSound d → RectanglesAreBounded d }
 {}
