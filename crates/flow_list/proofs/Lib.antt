@@ -20,10 +20,7 @@ pub mod Fitting
 pub mod LeastHeight
 pub mod OpenBoxes
 pub mod OuterFlow
-pub mod PiecesLoop
 pub mod PlaceBounds
-pub mod PlainLaws
-pub mod PlainSound
 mod SoundExamples
 pub mod SoundFlow
 pub mod SoundSeams
