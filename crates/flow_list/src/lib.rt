@@ -1,8 +1,9 @@
 //! Flows as lists: the data of a layout, sealed once it is sound, and the definitions of columns and heights.
 //!
-//! It stands on mc_base. The files of `specs/` say what the layout is: strips, columns, heights that fit, row heights.
-//! A flow file is read as sealed flows. All that is sealed is sound: numbers are in range, boxes are well nested, and
-//! sums stay below 2^60. Each look promises which part of the data it answers, and a look at an item is counted.
+//! It stands on mc_base and flow_text. The files of `specs/` say what the layout is: strips, columns, heights that fit,
+//! row heights. Every flow file is read as sealed flows: `read_flow` promises the flows that the file says, or its first
+//! fault or limit. All that is sealed is sound: numbers are in range, boxes are well nested, and sums stay below 2^60.
+//! Each look promises which part of the data it answers, and a look at an item is counted.
 #![tactic(auto)]
 
 mod across;
