@@ -4,16 +4,16 @@ mod Descent
 mod Exists
 mod FillEnds
 mod Held
-mod HeldSums
+pub mod HeldSums
 mod LaidSums
 mod Laying
 mod Needs
-mod PlacedSums
+pub mod PlacedSums
 mod Rejects
-mod RowHeightBounds
+pub mod RowHeightBounds
 mod RowsAdvance
 mod RowsStay
-mod Small
+pub mod Small
 mod StopStays
 mod Totals
 mod TreeBounds
