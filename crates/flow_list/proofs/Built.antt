@@ -11,20 +11,20 @@ use Rattle.flow_text.specs.declared.line.Form.TheVariants as forms
 use Rattle.flow_text.specs.Grammar.{Rest, no_more, edge, place, atom, row, line, lines_of, boxes_behind, IsRest, FlowFile, content_lines, IsContent, IsFlowFile}
 use Rattle.flow_list.specs.declared.build.OpenRow.{OpenRow}
 use Rattle.flow_list.specs.declared.build.Parts.{Parts}
-use Rattle.flow_list.specs.declared.data.AtomKind.TheVariants.{Plain}
-use Rattle.flow_list.specs.declared.data.BoxInfo.{BoxInfo}
-use Rattle.flow_list.specs.declared.data.Edge.{Edge}
-use Rattle.flow_list.specs.declared.data.Edge.TheVariants.{Start}
-use Rattle.flow_list.specs.declared.data.Flow.{Flow}
-use Rattle.flow_list.specs.declared.data.FlowsData.{FlowsData}
-use Rattle.flow_list.specs.declared.data.Item.{Item}
-use Rattle.flow_list.specs.declared.data.Item.TheVariants.{Atom, Row}
-use Rattle.flow_list.specs.declared.data.RowInfo.{RowInfo}
-use Rattle.flow_list.specs.declared.data.Seam.{Seam}
-use Rattle.flow_list.specs.declared.data.Stack.{Stack}
+use Rattle.flow_data.specs.declared.data.AtomKind.TheVariants.{Plain}
+use Rattle.flow_data.specs.declared.data.BoxInfo.{BoxInfo}
+use Rattle.flow_data.specs.declared.data.Edge.{Edge}
+use Rattle.flow_data.specs.declared.data.Edge.TheVariants.{Start}
+use Rattle.flow_data.specs.declared.data.Flow.{Flow}
+use Rattle.flow_data.specs.declared.data.FlowsData.{FlowsData}
+use Rattle.flow_data.specs.declared.data.Item.{Item}
+use Rattle.flow_data.specs.declared.data.Item.TheVariants.{Atom, Row}
+use Rattle.flow_data.specs.declared.data.RowInfo.{RowInfo}
+use Rattle.flow_data.specs.declared.data.Seam.{Seam}
+use Rattle.flow_data.specs.declared.data.Stack.{Stack}
 use Rattle.flow_list.specs.Building.{begun, open_row, edge_in, with_edge, with_item, with_place, closed, in_row, first, inner_row, nearest, farther, step, run, parts_of}
 use Rattle.flow_list.specs.FileFlows.{line_edges, edges_before, edges_behind, next_level, seam_behind, seams_behind, items_from, row_count, row_flow, rows_from, flows_from, line_boxes, boxes_from, outer_flow, first_row, first_stack, content_flows, content_rows, content_boxes, flows_of}
-use Rattle.flow_list.specs.Flows.{no_flow}
+use Rattle.flow_data.specs.Flows.{no_flow}
 
 -- ---- seams
 

@@ -9,15 +9,15 @@ use Rattle.flow_text.specs.declared.line.Line.{Line}
 use Rattle.flow_text.specs.declared.line.Form.{Form}
 use Rattle.flow_text.specs.declared.line.Form.TheVariants as forms
 use Rattle.flow_text.specs.Grammar.{Rest, no_more, edge, place, atom, row, line, lines_of, boxes_behind, IsRest, solid_of}
-use Rattle.flow_list.specs.declared.data.BoxInfo.{BoxInfo}
-use Rattle.flow_list.specs.declared.data.Edge.{Edge}
-use Rattle.flow_list.specs.declared.data.Flow.{Flow}
-use Rattle.flow_list.specs.declared.data.FlowsData.{FlowsData}
-use Rattle.flow_list.specs.declared.data.Item.{Item}
-use Rattle.flow_list.specs.declared.data.Seam.{Seam}
-use Rattle.flow_list.specs.Flows.{started, ended, starts_in, ends_in, is_among, open_at, boxes_in}
+use Rattle.flow_data.specs.declared.data.BoxInfo.{BoxInfo}
+use Rattle.flow_data.specs.declared.data.Edge.{Edge}
+use Rattle.flow_data.specs.declared.data.Flow.{Flow}
+use Rattle.flow_data.specs.declared.data.FlowsData.{FlowsData}
+use Rattle.flow_data.specs.declared.data.Item.{Item}
+use Rattle.flow_data.specs.declared.data.Seam.{Seam}
+use Rattle.flow_data.specs.Flows.{started, ended, starts_in, ends_in, is_among, open_at, boxes_in}
 use Rattle.flow_list.specs.FileFlows.{line_edges, edges_before, edges_behind, seam_behind, seams_behind, first_seam, items_from, row_flow}
-use Rattle.flow_list.specs.Soundness.{AreNested, edges_of}
+use Rattle.flow_data.specs.Soundness.{AreNested, edges_of}
 use Rattle.flow_list.proofs.FileKnown.{boxes_after, Known, past_line, past_row, started_so_far}
 use Rattle.flow_list.proofs.FileSeams.{Below, below_more, ended_open, open_behind, same_boxes}
 

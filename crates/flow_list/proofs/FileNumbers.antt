@@ -6,10 +6,10 @@ use Rattle.std.proofs.lemmas.List.{map-append}
 use Rattle.std.proofs.lemmas.List.Concat.{flat_map-append}
 use Rattle.std.proofs.lemmas.List.Sums.{sum_by-cons, sum_by-append}
 use Rattle.flow_text.specs.Grammar.{Rest, no_more, edge, place, atom, row}
-use Rattle.flow_list.specs.declared.data.RowInfo.{RowInfo}
-use Rattle.flow_list.specs.Flows.{row_in, rows_in}
+use Rattle.flow_data.specs.declared.data.RowInfo.{RowInfo}
+use Rattle.flow_data.specs.Flows.{row_in, rows_in}
 use Rattle.flow_list.specs.FileFlows.{row_count, items_from, rows_from, flows_from}
-use Rattle.flow_list.specs.Soundness.{count_of}
+use Rattle.flow_data.specs.Soundness.{count_of}
 
 -- 1 where j is one of the n numbers from k on, else 0
 abbrev pub times_in : ℕ → ℕ → ℕ → ℕ

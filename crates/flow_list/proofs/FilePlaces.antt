@@ -7,10 +7,10 @@ use Rattle.flow_text.specs.declared.line.Line.{Line}
 use Rattle.flow_text.specs.declared.line.Form.{Form}
 use Rattle.flow_text.specs.declared.line.Form.TheVariants as forms
 use Rattle.flow_text.specs.Grammar.{Rest, no_more, edge, place, atom, row, line, lines_of}
-use Rattle.flow_list.specs.declared.data.Flow.{Flow}
-use Rattle.flow_list.specs.declared.data.FlowsData.{FlowsData}
-use Rattle.flow_list.specs.declared.data.RowInfo.{RowInfo}
-use Rattle.flow_list.specs.Flows.{no_flow, no_row, flow_of, row_of}
+use Rattle.flow_data.specs.declared.data.Flow.{Flow}
+use Rattle.flow_data.specs.declared.data.FlowsData.{FlowsData}
+use Rattle.flow_data.specs.declared.data.RowInfo.{RowInfo}
+use Rattle.flow_data.specs.Flows.{no_flow, no_row, flow_of, row_of}
 use Rattle.flow_list.specs.FileFlows.{row_count, row_flow, rows_from, flows_from, line_boxes, boxes_from}
 
 -- ---- how many there are

@@ -14,10 +14,10 @@ use Rattle.flow_text.proofs.AnswerLaws.{denied, denied_is, given, limits_ok, lin
 use Rattle.flow_text.proofs.FaultLaws.{first_fault}
 use Rattle.flow_text.proofs.Sound.{read_is_file}
 use Rattle.flow_text.proofs.TextLaws.{text_takes}
-use Rattle.flow_list.specs.declared.data.FlowsData.{FlowsData}
+use Rattle.flow_data.specs.declared.data.FlowsData.{FlowsData}
 use Rattle.flow_list.specs.Building.{IsLow}
 use Rattle.flow_list.specs.FileFlows.{IsFile, RefusesText, flows_of, limit_of}
-use Rattle.flow_list.specs.Soundness.{IsSound}
+use Rattle.flow_data.specs.Soundness.{IsSound}
 use Rattle.flow_list.proofs.FileLimits.{AreLowLines, line_count, low_lines, passes_none}
 use Rattle.flow_list.proofs.FileSound.{file_is_sound}
 

@@ -8,14 +8,14 @@ use Rattle.flow_text.specs.declared.line.Line.{Line}
 use Rattle.flow_text.specs.declared.line.Form.{Form}
 use Rattle.flow_text.specs.declared.line.Form.TheVariants as forms
 use Rattle.flow_text.specs.Grammar.{Rest, no_more, edge, place, atom, row, line, lines_of, boxes_behind, IsRest, BeginsSolid, solid_of}
-use Rattle.flow_list.specs.declared.data.BoxInfo.{BoxInfo}
-use Rattle.flow_list.specs.declared.data.Edge.{Edge}
-use Rattle.flow_list.specs.declared.data.Edge.TheVariants.{Margin, Solid, Wall, Start, End}
-use Rattle.flow_list.specs.declared.data.FlowsData.{FlowsData}
-use Rattle.flow_list.specs.declared.data.Seam.{Seam}
-use Rattle.flow_list.specs.Flows.{box_of, started, ended}
+use Rattle.flow_data.specs.declared.data.BoxInfo.{BoxInfo}
+use Rattle.flow_data.specs.declared.data.Edge.{Edge}
+use Rattle.flow_data.specs.declared.data.Edge.TheVariants.{Margin, Solid, Wall, Start, End}
+use Rattle.flow_data.specs.declared.data.FlowsData.{FlowsData}
+use Rattle.flow_data.specs.declared.data.Seam.{Seam}
+use Rattle.flow_data.specs.Flows.{box_of, started, ended}
 use Rattle.flow_list.specs.FileFlows.{line_edges, edges_before, edges_behind, seam_behind, seams_behind, first_seam}
-use Rattle.flow_list.specs.Soundness.{IsSoundSeam}
+use Rattle.flow_data.specs.Soundness.{IsSoundSeam}
 use Rattle.flow_list.proofs.FileKnown.{boxes_after, Known, past_line, past_row, box_of_start, bottom_so_far}
 
 -- ---- cloned edges along a list of edges

@@ -9,14 +9,14 @@ use Rattle.flow_text.specs.declared.line.Line.{Line}
 use Rattle.flow_text.specs.declared.line.Form.TheVariants as forms
 use Rattle.flow_text.specs.Grammar.{Rest, no_more, line, FlowFile, content_lines, IsContent}
 use Rattle.flow_text.specs.TreeLimits.{depth, all_items, most_inner, of_content}
-use Rattle.flow_list.specs.declared.data.Bound.{Bound}
-use Rattle.flow_list.specs.declared.data.BoxInfo.{BoxInfo}
-use Rattle.flow_list.specs.declared.data.FlowsData.{FlowsData}
-use Rattle.flow_list.specs.declared.data.RowInfo.{RowInfo}
-use Rattle.flow_list.specs.declared.data.Stack.{Stack}
-use Rattle.flow_list.specs.Flows.{flow_in, rows_in}
+use Rattle.flow_data.specs.declared.data.Bound.{Bound}
+use Rattle.flow_data.specs.declared.data.BoxInfo.{BoxInfo}
+use Rattle.flow_data.specs.declared.data.FlowsData.{FlowsData}
+use Rattle.flow_data.specs.declared.data.RowInfo.{RowInfo}
+use Rattle.flow_data.specs.declared.data.Stack.{Stack}
+use Rattle.flow_data.specs.Flows.{flow_in, rows_in}
 use Rattle.flow_list.specs.FileFlows.{IsFile, limit_of, flows_of, outer_flow, row_count, row_flow, rows_from, flows_from, boxes_from, bound_of, content_flows, content_rows, content_boxes}
-use Rattle.flow_list.specs.Soundness.{count_of, flow_height, flow_owners, IsSoundFlow, IsSoundRow, IsInnerRow, NestsAtMost, flows_within, IsSoundStack, IsSound}
+use Rattle.flow_data.specs.Soundness.{count_of, flow_height, flow_owners, IsSoundFlow, IsSoundRow, IsInnerRow, NestsAtMost, flows_within, IsSoundStack, IsSound}
 use Rattle.flow_list.proofs.OuterFlow.{outer_sound, each_of_one}
 use Rattle.flow_list.proofs.FileFlowSound.{content_flows_all}
 use Rattle.flow_list.proofs.FileLimits.{IsLow, IsLowContent, IsWithinLimits, file_within_limits}

@@ -10,17 +10,17 @@ use Rattle.flow_text.specs.declared.line.Form.TheVariants as forms
 use Rattle.flow_text.specs.Grammar.{Rest, no_more, edge, place, atom, row}
 use Rattle.flow_text.specs.Limits.{numbers}
 use Rattle.flow_text.specs.TreeLimits.{own_items, all_items}
-use Rattle.flow_list.specs.declared.data.AtomKind.TheVariants.{Plain}
-use Rattle.flow_list.specs.declared.data.BoxInfo.{BoxInfo}
-use Rattle.flow_list.specs.declared.data.Edge.{Edge}
-use Rattle.flow_list.specs.declared.data.Flow.{Flow}
-use Rattle.flow_list.specs.declared.data.FlowsData.{FlowsData}
-use Rattle.flow_list.specs.declared.data.Item.TheVariants.{Atom, Row}
-use Rattle.flow_list.specs.declared.data.RowInfo.{RowInfo}
-use Rattle.flow_list.specs.declared.data.Seam.{Seam}
-use Rattle.flow_list.specs.Flows.{no_box, flow_of, box_of, atom_height, amount, started, starts_in}
+use Rattle.flow_data.specs.declared.data.AtomKind.TheVariants.{Plain}
+use Rattle.flow_data.specs.declared.data.BoxInfo.{BoxInfo}
+use Rattle.flow_data.specs.declared.data.Edge.{Edge}
+use Rattle.flow_data.specs.declared.data.Flow.{Flow}
+use Rattle.flow_data.specs.declared.data.FlowsData.{FlowsData}
+use Rattle.flow_data.specs.declared.data.Item.TheVariants.{Atom, Row}
+use Rattle.flow_data.specs.declared.data.RowInfo.{RowInfo}
+use Rattle.flow_data.specs.declared.data.Seam.{Seam}
+use Rattle.flow_data.specs.Flows.{no_box, flow_of, box_of, atom_height, amount, started, starts_in}
 use Rattle.flow_list.specs.FileFlows.{line_edges, edges_before, edges_behind, seam_behind, seams_behind, first_seam, row_count, items_from, row_flow, rows_from, flows_from, line_boxes, boxes_from}
-use Rattle.flow_list.specs.Soundness.{flow_height}
+use Rattle.flow_data.specs.Soundness.{flow_height}
 use Rattle.flow_list.proofs.FileLimits.{AreLow, IsLow}
 use Rattle.flow_list.proofs.FilePlaces.{ArePlaced, line_total}
 use Rattle.flow_list.proofs.FileNests.{length-items}

@@ -1,6 +1,5 @@
 pub mod AtomFlows
 pub mod Built
-pub mod EdgeSums
 pub mod FileAcross
 pub mod FileFlowSound
 pub mod FileKnown
@@ -13,20 +12,13 @@ pub mod FileReadings
 pub mod FileSeams
 pub mod FileSound
 pub mod FileSums
-pub mod Everywhere
-pub mod FilledBoxes
-pub mod FitsAcross
 pub mod Fitting
 pub mod LeastHeight
-pub mod OpenBoxes
+pub mod OpenAcross
 pub mod OuterFlow
 pub mod PlaceBounds
 mod SoundExamples
-pub mod SoundFlow
-pub mod SoundSeams
-pub mod StandsOnce
 pub mod StripBounds
-pub mod Verdicts
 pub mod Walk
 mod Worked
 mod WorkedCertificates

@@ -14,20 +14,20 @@ use Rattle.flow_text.specs.Faults.{IsFirstFault}
 use Rattle.flow_text.specs.Grammar.{Rest, no_more, edge, place, atom, row, FlowFile, IsFlowFile, file_lines}
 use Rattle.flow_text.specs.Limits.{limit_passed}
 use Rattle.flow_text.specs.Text.{IsText}
-use Rattle.flow_list.specs.declared.data.AtomKind.TheVariants.{Plain}
-use Rattle.flow_list.specs.declared.data.Bound.{Bound}
-use Rattle.flow_list.specs.declared.data.Bound.TheVariants.{Free, Each}
-use Rattle.flow_list.specs.declared.data.BoxInfo.{BoxInfo}
-use Rattle.flow_list.specs.declared.data.Edge.{Edge}
-use Rattle.flow_list.specs.declared.data.Edge.TheVariants.{Margin, Solid, Wall, Start, End}
-use Rattle.flow_list.specs.declared.data.Flow.{Flow}
-use Rattle.flow_list.specs.declared.data.FlowsData.{FlowsData}
-use Rattle.flow_list.specs.declared.data.Item.{Item}
-use Rattle.flow_list.specs.declared.data.Item.TheVariants.{Atom, Row}
-use Rattle.flow_list.specs.declared.data.RowInfo.{RowInfo}
-use Rattle.flow_list.specs.declared.data.Seam.{Seam}
-use Rattle.flow_list.specs.declared.data.Stack.{Stack}
-use Rattle.flow_list.specs.Flows.{no_seam}
+use Rattle.flow_data.specs.declared.data.AtomKind.TheVariants.{Plain}
+use Rattle.flow_data.specs.declared.data.Bound.{Bound}
+use Rattle.flow_data.specs.declared.data.Bound.TheVariants.{Free, Each}
+use Rattle.flow_data.specs.declared.data.BoxInfo.{BoxInfo}
+use Rattle.flow_data.specs.declared.data.Edge.{Edge}
+use Rattle.flow_data.specs.declared.data.Edge.TheVariants.{Margin, Solid, Wall, Start, End}
+use Rattle.flow_data.specs.declared.data.Flow.{Flow}
+use Rattle.flow_data.specs.declared.data.FlowsData.{FlowsData}
+use Rattle.flow_data.specs.declared.data.Item.{Item}
+use Rattle.flow_data.specs.declared.data.Item.TheVariants.{Atom, Row}
+use Rattle.flow_data.specs.declared.data.RowInfo.{RowInfo}
+use Rattle.flow_data.specs.declared.data.Seam.{Seam}
+use Rattle.flow_data.specs.declared.data.Stack.{Stack}
+use Rattle.flow_data.specs.Flows.{no_seam}
 
 -- ---- seams
 

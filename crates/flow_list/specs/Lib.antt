@@ -1,11 +1,9 @@
-pub mod Across
 pub mod Atoms
 pub mod Building
 pub mod Certificate
 pub mod ClonedEdges
 pub mod Column
 pub mod Counts
-pub mod Flows
 pub mod FileFlows
 pub mod Fragments
 pub mod Looks
@@ -14,8 +12,6 @@ pub mod Ranges
 pub mod ResultText
 pub mod RowHeights
 pub mod Rows
-pub mod Sizes
-pub mod Soundness
 pub mod Stacks
 pub mod Strip
 pub mod Tokens

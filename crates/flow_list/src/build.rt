@@ -5,10 +5,9 @@ ghost use Rattle.flow_text.specs.declared.line.Line.{Line};
 ghost use Rattle.flow_text.specs.Grammar.{FlowFile, IsFlowFile};
 ghost use Rattle.flow_list.specs.Building as building;
 ghost use Rattle.flow_list.specs.FileFlows.{bound_of, flows_of, outer_flow};
-ghost use Rattle.flow_list.specs.Flows.{no_flow, no_seam};
+ghost use Rattle.flow_data.specs.Flows.{no_flow, no_seam};
 
-use crate::data;
-use crate::data::{AtomKind, Bound, BoxInfo, Edge, Flow, FlowsData, Item, RowInfo, Seam};
+use flow_data::{AtomKind, Bound, BoxInfo, Edge, Flow, FlowsData, Item, RowInfo, Seam};
 use flow_text::{Form, Line, Stack};
 use mc_base::{Level, List, NoMemory, Units};
 use std::alloc::Global;
@@ -33,7 +32,7 @@ pub struct Parts {
     pub flows: List<Flow>,
     pub rows: List<RowInfo>,
     pub boxes: List<BoxInfo>,
-    pub stacks: List<data::Stack>,
+    pub stacks: List<flow_data::Stack>,
 }
 
 /// A seam without edges, at a place that breaks no rule.
@@ -243,7 +242,7 @@ impl Parts {
             x: 0,
             auto,
         })?;
-        parts.stacks.push(data::Stack {
+        parts.stacks.push(flow_data::Stack {
             flow: 0,
             w: width_of(n, w, step),
             bound: bound_of(available),

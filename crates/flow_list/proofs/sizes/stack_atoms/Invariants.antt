@@ -1,8 +1,0 @@
-use Rattle.std.proofs.Common.{◌≡◌, ◌-◌, ◌^◌, min, sum_by, count_by, take}
-use Rattle.flow_list.specs.declared.data.Stack.{Stack}
-use Rattle.flow_list.specs.Flows.{flow_of}
-use Rattle.flow_list.specs.Soundness.{is_atom}
-use Rattle.flow_list.proofs.sizes.stack_atoms.Given as goal
-
-abbrev pub invariant-loop-stack : goal.invariant-loop-stack
-invariant-loop-stack l = l.count ≡ min (sum_by (λ (s : Stack). count_by is_atom (flow_of l.parts s.flow).items) (take l.stack-index l.parts.stacks)) (2 ^ 64 - 1)

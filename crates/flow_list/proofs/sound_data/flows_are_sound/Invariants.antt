@@ -1,6 +1,0 @@
-use Rattle.std.proofs.Common.{All, take}
-use Rattle.flow_list.specs.Soundness.{IsSoundFlow}
-use Rattle.flow_list.proofs.sound_data.flows_are_sound.Given as goal
-
-abbrev pub invariant-loop-flow : goal.invariant-loop-flow
-invariant-loop-flow l = All (IsSoundFlow l.parts) (take l.flow-index l.parts.flows)

@@ -1,6 +1,0 @@
-use Rattle.std.proofs.Common.{ℕ, ◌<◌}
-use Rattle.flow_list.specs.Soundness.{NestsAtMost}
-use Rattle.flow_list.proofs.sound_rows.rows_nest.Given as goal
-
-abbrev pub invariant-loop-row : goal.invariant-loop-row
-invariant-loop-row l = (k : ℕ) → k < l.row → NestsAtMost l.parts 3 k
