@@ -1,6 +1,6 @@
 //! Laws of columns: what is true of the definitions of flow_list, whatever lays out or checks.
 //!
-//! It stands on flow_list. Each function promises one law, does nothing, and takes no memory.
+//! It stands on flow_list and flow_data. Each function promises one law, does nothing, and takes no memory.
 #![tactic(auto)]
 
 ghost use Rattle.std.specs.Prelude.{ℕ, ◌<◌, length};
