@@ -1,6 +1,6 @@
 -- The cloned edges of the boxes that are open across a seam, in a sound flow: at a tail those that end there fall away, at a
 -- head those that start there come.
-use Rattle.std.proofs.Common.{◌≡◌, ℕ, zero, suc, ◌+◌, ◌<◌, ◌≤◌, cond, List, [], ◌∷◌, ◌++◌, length, take, get_or, refl, sym, subst, ◌∙◌, ap, arith, sum_by, add-one, All}
+use Rattle.std.proofs.Common.{◌≡◌, ℕ, zero, suc, ◌+◌, ◌<◌, ◌≤◌, cond, [], ◌∷◌, ◌++◌, length, take, get_or, sym, subst, ◌∙◌, ap, arith, sum_by, add-one, All}
 use Rattle.std.specs.Prelude.{◌==◌}
 use Rattle.std.specs.List.{flat_map}
 use Rattle.std.proofs.lemmas.Grind.{flat_map-append}
@@ -9,7 +9,7 @@ use Rattle.std.proofs.lemmas.List.Sums.{sum_by-append}
 use Rattle.flow_data.specs.declared.data.Seam.{Seam}
 use Rattle.flow_data.specs.declared.data.Flow.{Flow}
 use Rattle.flow_data.specs.declared.data.FlowsData.{FlowsData}
-use Rattle.flow_data.specs.Flows.{seam_of, no_seam, started, starts_in, ended, ends_in, open_at, boxes_in}
+use Rattle.flow_data.specs.Flows.{seam_of, no_seam, started, starts_in, ended, ends_in, open_at}
 use Rattle.flow_data.specs.Soundness.{count_of, IsSoundFlow}
 use Rattle.flow_data.proofs.OpenBoxes.{at-sum, at-sum-first, has-count, in-range, open-once, sum-less, tail-within}
 use Rattle.flow_list.specs.ClonedEdges.{open_across}
