@@ -4,15 +4,15 @@ use Rattle.std.proofs.lemmas.List.{length-map}
 use Rattle.std.specs.Prelude.{codes, All}
 use Rattle.std.specs.List.{sum_by}
 use Rattle.std.proofs.lemmas.List.Sums.{sum_by-le}
-use Rattle.flow_list.specs.declared.data.Flow.{Flow}
-use Rattle.flow_list.specs.declared.data.FlowsData.{FlowsData}
-use Rattle.flow_list.specs.declared.data.Item.{Item}
-use Rattle.flow_list.specs.declared.data.RowInfo.{RowInfo}
-use Rattle.flow_list.specs.declared.data.Stack.{Stack}
+use Rattle.flow_data.specs.declared.data.Flow.{Flow}
+use Rattle.flow_data.specs.declared.data.FlowsData.{FlowsData}
+use Rattle.flow_data.specs.declared.data.Item.{Item}
+use Rattle.flow_data.specs.declared.data.RowInfo.{RowInfo}
+use Rattle.flow_data.specs.declared.data.Stack.{Stack}
 use Rattle.flow_list.specs.declared.plain.PlainFile.{PlainFile}
 use Rattle.flow_list.specs.Atoms.{IsAtom, HoldsAtoms}
 use Rattle.flow_list.specs.Plain.{IsPlain, plain_atom, pieces_flow, flows_of}
-use Rattle.flow_list.specs.Flows.{atom_height, flow_of, flow_in, row_of, stack_of}
+use Rattle.flow_data.specs.Flows.{atom_height, flow_of, flow_in, row_of, stack_of}
 use Rattle.flow_list.specs.Tokens.{Token, row_start, is_end}
 use Rattle.flow_list.specs.Column.{Column, Inner}
 use Rattle.flow_list.specs.Rows.{all_rows, columns_by, items_left, left_in}

@@ -4,14 +4,14 @@ use Rattle.std.specs.Prelude.{codes, replicate, nat_lt, nat_le}
 use Rattle.std.specs.List.{flat_map, filter}
 use Rattle.std.proofs.lemmas.Bool.Decides.{Decides-eqb}
 use Rattle.std.proofs.lemmas.List.{drop_more, drop_all, length-map}
-use Rattle.flow_list.specs.declared.data.Edge.{Edge}
-use Rattle.flow_list.specs.declared.data.Flow.{Flow}
-use Rattle.flow_list.specs.declared.data.FlowsData.{FlowsData}
-use Rattle.flow_list.specs.declared.data.Item.{Item}
-use Rattle.flow_list.specs.declared.data.RowInfo.{RowInfo}
-use Rattle.flow_list.specs.declared.data.Seam.{Seam}
+use Rattle.flow_data.specs.declared.data.Edge.{Edge}
+use Rattle.flow_data.specs.declared.data.Flow.{Flow}
+use Rattle.flow_data.specs.declared.data.FlowsData.{FlowsData}
+use Rattle.flow_data.specs.declared.data.Item.{Item}
+use Rattle.flow_data.specs.declared.data.RowInfo.{RowInfo}
+use Rattle.flow_data.specs.declared.data.Seam.{Seam}
 use Rattle.flow_list.specs.Plain.{plain_atom, pieces_flow}
-use Rattle.flow_list.specs.Flows.{atom_height, no_item, no_seam, item_of, seam_of, started, ended, open_at, starts_in, ends_in, is_among}
+use Rattle.flow_data.specs.Flows.{atom_height, no_item, no_seam, item_of, seam_of, started, ended, open_at, starts_in, ends_in, is_among}
 use Rattle.flow_list.specs.ClonedEdges.{open_across, tops}
 use Rattle.flow_list.specs.Strip.{Strip, strip_at, put, lay, lay_all}
 use Rattle.flow_list.specs.Tokens.{Token, row_start, item_number}

@@ -2,7 +2,7 @@
 use Rattle.std.specs.Prelude.{◌≡◌, ◌≢◌, ℕ, ◌<◌, ◌≤◌, ◌+◌, List, length, Option, None, Some, IfSome, IsSomeAnd, ⊤}
 use Rattle.std.specs.Option.{option_and_then}
 use Rattle.std.specs.Io.KnownBytes.{Appends}
-use Rattle.flow_list.specs.declared.data.FlowsData.{FlowsData}
+use Rattle.flow_data.specs.declared.data.FlowsData.{FlowsData}
 use Rattle.flow_list.specs.declared.plain.PlainFile.{PlainFile}
 use Rattle.flow_list.specs.Plain.{IsPlain, spelling, flows_of}
 use Rattle.mc_base.specs.Outside.{HasRisen, AppendsPart}

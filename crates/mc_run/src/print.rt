@@ -2,7 +2,7 @@
 
 ghost use Rattle.std.specs.Prelude.{◌≡◌, ◌+◌, ◌^◌, ◌<◌, ◌≤◌, ◌∷◌, ◌++◌, length, sum_by, OnOk};
 ghost use Rattle.std.specs.Fmt.{decimal};
-ghost use Rattle.flow_list.specs.Flows.{flow_of, atom_height};
+ghost use Rattle.flow_data.specs.Flows.{flow_of, atom_height};
 ghost use Rattle.mc_run.specs.Printed.{numbers_text, tree_line};
 ghost use Rattle.mc_run.specs.Items.{item_lines, items_between, columns_text};
 

@@ -1,6 +1,6 @@
 -- what stands there, and the columns to come
 use Rattle.std.proofs.Common.{◌≡◌, ◌++◌, drop}
-use Rattle.flow_list.specs.Flows.{flow_of}
+use Rattle.flow_data.specs.Flows.{flow_of}
 use Rattle.mc_run.specs.Items.{columns_text}
 use Rattle.mc_run.proofs.print.put_columns.Given as goal
 

@@ -1,7 +1,7 @@
 -- One item more: its line, and its height in what stands above the next one.
 use Rattle.std.proofs.Common.{◌<◌, length, refl, arith, ◌∙◌, ap}
 use Rattle.std.proofs.lemmas.List.Sums.{sum_by-take-drop, sum_by-drop_more}
-use Rattle.flow_list.specs.Flows.{flow_of, atom_height, no_item}
+use Rattle.flow_data.specs.Flows.{flow_of, atom_height, no_item}
 use Rattle.mc_run.proofs.ItemLines.{item_lines-more, so_far}
 use Rattle.mc_run.proofs.print.put_items.Goals as goal
 

@@ -1,6 +1,6 @@
 -- What stands there, and the items to come, which stand at y: as high as the items before were, so y stays small.
 use Rattle.std.proofs.Common.{◌≡◌, ◌+◌, ◌≤◌, ◌++◌, drop, sum_by}
-use Rattle.flow_list.specs.Flows.{flow_of, atom_height}
+use Rattle.flow_data.specs.Flows.{flow_of, atom_height}
 use Rattle.mc_run.specs.Items.{item_lines, items_between}
 use Rattle.mc_run.proofs.print.put_items.Given as goal
 

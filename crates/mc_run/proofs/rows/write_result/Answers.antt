@@ -1,7 +1,7 @@
 use Rattle.std.proofs.Common.{◌≡◌, ◌<◌, ◌^◌, ◌∷◌, [], ◌++◌, length, arith, subst, sym, ap, ◌∙◌}
 use Rattle.mc_run.proofs.PlainResult.{holds_atoms, heights_small, ends_few, is_printed, added}
 use Rattle.std.specs.Prelude.{codes}
-use Rattle.flow_list.specs.Flows.{flow_of}
+use Rattle.flow_data.specs.Flows.{flow_of}
 use Rattle.flow_list.specs.RowHeights.{row_height, columns_of_row, ends_of}
 use Rattle.mc_run.specs.Printed.{tree_line}
 use Rattle.mc_run.specs.Items.{columns_text}

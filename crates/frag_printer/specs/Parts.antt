@@ -1,0 +1,60 @@
+-- What is placed in a column, with the bottom of each box.
+use Rattle.std.specs.Prelude.{ℕ, ◌+◌, ◌-◌, ◌<◌, List, [], ◌∷◌, ◌++◌, length, map}
+use Rattle.flow_data.specs.declared.data.Flow.{Flow}
+use Rattle.flow_data.specs.declared.data.FlowsData.{FlowsData}
+use Rattle.flow_data.specs.Flows.{box_of, item_of}
+use Rattle.flow_list.specs.Fragments.{bottom_of}
+use Rattle.flow_list.specs.Placing.{Placed as AnyPlaced, opens_at, closes_at, atom_at, row_at}
+use Rattle.flow_list.specs.Tree.{TreeLine, Frame}
+use Rattle.frag_printer.specs.declared.parts.Part.{Part}
+use Rattle.frag_printer.specs.declared.parts.Part.TheVariants.{Opens, Closes, Atom, Row}
+use Rattle.frag_printer.specs.declared.parts.Inside.{Inside}
+use Rattle.frag_printer.specs.declared.placing.Placed.{Placed}
+use Rattle.frag_printer.specs.declared.placing.Placed.TheVariants.{Opens as OpensAt, Closes as ClosesAt, Atom as AtomAt, Row as RowAt}
+use Rattle.frag_printer.specs.Placing.{placed_as}
+
+-- what is placed, where this stands behind it
+abbrev pub part_of : Placed → List AnyPlaced → Part
+part_of (OpensAt number y starts) later = Opens number y starts (bottom_of number later)
+part_of (ClosesAt number y) later = Closes number
+part_of (AtomAt item y) later = Atom item y
+part_of (RowAt number height made y) later = Row number height made y
+
+abbrev pub parts_of : List Placed → List Part
+parts_of [] = []
+parts_of (p ∷ ps) = part_of p (map placed_as ps) ∷ parts_of ps
+
+-- no stack stands in another
+abbrev pub no_stacks : ℕ → ℕ → ℕ → ℕ → List TreeLine
+no_stacks s depth x y = []
+
+-- where things stand, as it is kept
+abbrev pub frame_of : Inside → Frame
+frame_of at = record { x = at.x; y = at.y; w = at.w; h = at.h; extent = at.extent; feet = at.feet }
+
+-- something that is placed names a box or an item that there is
+abbrev pub IsPlacedIn : FlowsData → Flow → AnyPlaced → Type 0
+IsPlacedIn d f (opens_at b y starts) = b < length d.boxes
+IsPlacedIn d f (closes_at b y) = b < length d.boxes
+IsPlacedIn d f (atom_at k y) = k < length f.items
+IsPlacedIn d f (row_at r y) = Unit {0}
+
+-- what a box that starts or continues there has below again
+abbrev pub feet_in : FlowsData → AnyPlaced → ℕ
+feet_in d (opens_at b y starts) = (box_of d b).bottom
+feet_in d (closes_at b y) = 0
+feet_in d (atom_at k y) = 0
+feet_in d (row_at r y) = 0
+
+-- the same of the parts
+abbrev pub IsPartIn : FlowsData → Flow → (low : ℕ) → Part → Type 0
+IsPartIn d f low (Opens number y starts bottom) = (number < length d.boxes) × (y < low)
+IsPartIn d f low (Closes number) = number < length d.boxes
+IsPartIn d f low (Atom item y) = (item < length f.items) × (y < low)
+IsPartIn d f low (Row number height made y) = ⊥
+
+abbrev pub feet_of : FlowsData → Part → ℕ
+feet_of d (Opens number y starts bottom) = (box_of d number).bottom
+feet_of d (Closes number) = 0
+feet_of d (Atom item y) = 0
+feet_of d (Row number height made y) = 0
