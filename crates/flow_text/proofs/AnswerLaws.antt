@@ -44,7 +44,7 @@ only text r h lines file spelled is =
     rw e at h
 
 -- a refusal by a limit
-abbrev IsLimit : Refusal → Type 0
+abbrev pub IsLimit : Refusal → Type 0
 IsLimit (refusals.Grammar input offset rule) = ⊥
 IsLimit (refusals.Construct input offset name) = ⊥
 IsLimit (refusals.Limit name reached limit) = Unit {0}
@@ -79,7 +79,7 @@ long : (l o : Option ℕ) (d : Bool) (n : ℕ) (b : Bool) (g : Refusal) → or_l
 long (Some u) o d n b g h = some_limit _ g tt h
 long None o d n b g h = wide o d n b g h
 
-passed_limit : (lines : List Line) (g : Refusal) → limit_passed lines ≡ Some g → IsLimit g
+pub passed_limit : (lines : List Line) (g : Refusal) → limit_passed lines ≡ Some g → IsLimit g
 unfolding limit_passed
 passed_limit lines g h = long (first_long lines) (first_wide lines) (is_deep 0 lines) (items lines) (has_crowded_row no_counts lines) g h
 
