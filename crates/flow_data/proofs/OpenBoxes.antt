@@ -346,6 +346,3 @@ module _ (d : FlowsData) (f : Flow) (sound : IsSoundFlow d f) where
 
   pub opened-known : All (λ b. b < length d.boxes) f.opened
   opened-known j b lt = let m : ℕ = get_or f.opened j b in in-range m (omega (arith, has-count f.opened j b lt, count-append m f.opened (starts_in f.seams)))
-
-  pub across-known : (k : ℕ) → All (λ b. b < length d.boxes) (open_across f k)
-  across-known k j b lt = let m : ℕ = get_or (open_across f k) j b in in-range m (omega (arith, has-count (open_across f k) j b lt, open_across-le (λ x. cond (x == m) 1 0) f k))
