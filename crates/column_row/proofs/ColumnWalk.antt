@@ -3,10 +3,10 @@ use Rattle.std.proofs.Common.{◌≡◌, ℕ, suc, ◌+◌, ◌-◌, ◌<◌, �
 use Rattle.std.specs.Prelude.{IfSome, IfNone, IsSomeAnd, ◌==◌}
 use Rattle.std.proofs.lemmas.Bool.{lt-ltb, le-ltb}
 use Rattle.mc_base.specs.declared.level.Level.{Level}
-use Rattle.flow_list.specs.declared.data.Flow.{Flow}
-use Rattle.flow_list.specs.declared.data.FlowsData.{FlowsData}
+use Rattle.flow_data.specs.declared.data.Flow.{Flow}
+use Rattle.flow_data.specs.declared.data.FlowsData.{FlowsData}
 use Rattle.flow_list.specs.Atoms.{IsAtom}
-use Rattle.flow_list.specs.Flows.{item_of, seam_of}
+use Rattle.flow_data.specs.Flows.{item_of, seam_of}
 use Rattle.flow_list.specs.Strip.{Strip, lay_all}
 use Rattle.flow_list.specs.Tokens.{row_start}
 use Rattle.flow_list.specs.Column.{Inner, Step, Place, place_in, is_forced, rank, step_at, steps, strip_behind, start_strip, steps_from, column, avoids_at, whole_place}

@@ -2,19 +2,21 @@
 use Rattle.std.proofs.Common.{◌≡◌, ℕ, ◌+◌, ◌<◌, ◌≤◌, ◌^◌, List, length, drop, ap, ◌∙◌, arith, sum_by, All}
 use Rattle.std.specs.List.{flat_map}
 use Rattle.mc_base.specs.declared.level.Level.{Level}
-use Rattle.flow_list.specs.declared.data.Edge.{Edge}
-use Rattle.flow_list.specs.declared.data.Flow.{Flow}
-use Rattle.flow_list.specs.declared.data.FlowsData.{FlowsData}
-use Rattle.flow_list.specs.declared.data.Seam.{Seam}
+use Rattle.flow_data.specs.declared.data.Edge.{Edge}
+use Rattle.flow_data.specs.declared.data.Flow.{Flow}
+use Rattle.flow_data.specs.declared.data.FlowsData.{FlowsData}
+use Rattle.flow_data.specs.declared.data.Seam.{Seam}
 use Rattle.flow_list.specs.Atoms.{IsAtom, HoldsAtoms}
 use Rattle.flow_list.specs.ClonedEdges.{tops, bottoms}
-use Rattle.flow_list.specs.Flows.{no_flow, no_item, flow_of, item_of, seam_of, box_of, amount, atom_height, started, ended, boxes_in}
+use Rattle.flow_data.specs.Flows.{no_flow, no_item, flow_of, item_of, seam_of, box_of, amount, atom_height, started, ended, boxes_in}
 use Rattle.flow_list.specs.Rows.{all_rows, heights_from, amounts_in, reach}
-use Rattle.flow_list.specs.Soundness.{IsSound, IsSoundFlow}
+use Rattle.flow_data.specs.Soundness.{IsSound, IsSoundFlow}
 use Rattle.flow_list.specs.Tokens.{row_start}
 use Rattle.flow_list.proofs.AtomFlows.{atom-height, reach-bound}
-use Rattle.flow_list.proofs.Fitting.{first-height, first-amounts, amounts-drop, heights-drop, open_at-le, open_across-le}
-use Rattle.flow_list.proofs.OpenBoxes.{across-sum, at-sum-is, starts-known, ends-known}
+use Rattle.flow_data.proofs.BoxSums.{open_at-le}
+use Rattle.flow_list.proofs.Fitting.{first-height, first-amounts, amounts-drop, heights-drop, open_across-le}
+use Rattle.flow_list.proofs.OpenAcross.{across-sum, at-sum-is}
+use Rattle.flow_data.proofs.OpenBoxes.{starts-known, ends-known}
 use Rattle.column_row.specs.declared.cloned.Cloned.{Cloned}
 use Rattle.column_row.specs.declared.strip.Laying.{Laying}
 use Rattle.column_row.specs.Ending.{IsAcross, IsOpen, IsBefore, IsBehind}

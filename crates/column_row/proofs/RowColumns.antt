@@ -5,17 +5,17 @@ use Rattle.std.specs.List.{list_any}
 use Rattle.std.proofs.lemmas.Bool.Decides.{nat_tests}
 use Rattle.std.proofs.lemmas.List.{get_or_default}
 use Rattle.std.proofs.lemmas.Bool.{cases_lt, cases_order, lt-ltb, le-ltb}
-use Rattle.flow_list.specs.declared.data.Flow.{Flow}
-use Rattle.flow_list.specs.declared.data.FlowsData.{FlowsData}
-use Rattle.flow_list.specs.declared.data.Item.{Item}
-use Rattle.flow_list.specs.declared.data.RowInfo.{RowInfo}
+use Rattle.flow_data.specs.declared.data.Flow.{Flow}
+use Rattle.flow_data.specs.declared.data.FlowsData.{FlowsData}
+use Rattle.flow_data.specs.declared.data.Item.{Item}
+use Rattle.flow_data.specs.declared.data.RowInfo.{RowInfo}
 use Rattle.flow_list.specs.Atoms.{HoldsAtoms, IsAtom}
-use Rattle.flow_list.specs.Flows.{no_item, no_row, item_of, row_of, flow_in, flow_of}
+use Rattle.flow_data.specs.Flows.{no_item, no_row, item_of, row_of, flow_in, flow_of}
 use Rattle.flow_list.specs.Tokens.{row_start, item_number}
 use Rattle.flow_list.specs.Column.{Column}
 use Rattle.flow_list.specs.RowHeights.{balanced_height, before_items, columns_of_row, ends_of, filled_height, greatest_extent, height_fits, is_unforced, row_columns, row_height, size_of}
 use Rattle.flow_list.specs.Rows.{all_rows, columns, fits, left_in, most_columns, reach, reach_end}
-use Rattle.flow_list.specs.Soundness.{IsSound}
+use Rattle.flow_data.specs.Soundness.{IsSound}
 use Rattle.flow_list.proofs.AtomFlows.{atoms-left}
 use Rattle.flow_list.proofs.Fitting.{columns-endless, size-least, size-reach}
 use Rattle.flow_list.proofs.LeastHeight.{IsLeast, least-unique}

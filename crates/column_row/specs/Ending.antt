@@ -1,9 +1,9 @@
 -- The endings of columns as places, and what is known of them.
 use Rattle.std.specs.Prelude.{◌≡◌, ℕ, ◌+◌, ◌-◌, ◌^◌, ◌==◌, ◌||◌, cond, nat_lt, ◌<◌, ◌≤◌, false, Bool, List, [], ◌∷◌, drop, map, sum_by, Option, Some, None}
 use Rattle.mc_base.specs.declared.level.Level.{Level}
-use Rattle.flow_list.specs.declared.data.Flow.{Flow}
-use Rattle.flow_list.specs.declared.data.FlowsData.{FlowsData}
-use Rattle.flow_list.specs.Flows.{amount, boxes_in, open_at, seam_of}
+use Rattle.flow_data.specs.declared.data.Flow.{Flow}
+use Rattle.flow_data.specs.declared.data.FlowsData.{FlowsData}
+use Rattle.flow_data.specs.Flows.{amount, boxes_in, open_at, seam_of}
 use Rattle.flow_list.specs.ClonedEdges.{open_across, tops, bottoms}
 use Rattle.flow_list.specs.Rows.{all_rows, amounts_in, heights_from, reach}
 use Rattle.flow_list.specs.Tokens.{item_number, row_start}

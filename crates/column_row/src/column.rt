@@ -3,7 +3,7 @@
 ghost use Rattle.std.specs.Prelude.{◌≡◌, ◌<◌, ◌≤◌, ◌⊎◌, [], ◌∷◌, IfSome, IfNone, IsSomeAnd, Some, None, cond, true, length};
 ghost use Rattle.flow_list.specs.Atoms.{HoldsAtoms};
 ghost use Rattle.flow_list.specs.Column.{better_place, column, is_forced, place_in, rank};
-ghost use Rattle.flow_list.specs.Flows.{flow_of};
+ghost use Rattle.flow_data.specs.Flows.{flow_of};
 ghost use Rattle.flow_list.specs.Rows.{all_rows};
 ghost use Rattle.column_row.specs.Ending.{IsAcross, considered, place_of, place_opt};
 

@@ -3,7 +3,7 @@
 ghost use Rattle.std.specs.Prelude.{◌≡◌, ◌+◌, ◌<◌, ◌≤◌, [], ◌∷◌, IfOk, cond, false, length, nat_lt, not, ◌&&◌, ◌||◌};
 ghost use Rattle.std.specs.List.{list_any};
 ghost use Rattle.flow_list.specs.Atoms.{HoldsAtoms};
-ghost use Rattle.flow_list.specs.Flows.{flow_in, flow_of, row_of};
+ghost use Rattle.flow_data.specs.Flows.{flow_in, flow_of, row_of};
 ghost use Rattle.flow_list.specs.RowHeights.{before_items, ends_of, greatest_extent, is_unforced};
 ghost use Rattle.flow_list.specs.Rows.{all_rows, columns, most_columns as most_of, reach_end};
 ghost use Rattle.flow_list.specs.Tokens.{row_start};

@@ -1,6 +1,6 @@
 //! Columns of a row one after another, and the height of a row.
 //!
-//! It stands on flow_list and mc_base. It promises the columns, the heights that fit and the row heights that the
+//! It stands on flow_list, flow_data and mc_base. It promises the columns, the heights that fit and the row heights that the
 //! definitions of flow_list give, for rows whose flow holds atoms alone.
 #![tactic(auto)]
 

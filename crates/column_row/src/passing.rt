@@ -3,7 +3,7 @@
 ghost use Rattle.std.specs.Prelude.{◌≡◌, ◌+◌, ◌<◌, [], ◌∷◌, length};
 ghost use Rattle.flow_list.specs.Atoms.{HoldsAtoms};
 ghost use Rattle.flow_list.specs.Column.{start_strip, strip_behind};
-ghost use Rattle.flow_list.specs.Flows.{atom_height, flow_of, seam_of};
+ghost use Rattle.flow_data.specs.Flows.{atom_height, flow_of, seam_of};
 ghost use Rattle.flow_list.specs.Rows.{all_rows};
 ghost use Rattle.flow_list.specs.Strip.{lay_all};
 ghost use Rattle.flow_list.specs.Tokens.{row_start};

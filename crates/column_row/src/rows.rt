@@ -2,7 +2,7 @@
 
 ghost use Rattle.std.specs.Prelude.{◌≡◌, ◌<◌, IfOk, Some, false, length, true};
 ghost use Rattle.flow_list.specs.Atoms.{HoldsAtoms};
-ghost use Rattle.flow_list.specs.Flows.{flow_in, row_of};
+ghost use Rattle.flow_data.specs.Flows.{flow_in, row_of};
 ghost use Rattle.flow_list.specs.RowHeights.{balanced_height, before_items, columns_of_row, ends_of, greatest_extent, height_fits, row_columns, row_height, size_of};
 ghost use Rattle.flow_list.specs.Tokens.{row_start};
 ghost use Rattle.column_row.specs.Ending.{any_unforced, filled_to, is_all_of, items_of, limit};

@@ -1,6 +1,6 @@
 ghost use Rattle.std.specs.Prelude.{◌≡◌, ◌<◌, length, true};
 ghost use Rattle.flow_list.specs.Atoms.{HoldsAtoms};
-ghost use Rattle.flow_list.specs.Flows.{flow_in};
+ghost use Rattle.flow_data.specs.Flows.{flow_in};
 
 use super::*;
 use flow_list::{Counts, Flows, Item, flow_counts, item_at, item_count, read_flow, row_at};

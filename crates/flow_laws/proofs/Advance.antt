@@ -4,11 +4,11 @@ use Rattle.std.specs.Prelude.{nat_lt, nat_le}
 use Rattle.std.proofs.lemmas.Bool.Decides.{nat_tests}
 use Rattle.std.proofs.lemmas.Bool.{cases_lt}
 use Rattle.std.proofs.lemmas.List.{drop-drop, drop_more}
-use Rattle.flow_list.specs.declared.data.Flow.{Flow}
-use Rattle.flow_list.specs.declared.data.FlowsData.{FlowsData}
-use Rattle.flow_list.specs.declared.data.Item.{Item}
-use Rattle.flow_list.specs.declared.data.Item.TheVariants.{Atom, Row}
-use Rattle.flow_list.specs.Flows.{flow_in, item_of, seam_of, no_item}
+use Rattle.flow_data.specs.declared.data.Flow.{Flow}
+use Rattle.flow_data.specs.declared.data.FlowsData.{FlowsData}
+use Rattle.flow_data.specs.declared.data.Item.{Item}
+use Rattle.flow_data.specs.declared.data.Item.TheVariants.{Atom, Row}
+use Rattle.flow_data.specs.Flows.{flow_in, item_of, seam_of, no_item}
 use Rattle.flow_list.specs.Tokens.{Token, row_start, item_number, within, is_end}
 use Rattle.flow_list.specs.Strip.{Strip, lay_all}
 use Rattle.flow_list.specs.Column.{Filled, Inner, Step, Place, Cut, cut, longer, steps, steps_from, start_strip, strip_behind, is_forced, row_from, fill_in_room, room, seams_before, seams_between, inside, inside_place, alone_place, whole_place, is_cut, best, choose, last_place, no_place, column, column_over, column_up_to, avoids_at}

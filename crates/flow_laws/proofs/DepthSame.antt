@@ -2,13 +2,13 @@
 use Rattle.std.proofs.Common.{◌≡◌, ℕ, zero, suc, ◌+◌, ◌-◌, ◌≤◌, Bool, true, false, cond, not, ◌&&◌, List, [], ◌∷◌, length, drop, get_or, Option, Some, None, refl, ◌∙◌, ap, arith}
 use Rattle.std.specs.Prelude.{nat_lt, All}
 use Rattle.std.specs.List.{flat_map, list_any}
-use Rattle.flow_list.specs.declared.data.Flow.{Flow}
-use Rattle.flow_list.specs.declared.data.FlowsData.{FlowsData}
-use Rattle.flow_list.specs.declared.data.Item.{Item}
-use Rattle.flow_list.specs.declared.data.Item.TheVariants.{Atom, Row}
-use Rattle.flow_list.specs.Flows.{row_of, flow_in, item_of, seam_of, no_item, row_in}
+use Rattle.flow_data.specs.declared.data.Flow.{Flow}
+use Rattle.flow_data.specs.declared.data.FlowsData.{FlowsData}
+use Rattle.flow_data.specs.declared.data.Item.{Item}
+use Rattle.flow_data.specs.declared.data.Item.TheVariants.{Atom, Row}
+use Rattle.flow_data.specs.Flows.{row_of, flow_in, item_of, seam_of, no_item, row_in}
 use Rattle.flow_list.specs.ClonedEdges.{open_across, bottoms}
-use Rattle.flow_list.specs.Soundness.{NestsAtMost}
+use Rattle.flow_data.specs.Soundness.{NestsAtMost}
 use Rattle.flow_list.specs.Tokens.{Token, row_start, item_number, within, is_end}
 use Rattle.flow_list.specs.Strip.{Strip, lay_all, put}
 use Rattle.flow_list.specs.Column.{Column, Inner, Step, cut, longer, step_at, steps, steps_from, start_strip, strip_behind, is_forced, height_of, row_from, fill_in_room, room, stopped, column, column_over, column_up_to, avoids_at}

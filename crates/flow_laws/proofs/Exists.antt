@@ -3,9 +3,9 @@ use Rattle.std.proofs.Common.{◌≡◌, ℕ, zero, suc, ◌+◌, ◌-◌, ◌<�
 use Rattle.std.proofs.lemmas.Bool.{cases_order}
 use Rattle.std.proofs.lemmas.Bool.Decides.{nat_tests}
 use Rattle.flow_list.specs.Column.{endless_column}
-use Rattle.flow_list.specs.declared.data.Flow.{Flow}
-use Rattle.flow_list.specs.declared.data.FlowsData.{FlowsData}
-use Rattle.flow_list.specs.Flows.{row_of, flow_in, seam_of}
+use Rattle.flow_data.specs.declared.data.Flow.{Flow}
+use Rattle.flow_data.specs.declared.data.FlowsData.{FlowsData}
+use Rattle.flow_data.specs.Flows.{row_of, flow_in, seam_of}
 use Rattle.flow_list.specs.Tokens.{Token, row_start, item_number, within, is_end}
 use Rattle.flow_list.specs.Strip.{Strip, lay_all}
 use Rattle.flow_list.specs.Column.{Column, Inner, Step, Place, step_at, steps, strip_behind, steps_from, start_strip, is_forced, column, unstopped, column_to, last_place, no_place, rows_among}

@@ -7,19 +7,19 @@ use Rattle.std.proofs.lemmas.Bool.Decides.{nat_tests}
 use Rattle.std.proofs.lemmas.List.{get_or_past}
 use Rattle.std.proofs.lemmas.List.Sums.{sum_by-cons, sum_by-append}
 use Rattle.std.specs.List.{AllByRecursion as Each}
-use Rattle.flow_list.specs.declared.data.Edge.{Edge}
-use Rattle.flow_list.specs.declared.data.Edge.TheVariants.{Margin, Solid, Wall, Start, End}
-use Rattle.flow_list.specs.declared.data.Flow.{Flow}
-use Rattle.flow_list.specs.declared.data.FlowsData.{FlowsData}
-use Rattle.flow_list.specs.declared.data.Item.{Item}
-use Rattle.flow_list.specs.declared.data.Item.TheVariants.{Atom, Row}
-use Rattle.flow_list.specs.Flows.{item_of, seam_of, no_item, rows_in, amount, boxes_in}
+use Rattle.flow_data.specs.declared.data.Edge.{Edge}
+use Rattle.flow_data.specs.declared.data.Edge.TheVariants.{Margin, Solid, Wall, Start, End}
+use Rattle.flow_data.specs.declared.data.Flow.{Flow}
+use Rattle.flow_data.specs.declared.data.FlowsData.{FlowsData}
+use Rattle.flow_data.specs.declared.data.Item.{Item}
+use Rattle.flow_data.specs.declared.data.Item.TheVariants.{Atom, Row}
+use Rattle.flow_data.specs.Flows.{item_of, seam_of, no_item, rows_in, amount, boxes_in}
 use Rattle.flow_list.specs.ClonedEdges.{tops, bottoms}
 use Rattle.flow_list.specs.Tokens.{Token, row_start, item_number, within}
 use Rattle.flow_list.specs.Strip.{Strip, put, lay, lay_all}
 use Rattle.flow_list.specs.Column.{Inner, Step, height_of, row_from, strip_behind, start_strip, room}
 use Rattle.flow_list.specs.Rows.{heights_from, amounts_in}
-use Rattle.flow_list.specs.Soundness.{flow_height}
+use Rattle.flow_data.specs.Soundness.{flow_height}
 use Rattle.flow_list.specs.Placing.{RowLaid, Laid, margin, solid, wall, opens, closes, atom, row, laid_edge, laid_edges}
 use Rattle.flow_list.specs.Fragments.{laid_item, laid_items, fills_item, filled_row, laid_filled, strip_after, strip_filled, laid_before, laid_to}
 use Rattle.flow_list.proofs.Fitting.{first-amounts, amounts-drop, first-height, heights-drop}

@@ -3,19 +3,20 @@
 use Rattle.std.proofs.Common.{◌≡◌, ℕ, zero, suc, ◌+◌, ◌-◌, ◌<◌, ◌≤◌, ◌==◌, ◌||◌, Bool, true, false, not, List, [], ◌∷◌, length, Some, None, refl, subst, arith, sum_by, add-one}
 use Rattle.std.specs.Prelude.{slice_get}
 use Rattle.std.specs.List.{flat_map}
-use Rattle.flow_list.specs.declared.data.Flow.{Flow}
-use Rattle.flow_list.specs.declared.data.FlowsData.{FlowsData}
-use Rattle.flow_list.specs.declared.data.Item.{Item}
-use Rattle.flow_list.specs.declared.data.Item.TheVariants.{Atom, Row}
-use Rattle.flow_list.specs.declared.data.Edge.TheVariants.{End, Solid}
+use Rattle.flow_data.specs.declared.data.Flow.{Flow}
+use Rattle.flow_data.specs.declared.data.FlowsData.{FlowsData}
+use Rattle.flow_data.specs.declared.data.Item.{Item}
+use Rattle.flow_data.specs.declared.data.Item.TheVariants.{Atom, Row}
+use Rattle.flow_data.specs.declared.data.Edge.TheVariants.{End, Solid}
 use Rattle.flow_list.specs.Atoms.{IsAtom}
-use Rattle.flow_list.specs.Flows.{box_of, item_of, seam_of, no_seam, atom_height, started, open_at}
+use Rattle.flow_data.specs.Flows.{box_of, item_of, seam_of, no_seam, atom_height, started, open_at}
 use Rattle.flow_list.specs.ClonedEdges.{open_across, tops, bottoms}
-use Rattle.flow_list.specs.Soundness.{IsSoundFlow}
+use Rattle.flow_data.specs.Soundness.{IsSoundFlow}
 use Rattle.flow_list.specs.Tokens.{Token, row_start, item_number, within}
 use Rattle.flow_list.specs.Strip.{Strip, strip_at, put, lay_all}
 use Rattle.flow_list.specs.Column.{Inner, Step, height_of, row_from, strip_behind, step_at, steps, steps_from, start_strip, unforced_start, loose_need, is_forced}
-use Rattle.flow_list.proofs.OpenBoxes.{across-sum, at-sum-next, at-sum-first}
+use Rattle.flow_list.proofs.OpenAcross.{across-sum, at-sum-next}
+use Rattle.flow_data.proofs.OpenBoxes.{at-sum-first}
 use Rattle.flow_laws.specs.Progress.{IsPlaceBefore}
 use Rattle.flow_laws.proofs.Laying.{put-rises, lay_all-rises, IsLower, put-lower, lay_all-lower, starts-lower, TopsFollow, head-lays, BottomsPrecede, tail-lays}
 

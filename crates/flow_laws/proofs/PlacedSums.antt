@@ -3,23 +3,24 @@
 use Rattle.std.proofs.Common.{◌≡◌, ℕ, zero, suc, ◌+◌, ◌≤◌, ◌==◌, false, not, ◌||◌, List, [], ◌∷◌, ◌++◌, length, Option, Some, None, refl, subst, arith, sum_by, add-one}
 use Rattle.std.proofs.lemmas.List.Sums.{sum_by-cons, sum_by-append}
 use Rattle.std.specs.List.{AllByRecursion as Each}
-use Rattle.flow_list.specs.declared.data.Bound.{Bound}
-use Rattle.flow_list.specs.declared.data.Flow.{Flow}
-use Rattle.flow_list.specs.declared.data.FlowsData.{FlowsData}
-use Rattle.flow_list.specs.declared.data.Item.{Item}
-use Rattle.flow_list.specs.declared.data.Item.TheVariants.{Atom, Row}
-use Rattle.flow_list.specs.Flows.{item_of, seam_of, box_of, rows_in, amount, boxes_in}
+use Rattle.flow_data.specs.declared.data.Bound.{Bound}
+use Rattle.flow_data.specs.declared.data.Flow.{Flow}
+use Rattle.flow_data.specs.declared.data.FlowsData.{FlowsData}
+use Rattle.flow_data.specs.declared.data.Item.{Item}
+use Rattle.flow_data.specs.declared.data.Item.TheVariants.{Atom, Row}
+use Rattle.flow_data.specs.Flows.{item_of, seam_of, box_of, rows_in, amount, boxes_in}
 use Rattle.flow_list.specs.ClonedEdges.{open_across, tops, bottoms}
 use Rattle.flow_list.specs.Tokens.{Token, item_number}
 use Rattle.flow_list.specs.Strip.{Strip, strip_at, put, lay_all, begins}
 use Rattle.flow_list.specs.Column.{Inner, cut, steps_from, is_forced, column}
-use Rattle.flow_list.specs.Soundness.{flow_height}
+use Rattle.flow_data.specs.Soundness.{flow_height}
 use Rattle.flow_list.specs.RowHeights.{row_height}
 use Rattle.flow_list.specs.Stacks.{available_at, height_in_stack, stack_strip, stack_extent}
 use Rattle.flow_list.specs.Placing.{Laid, laid_edges, Placed, places_from}
 use Rattle.flow_list.specs.Fragments.{laid_start, continuing, continued_from, stop_of, laid_to, places_in, column_made, laid_in_stack, stack_laid}
 use Rattle.flow_list.proofs.StripBounds.{put_le, lay_all_le}
-use Rattle.flow_list.proofs.Fitting.{open_at-le, open_across-le}
+use Rattle.flow_data.proofs.BoxSums.{open_at-le}
+use Rattle.flow_list.proofs.Fitting.{open_across-le}
 use Rattle.flow_list.proofs.PlaceBounds.{Each-append, HasShare, IsNoLower, places-le}
 use Rattle.flow_laws.proofs.FillEnds.{IsEndFor, column-right, IsStepFrom, OfStop, stop-from}
 use Rattle.flow_laws.proofs.LaidSums.{IsRowOf, item-known, share, item_share, edges-have, edges-le, ahead, ahead-first, whole-le, to-lay}

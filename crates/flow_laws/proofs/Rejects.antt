@@ -8,13 +8,13 @@ use Rattle.std.proofs.lemmas.List.{drop_more, drop-drop, drop_all, get_or-drop}
 use Rattle.std.proofs.lemmas.List.Sums.{sum_by-cons, sum_by-take-drop}
 use Rattle.std.proofs.Math.Nat.{suc-mul}
 use Rattle.flow_list.proofs.Fitting.{columns_by-step}
-use Rattle.flow_list.specs.declared.data.Flow.{Flow}
-use Rattle.flow_list.specs.declared.data.FlowsData.{FlowsData}
-use Rattle.flow_list.specs.declared.data.Item.{Item}
-use Rattle.flow_list.specs.declared.data.Item.TheVariants.{Atom, Row}
+use Rattle.flow_data.specs.declared.data.Flow.{Flow}
+use Rattle.flow_data.specs.declared.data.FlowsData.{FlowsData}
+use Rattle.flow_data.specs.declared.data.Item.{Item}
+use Rattle.flow_data.specs.declared.data.Item.TheVariants.{Atom, Row}
 use Rattle.flow_list.specs.Atoms.{IsAtom}
-use Rattle.flow_list.specs.Flows.{row_of, flow_in, item_of, seam_of, no_item, no_flow, no_row, atom_height}
-use Rattle.flow_list.specs.Soundness.{IsSound, IsSoundFlow}
+use Rattle.flow_data.specs.Flows.{row_of, flow_in, item_of, seam_of, no_item, no_flow, no_row, atom_height}
+use Rattle.flow_data.specs.Soundness.{IsSound, IsSoundFlow}
 use Rattle.flow_list.specs.Strip.{Strip, lay_all}
 use Rattle.flow_list.specs.Tokens.{Token, row_start, item_number, within, is_end}
 use Rattle.flow_list.specs.Column.{Column, Inner, Step, Place, Cut, cut, longer, step_at, steps, strip_behind, is_forced, start_strip, steps_from, seams_before, seams_between, inside, inside_place, alone_place, whole_place, is_cut, room, best, choose, last_place, no_place, fill_in_room, column, column_over, column_up_to, avoids_at, loose_need}

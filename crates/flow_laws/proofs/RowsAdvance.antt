@@ -6,15 +6,15 @@ use Rattle.std.proofs.lemmas.Bool.Decides.{nat_tests}
 use Rattle.std.proofs.lemmas.List.{drop_all}
 use Rattle.std.proofs.Math.Seq.{take-append_seam}
 use Rattle.flow_list.proofs.Fitting.{columns_by-step, columns_by-past}
-use Rattle.flow_list.specs.declared.data.Flow.{Flow}
-use Rattle.flow_list.specs.declared.data.FlowsData.{FlowsData}
-use Rattle.flow_list.specs.declared.data.Item.{Item}
-use Rattle.flow_list.specs.declared.data.Item.TheVariants.{Atom, Row}
-use Rattle.flow_list.specs.Flows.{row_of, flow_in, row_in, rows_in, no_flow, no_row}
+use Rattle.flow_data.specs.declared.data.Flow.{Flow}
+use Rattle.flow_data.specs.declared.data.FlowsData.{FlowsData}
+use Rattle.flow_data.specs.declared.data.Item.{Item}
+use Rattle.flow_data.specs.declared.data.Item.TheVariants.{Atom, Row}
+use Rattle.flow_data.specs.Flows.{row_of, flow_in, row_in, rows_in, no_flow, no_row}
 use Rattle.flow_list.specs.Tokens.{Token, item_number, within, is_end}
 use Rattle.flow_list.specs.Column.{Column, Filled, Inner, column}
 use Rattle.flow_list.specs.Rows.{columns, columns_by, end_of, left_in, items_left, fill_in, filled_by, rows_to, all_rows}
-use Rattle.flow_list.specs.Soundness.{IsSound, IsSoundItem, NestsAtMost}
+use Rattle.flow_data.specs.Soundness.{IsSound, IsSoundItem, NestsAtMost}
 use Rattle.flow_laws.specs.Progress.{IsPlaceBefore, AtomAt, Contents, contents_to, atoms_from, atoms_between, held_by, IsLater, ColumnsAdvance}
 use Rattle.flow_laws.proofs.Advance.{ends-trans, item_left-some, FillMoves, RowMoves, ItemsMove, Later, column-later}
 use Rattle.flow_laws.proofs.DepthSame.{told-alike}

@@ -4,13 +4,13 @@ use Rattle.std.specs.Prelude.{◌==◌, ◌||◌, All, nat_lt, nat_le}
 use Rattle.std.specs.List.{flat_map}
 use Rattle.std.proofs.lemmas.Bool.Decides.{nat_tests}
 use Rattle.std.proofs.lemmas.List.Sums.{sum_by-cons}
-use Rattle.flow_list.specs.declared.data.Flow.{Flow}
-use Rattle.flow_list.specs.declared.data.FlowsData.{FlowsData}
-use Rattle.flow_list.specs.declared.data.Item.{Item}
-use Rattle.flow_list.specs.declared.data.Item.TheVariants.{Atom, Row}
-use Rattle.flow_list.specs.Flows.{amount, box_of, row_of, flow_in, item_of, seam_of, row_in, rows_in, no_row, no_flow, atom_height, boxes_in, open_at}
+use Rattle.flow_data.specs.declared.data.Flow.{Flow}
+use Rattle.flow_data.specs.declared.data.FlowsData.{FlowsData}
+use Rattle.flow_data.specs.declared.data.Item.{Item}
+use Rattle.flow_data.specs.declared.data.Item.TheVariants.{Atom, Row}
+use Rattle.flow_data.specs.Flows.{amount, box_of, row_of, flow_in, item_of, seam_of, row_in, rows_in, no_row, no_flow, atom_height, boxes_in, open_at}
 use Rattle.flow_list.specs.ClonedEdges.{tops, open_across, bottoms}
-use Rattle.flow_list.specs.Soundness.{IsSound, IsSoundFlow, NestsAtMost, flow_height}
+use Rattle.flow_data.specs.Soundness.{IsSound, IsSoundFlow, NestsAtMost, flow_height}
 use Rattle.flow_list.specs.Tokens.{Token, row_start, item_number, within}
 use Rattle.flow_list.specs.Strip.{Strip, strip_at, put, lay_all}
 use Rattle.flow_list.specs.Column.{Filled, Inner, Step, Place, Cut, cut, longer, height_of, strip_behind, steps, steps_from, start_strip, is_forced, tail_from, inside, inside_place, alone_place, whole_place, is_cut, room, best, choose, seams_before, seams_between, last_place, no_place, fill_in_room, column, endless_column, column_up_to, avoids_at}
@@ -18,7 +18,8 @@ use Rattle.flow_list.specs.Rows.{heights_from, amounts_in, reach, size_in, rows_
 use Rattle.flow_list.specs.RowHeights.{size_of}
 use Rattle.flow_laws.specs.Bounds.{NeedsRise, NeedsAreSmall, NeedsAndBounds}
 use Rattle.flow_list.proofs.StripBounds.{put_le, lay_all_le}
-use Rattle.flow_list.proofs.Fitting.{open_at-le, open_across-le, first-amounts, amounts-drop, first-height, size-reach}
+use Rattle.flow_data.proofs.BoxSums.{open_at-le}
+use Rattle.flow_list.proofs.Fitting.{open_across-le, first-amounts, amounts-drop, first-height, size-reach}
 use Rattle.flow_laws.proofs.Needs.{AreGoodSteps, column-steps, in-items}
 use Rattle.flow_laws.proofs.StopStays.{cut-room}
 use Rattle.flow_laws.proofs.RowsAdvance.{good-rows, nests-by-number}

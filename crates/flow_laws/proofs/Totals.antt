@@ -6,13 +6,13 @@ use Rattle.std.specs.List.{flat_map}
 use Rattle.std.proofs.lemmas.Bool.Decides.{nat_tests}
 use Rattle.std.proofs.lemmas.Bool.{cases_lt}
 use Rattle.std.proofs.lemmas.List.Sums.{sum_by-cons, sum_by-append, sum_by-le-sum_by}
-use Rattle.flow_list.specs.declared.data.Flow.{Flow}
-use Rattle.flow_list.specs.declared.data.FlowsData.{FlowsData}
-use Rattle.flow_list.specs.declared.data.RowInfo.{RowInfo}
-use Rattle.flow_list.specs.declared.data.Stack.{Stack}
-use Rattle.flow_list.specs.Flows.{row_of, flow_of, flow_in, rows_in, no_flow, no_row}
-use Rattle.flow_list.specs.Soundness.{IsSound, NestsAtMost, count_of, flow_owners, flow_height}
-use Rattle.flow_list.proofs.OpenBoxes.{sum-less}
+use Rattle.flow_data.specs.declared.data.Flow.{Flow}
+use Rattle.flow_data.specs.declared.data.FlowsData.{FlowsData}
+use Rattle.flow_data.specs.declared.data.RowInfo.{RowInfo}
+use Rattle.flow_data.specs.declared.data.Stack.{Stack}
+use Rattle.flow_data.specs.Flows.{row_of, flow_of, flow_in, rows_in, no_flow, no_row}
+use Rattle.flow_data.specs.Soundness.{IsSound, NestsAtMost, count_of, flow_owners, flow_height}
+use Rattle.flow_data.proofs.OpenBoxes.{sum-less}
 use Rattle.flow_laws.proofs.RowsAdvance.{good-rows, nests-by-number}
 
 -- ---- sums

@@ -7,15 +7,15 @@ use Rattle.std.proofs.lemmas.Bool.Decides.{nat_tests}
 use Rattle.std.proofs.lemmas.List.{get_or_past}
 use Rattle.std.proofs.lemmas.List.Elements.{All-from_recursion}
 use Rattle.mc_base.specs.PlainTree.{PlainTree, plain_trees}
-use Rattle.flow_list.specs.declared.data.AtomKind.{AtomKind}
-use Rattle.flow_list.specs.declared.data.AtomKind.TheVariants.{Plain, Line, Void, Image, Bounded}
-use Rattle.flow_list.specs.declared.data.Bound.{Bound}
-use Rattle.flow_list.specs.declared.data.Bound.TheVariants.{Left}
-use Rattle.flow_list.specs.declared.data.BoxInfo.{BoxInfo}
-use Rattle.flow_list.specs.declared.data.FlowsData.{FlowsData}
-use Rattle.flow_list.specs.declared.data.Item.{Item}
-use Rattle.flow_list.specs.declared.data.Item.TheVariants.{Atom, Row}
-use Rattle.flow_list.specs.Flows.{seam_of, box_of, row_of, stack_of, flow_of, flow_in, item_of, no_box, no_item, no_row, no_flow}
+use Rattle.flow_data.specs.declared.data.AtomKind.{AtomKind}
+use Rattle.flow_data.specs.declared.data.AtomKind.TheVariants.{Plain, Line, Void, Image, Bounded}
+use Rattle.flow_data.specs.declared.data.Bound.{Bound}
+use Rattle.flow_data.specs.declared.data.Bound.TheVariants.{Left}
+use Rattle.flow_data.specs.declared.data.BoxInfo.{BoxInfo}
+use Rattle.flow_data.specs.declared.data.FlowsData.{FlowsData}
+use Rattle.flow_data.specs.declared.data.Item.{Item}
+use Rattle.flow_data.specs.declared.data.Item.TheVariants.{Atom, Row}
+use Rattle.flow_data.specs.Flows.{seam_of, box_of, row_of, stack_of, flow_of, flow_in, item_of, no_box, no_item, no_row, no_flow}
 use Rattle.flow_list.specs.Tokens.{Token, item_number, is_end}
 use Rattle.flow_list.specs.ClonedEdges.{tops}
 use Rattle.flow_list.specs.Strip.{strip_at}
@@ -26,7 +26,7 @@ use Rattle.flow_list.specs.Stacks.{stack_extent, stack_height, own_height}
 use Rattle.flow_list.specs.Placing.{RowLaid, laid_edges, places_from, Placed, opens_at, closes_at, atom_at, row_at}
 use Rattle.flow_list.specs.Fragments.{closes_here, inside_box, behind_box, bottom_of, place_of, trees_of, all_trees, column_made, fragment_of, fragments_from, columns_wanted, row_fragments, stack_fragment, places_in, laid_start, laid_to, stop_of, continued_from, stack_laid}
 use Rattle.flow_list.specs.Tree.{TreeLine, Frame, row_width, in_box, piece_bottom, piece_height, atom_lines, item_lines, column_frame, lines_of_tree, lines_of_trees, lines_of_columns, lines_of_column, lines_of_stack, tree_of}
-use Rattle.flow_list.specs.Soundness.{IsSound, IsSoundAtom, IsSoundItem, stack_in}
+use Rattle.flow_data.specs.Soundness.{IsSound, IsSoundAtom, IsSoundItem, stack_in}
 use Rattle.flow_list.proofs.PlaceBounds.{Each-append, IsNoLower}
 use Rattle.flow_laws.specs.Rectangles.{EndsBelow, RectanglesAreBounded}
 use Rattle.flow_laws.proofs.Small.{column-reach, endless-reach}

@@ -1,7 +1,7 @@
 -- The rectangles of a whole tree stay below 2^63, so that places and sizes fit 64 bits with a sign (this project's own: in sound data each
 -- flow stands in one place, and all heights together are below 2^60).
 use Rattle.std.specs.Prelude.{◌+◌, ◌<◌, ◌^◌, All}
-use Rattle.flow_list.specs.declared.data.FlowsData.{FlowsData}
+use Rattle.flow_data.specs.declared.data.FlowsData.{FlowsData}
 use Rattle.flow_list.specs.Tree.{TreeLine, tree_of}
 
 -- the right and the bottom of a line's rectangle are below 2^63

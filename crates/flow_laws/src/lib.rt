@@ -1,10 +1,10 @@
 //! Laws of columns: what is true of the definitions of flow_list, whatever lays out or checks.
 //!
-//! It stands on flow_list. Each function promises one law, does nothing, and takes no memory.
+//! It stands on flow_list and flow_data. Each function promises one law, does nothing, and takes no memory.
 #![tactic(auto)]
 
 ghost use Rattle.std.specs.Prelude.{ℕ, ◌<◌, length};
-ghost use Rattle.flow_list.specs.declared.data.FlowsData.{FlowsData};
+ghost use Rattle.flow_data.specs.declared.data.FlowsData.{FlowsData};
 ghost use Rattle.flow_list.specs.Column.{Inner};
 ghost use Rattle.flow_laws.specs.Bounds.{NeedsAndBounds};
 ghost use Rattle.flow_laws.specs.Constant.{BreaksAreConstant};
@@ -13,9 +13,9 @@ ghost use Rattle.flow_laws.specs.LeastHeight.{SizesAreLeast};
 ghost use Rattle.flow_laws.specs.Progress.{ColumnsAdvance, IsPlaceBefore};
 ghost use Rattle.flow_laws.specs.Rectangles.{RectanglesAreBounded};
 ghost use Rattle.flow_laws.specs.Rejection.{TallAndAreaReject};
-ghost use Rattle.flow_list.specs.Flows.{flow_in};
+ghost use Rattle.flow_data.specs.Flows.{flow_in};
 ghost use Rattle.flow_list.specs.Tokens.{Token};
-ghost use Rattle.flow_list.specs.Soundness.{IsSound};
+ghost use Rattle.flow_data.specs.Soundness.{IsSound};
 
 /// Breaks are constant over a range of heights: up to the least bound of a column its lines and its overflow stay, and
 /// where it doesn't overflow its end and level too; so do those of a fill and of the columns that are judged, and a height

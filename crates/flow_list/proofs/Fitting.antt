@@ -1,41 +1,28 @@
 -- A height that fits exists: at the whole reach of a flow only forced breaks remain. So the size is the least height that
 -- fits.
-use Rattle.std.proofs.Common.{zero-add, ◌≡◌, ℕ, zero, suc, ◌+◌, ◌-◌, ◌<◌, ◌≤◌, Bool, true, false, cond, not, ◌||◌, List, [], ◌∷◌, ◌++◌, length, take, drop, get_or, None, refl, sym, ◌∙◌, ap, arith, sum_by, add-one, ◌⊎◌, inl, inr}
-use Rattle.std.specs.Prelude.{filter, count_by, ◌==◌}
+use Rattle.std.proofs.Common.{zero-add, ◌≡◌, ℕ, zero, suc, ◌+◌, ◌-◌, ◌<◌, ◌≤◌, Bool, true, false, cond, not, ◌||◌, List, [], ◌∷◌, length, take, drop, get_or, None, refl, sym, ◌∙◌, ap, arith, sum_by, add-one, ◌⊎◌, inl, inr}
+use Rattle.std.specs.Prelude.{count_by, ◌==◌}
 use Rattle.std.specs.List.{flat_map}
 use Rattle.std.proofs.lemmas.Bool.{le-ltb, cases_lt}
 use Rattle.std.proofs.lemmas.Bool.Decides.{nat_tests}
 use Rattle.std.proofs.lemmas.List.{drop-drop, get_or-drop}
 use Rattle.std.proofs.lemmas.List.Sums.{sum_by-cons, sum_by-append}
-use Rattle.std.proofs.lemmas.List.Filters.{sum_by-filter_both}
-use Rattle.flow_list.specs.declared.data.Item.{Item}
-use Rattle.flow_list.specs.declared.data.Seam.{Seam}
-use Rattle.flow_list.specs.declared.data.Flow.{Flow}
-use Rattle.flow_list.specs.declared.data.FlowsData.{FlowsData}
-use Rattle.flow_list.specs.Flows.{item_of, seam_of, box_of, row_of, flow_in, no_item, no_seam, amount, started, starts_in, ended, is_among, ends_in, open_at, boxes_in}
+use Rattle.flow_data.specs.declared.data.Item.{Item}
+use Rattle.flow_data.specs.declared.data.Seam.{Seam}
+use Rattle.flow_data.specs.declared.data.Flow.{Flow}
+use Rattle.flow_data.specs.declared.data.FlowsData.{FlowsData}
+use Rattle.flow_data.specs.Flows.{item_of, seam_of, box_of, row_of, flow_in, no_item, no_seam, amount, starts_in, ended, is_among, open_at, boxes_in}
 use Rattle.flow_list.specs.Strip.{Strip, strip_at, put, lay_all}
 use Rattle.flow_list.specs.Tokens.{Token, row_start, item_number, within, is_end}
 use Rattle.flow_list.specs.ClonedEdges.{open_across, tops, bottoms}
 use Rattle.flow_list.specs.Column.{is_forced, Column, Inner, Step, Place, cut, step_at, steps, strip_behind, start_strip, steps_from, height_of, last_place, no_place, unstopped, column, column_over, column_to, avoids_at, endless_column}
 use Rattle.flow_list.specs.Rows.{columns_by, columns, fails, reach_end, forced_above, most_columns, fits, heights_from, amounts_in, least, reach, size_in}
+use Rattle.flow_data.proofs.BoxSums.{filter-le, open_at-le}
 use Rattle.flow_list.proofs.StripBounds.{put_le, lay_all_le}
 use Rattle.flow_list.proofs.Walk.{behind}
 use Rattle.flow_list.proofs.LeastHeight.{IsLeast, least-is}
 
 -- ---- what is open in a flow has no more cloned edges than all its boxes
-
-pub filter-le : (g : ℕ → ℕ) (p : ℕ → Bool) (xs : List ℕ) → sum_by g (filter p xs) ≤ sum_by g xs
-filter-le g p xs = omega (arith, sum_by-filter_both p (λ x. not (p x)) (λ x. refl) g xs)
-
-pub starts-take : (g : ℕ → ℕ) (n : ℕ) (seams : List Seam) → sum_by g (starts_in (take n seams)) ≤ sum_by g (starts_in seams)
-starts-take g zero seams = omega arith
-starts-take g (suc n) [] = omega arith
-starts-take g (suc n) (s ∷ ss) = omega (arith, starts-take g n ss, sum_by-append g (flat_map started s.head) (starts_in (take n ss)), sum_by-append g (flat_map started s.head) (starts_in ss))
-
-pub open_at-le : (g : ℕ → ℕ) (f : Flow) (k : ℕ) → sum_by g (open_at f k) ≤ sum_by g (boxes_in f)
-open_at-le g f k =
-    let seams : List Seam = take (k + 1) f.seams in
-    omega (arith, filter-le g (λ b. not (is_among (ends_in seams) b)) (f.opened ++ starts_in seams), starts-take g (k + 1) f.seams, sum_by-append g f.opened (starts_in seams), sum_by-append g f.opened (starts_in f.seams))
 
 pub open_across-le : (g : ℕ → ℕ) (f : Flow) (k : ℕ) → sum_by g (open_across f k) ≤ sum_by g (boxes_in f)
 open_across-le g f zero = omega (arith, sum_by-append g f.opened (starts_in f.seams))

@@ -1,20 +1,29 @@
 pub mod AtomFlows
-pub mod Digits
-pub mod EdgeSums
-pub mod Fields
+pub mod Built
+pub mod FileAcross
+pub mod FileFlowSound
+pub mod FileKnown
+pub mod FileLimits
+pub mod FileNested
+pub mod FileNests
+pub mod FileNumbers
+pub mod FilePlaces
+pub mod FileReadings
+pub mod FileSeams
+pub mod FileSound
+pub mod FileSums
 pub mod Fitting
 pub mod LeastHeight
-pub mod OpenBoxes
-pub mod PiecesLoop
+pub mod OpenAcross
+pub mod OuterFlow
 pub mod PlaceBounds
-pub mod PlainLaws
-pub mod PlainSound
 mod SoundExamples
 pub mod StripBounds
 pub mod Walk
 mod Worked
 mod WorkedCertificates
 mod WorkedCloned
+mod WorkedFiles
 mod WorkedNested
 mod WorkedParts
 mod WorkedRanges

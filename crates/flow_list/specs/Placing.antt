@@ -2,8 +2,8 @@
 -- 8.3.1, leaves the place of boxes within collapsed margins to a rule of its own; that they stand at the gap's end is this project's own).
 use Rattle.std.specs.Prelude.{ℕ, zero, suc, ◌+◌, ◌==◌, max, Bool, true, false, cond, not, ◌||◌, List, [], ◌∷◌, ◌++◌, Option}
 use Rattle.std.specs.List.{list_any}
-use Rattle.flow_list.specs.declared.data.Edge.{Edge}
-use Rattle.flow_list.specs.declared.data.Edge.TheVariants.{Margin, Solid, Wall, Start, End}
+use Rattle.flow_data.specs.declared.data.Edge.{Edge}
+use Rattle.flow_data.specs.declared.data.Edge.TheVariants.{Margin, Solid, Wall, Start, End}
 use Rattle.flow_list.specs.Strip.{Strip, lay}
 use Rattle.flow_list.specs.Tokens.{Token}
 

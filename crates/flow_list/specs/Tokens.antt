@@ -1,6 +1,6 @@
 -- Places in a flow, where a column begins or ends (this project's own; CSS calls a place to go on from a break token).
 use Rattle.std.specs.Prelude.{ℕ, Bool, List, [], ◌∷◌, length, nat_le}
-use Rattle.flow_list.specs.declared.data.Flow.{Flow}
+use Rattle.flow_data.specs.declared.data.Flow.{Flow}
 
 -- The number of an item, and where that item is a row that is entered, the place within it. In a flow of n items the
 -- place n is the end.

@@ -2,11 +2,11 @@
 
 ghost use Rattle.std.specs.Prelude.{◌≡◌, ◌^◌, ◌<◌, Some, length, slice_get};
 ghost use Rattle.flow_list.specs.Counts.{raised};
-ghost use Rattle.flow_list.specs.Flows.{box_of, flow_of, item_of, row_of, seam_of, stack_of};
-ghost use Rattle.flow_list.specs.Soundness.{IsSound};
+ghost use Rattle.flow_data.specs.Flows.{box_of, flow_of, item_of, row_of, seam_of, stack_of};
+ghost use Rattle.flow_data.specs.Soundness.{IsSound};
 
-use crate::data::{BoxInfo, Flow, FlowsData, Item, RowInfo, Seam, Stack};
 use crate::tally::Tally;
+use flow_data::{BoxInfo, Flow, FlowsData, Item, RowInfo, Seam, Stack};
 use mc_base::List;
 use std::marker::Model;
 
@@ -17,11 +17,11 @@ pub struct Flows {
 }
 
 impl Model for Flows {
-    ghost use Rattle.flow_list.specs.declared.data.FlowsData.{FlowsData as Data};
+    ghost use Rattle.flow_data.specs.declared.data.FlowsData.{FlowsData as Data};
 
     ghost Value = { Data };
 
-    ghost use Rattle.flow_list.specs.Soundness.{IsSound};
+    ghost use Rattle.flow_data.specs.Soundness.{IsSound};
 
     ghost view = { λ s. s.data };
 

@@ -1,18 +1,20 @@
-//! Flows as lists: the data of a layout, sealed once it is sound, and the definitions of columns and heights.
+//! Sealed flows, the flows that a flow file says, and the definitions of columns and heights.
 //!
-//! It stands on mc_base. The files of `specs/` say what the layout is: strips, columns, heights that fit, row heights.
-//! A flow file is read as sealed flows. All that is sealed is sound: numbers are in range, boxes are well nested, and
-//! sums stay below 2^60. Each look promises which part of the data it answers, and a look at an item is counted.
+//! It stands on mc_base, flow_text and flow_data, whose types and test of soundness it hands on. The files of `specs/` say
+//! what the layout is: strips, columns, heights that fit, row heights. Every flow file is read as sealed flows: `read_flow`
+//! promises the flows that the file says, or its first fault or limit. All that is sealed is sound. Each look promises
+//! which part of the data it answers, and a look at an item is counted.
 #![tactic(auto)]
 
-mod data;
+mod build;
+mod flat_row;
 mod flows;
-mod plain;
 mod read;
 mod tally;
 
-pub use data::{
-    AtomKind, Bound, BoxInfo, Edge, FlatRow, Flow, FlowsData, Item, RowInfo, Seam, Stack,
+pub use flat_row::FlatRow;
+pub use flow_data::{
+    AtomKind, Bound, BoxInfo, Edge, Flow, FlowsData, Item, RowInfo, Seam, Stack, sound,
 };
 pub use flows::{
     FlowCounts, Flows, box_at, flow_counts, item_at, item_count, opened_in, row_at, seam_at,

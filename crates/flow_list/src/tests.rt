@@ -1,99 +1,75 @@
+//! Flow files and the flows that they say.
+
 use super::*;
-use mc_base::{ConstructName, Input, Refusal};
-use std::test::*;
+use mc_base::Level;
+use std::test::Fail;
 
-const SIX: &[u8] =
-    b"flow 1\nrow 3 100 110 - balance\na 20\n| 0\na 20\n| 0\na 20\n| 0\na 20\n| 0\na 20\n| 0\na 20\nend\n";
+const NESTED: &[u8] =
+    b"flow 1\nrow 2 100 110 64 auto\n( 0 5 90 avoid\nm 4\na 10\n| 1\nrow 2 40 50 3\nrow 3 9 9 1\na 1\nend\nend\nm 6\n| F\ns 2\nrow 1 30 30 7\na 2\n| 0\na 3\nend\n) 0\nend\n";
 
-/// Each file with the number of its pieces, the height of each, the width of its stack, and the height it may use.
+/// Each file with the numbers of its flows, rows and boxes, and of the items in its first row.
 #[test]
-fn plain_files_give_their_flows(rt: HostRuntime) -> Result<(), Fail> {
-    for (text, count, height, width, available) in [
-        (SIX, 6, 20, 320, None),
+fn files_have_their_parts(rt: HostRuntime) -> Result<(), Fail> {
+    let cases: [(&[u8], u32, u32, u32, u32); 4] = [
+        (b"flow 1\nrow 2 100 110 - balance\nend\n", 2, 1, 0, 0),
         (
-            b"flow 1\nrow 2 100 110 - balance\nend\n".as_slice(),
-            0,
-            0,
-            210,
-            None,
-        ),
-        (
-            b"flow 1\nrow 2 100 110 64 balance\na 16777216\nend\n".as_slice(),
-            1,
-            16_777_216,
-            210,
-            Some(64),
-        ),
-        (
-            b"flow 1\nrow 1 0 9 16777216 balance\na 0\n| 0\na 0\nend\n".as_slice(),
+            b"flow 1\nrow 1 0 0 64 auto\na 7\n| 2\na 0\nend\n",
             2,
+            1,
             0,
-            0,
-            Some(16_777_216),
+            2,
         ),
-    ] {
-        let flows = read_flow(rt.alloc(), text).ok().ok_or("the file is plain")?;
+        (
+            b"flow 1\nrow 1 9 9 - auto\n( 0 0 9 auto\n( 1 0 9 auto\na 1\n) 1\n) 0\nend\n",
+            2,
+            1,
+            2,
+            1,
+        ),
+        (NESTED, 5, 4, 1, 3),
+    ];
+    for (text, flow_count, row_count, box_count, items) in cases {
+        let flows = read_flow(rt.alloc(), text).ok().ok_or("a flow file")?;
         let counts = flow_counts(&flows);
-        assert_eq!(rt; counts.boxes, 0);
-        assert!(rt; counts.stacks == 1);
-        let stack = stack_at(&flows, 0);
-        assert_eq!(rt; stack.w, width);
-        match stack.bound {
-            Bound::Free => assert!(rt; available.is_none()),
-            Bound::Each(a) => assert_eq!(rt; available, Some(a)),
-            Bound::Left(_) => return Err("no height is left of a stack's".into()),
-        }
-        assert!(rt; counts.rows == 1);
-        let flow = row_at(&flows, 0).flow;
-        assert!(rt; flow < counts.flows);
-        assert_eq!(rt; item_count(&flows, flow), count);
-        let mut tally = Counts {
-            reads: 0,
-            below: 0,
-            folds: 0,
-        };
-        for i in 0..item_count(&flows, flow) {
-            match item_at(&flows, flow, i, &mut tally) {
-                Item::Atom {
-                    height: h,
-                    kind: AtomKind::Plain,
-                } => assert_eq!(rt; h, height),
-                _ => return Err("each item is a plain atom".into()),
-            }
-        }
-        assert_eq!(rt; tally.reads, u64::from(count));
-        assert_eq!(rt; tally.below, 0);
+        assert_eq!(rt; counts.flows, flow_count);
+        assert_eq!(rt; counts.rows, row_count);
+        assert_eq!(rt; counts.boxes, box_count);
+        assert_eq!(rt; counts.stacks, 1);
+        assert_eq!(rt; item_count(&flows, 1), items);
     }
     Ok(())
 }
 
+/// The parts of a file with rows inside its first row.
 #[test]
-fn other_files_are_unbuilt(rt: HostRuntime) {
-    for text in [
-        b"".as_slice(),
-        b"flow 1\n".as_slice(),
-        b"flow 1\nrow 2 100 110 - balance\n".as_slice(),
-        b"flow 1\nrow 2 100 110 - balance\nm 5\na 10\nend\n".as_slice(),
-        b"flow 1\nrow 2 100 110 - balance\na 10\n".as_slice(),
-        b"flow 1\nrow 2 100 110 - balance\na 10\na 10\nend\n".as_slice(),
-        b"flow 1\nrow 2 100 110 - balance\na 10\n| 1\na 10\nend\n".as_slice(),
-        b"flow 1\nrow 2 100 110 - balance\na 010\nend\n".as_slice(),
-        b"flow 1\nrow 2 100 110 - balance\na 16777217\nend\n".as_slice(),
-        b"flow 1\nrow 2 100 110 63 balance\nend\n".as_slice(),
-        b"flow 1\nrow 2 100 110 - auto\nend\n".as_slice(),
-        b"flow 1\nrow 33 100 110 - balance\nend\n".as_slice(),
-        b"flow 1\nrow 0 100 110 - balance\nend\n".as_slice(),
-        b"flow 1\nrow 2 100 110 - balance\nend\nend\n".as_slice(),
-    ] {
-        assert!(rt;
-            matches!(
-                read_flow(rt.alloc(), text),
-                Err(Refusal::Construct {
-                    input: Input::Flow,
-                    offset: 0,
-                    name: ConstructName::Unbuilt
-                })
-            )
-        );
-    }
+fn rows_stand_in_rows(rt: HostRuntime) -> Result<(), Fail> {
+    let flows = read_flow(rt.alloc(), NESTED).ok().ok_or("a flow file")?;
+    let counts = flow_counts(&flows);
+    assert_eq!(rt; counts.flows, 5);
+    assert_eq!(rt; counts.rows, 4);
+    let inner = row_at(&flows, 3);
+    assert_eq!(rt; inner.flow, 4);
+    assert_eq!(rt; inner.x, 7);
+    assert_eq!(rt; item_count(&flows, 1), 3);
+    let mut tally = Counts {
+        reads: 0,
+        below: 0,
+        folds: 0,
+    };
+    assert!(rt; matches!(item_at(&flows, 1, 2, &mut tally), Item::Row(3)));
+    assert_eq!(rt; tally.reads, 1);
+    Ok(())
+}
+
+#[test]
+fn seams_have_edges_and_levels(rt: HostRuntime) -> Result<(), Fail> {
+    let flows = read_flow(rt.alloc(), NESTED).ok().ok_or("a flow file")?;
+    assert_eq!(rt; flow_counts(&flows).flows, 5);
+    assert_eq!(rt; item_count(&flows, 1), 3);
+    let seam = seam_at(&flows, 1, 2);
+    assert_eq!(rt; seam.level, Level::Forced);
+    assert!(rt; matches!(seam.tail.as_slice(), [Edge::Margin(6)]));
+    assert!(rt; matches!(seam.head.as_slice(), [Edge::Solid(2)]));
+    assert!(rt; matches!(seam_at(&flows, 1, 3).tail.as_slice(), [Edge::End(0)]));
+    Ok(())
 }

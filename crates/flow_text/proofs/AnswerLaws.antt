@@ -16,10 +16,10 @@ use Rattle.flow_text.proofs.Complete.{file_is_read}
 use Rattle.flow_text.proofs.Sound.{read_is_file}
 use Rattle.flow_text.proofs.TextLaws.{text_again, text_takes}
 
-abbrev given : List Line → Result (List Line) Refusal
+abbrev pub given : List Line → Result (List Line) Refusal
 given lines = Ok lines
 
-limits_ok : (o : Option Refusal) (lines got : List Line) → or_lines o lines ≡ given got → (o ≡ None) × (lines ≡ got)
+pub limits_ok : (o : Option Refusal) (lines got : List Line) → or_lines o lines ≡ given got → (o ≡ None) × (lines ≡ got)
 limits_ok None lines got h = (refl, cc)
 limits_ok (Some r) lines got h = absurd cc
 
@@ -44,7 +44,7 @@ only text r h lines file spelled is =
     rw e at h
 
 -- a refusal by a limit
-abbrev IsLimit : Refusal → Type 0
+abbrev pub IsLimit : Refusal → Type 0
 IsLimit (refusals.Grammar input offset rule) = ⊥
 IsLimit (refusals.Construct input offset name) = ⊥
 IsLimit (refusals.Limit name reached limit) = Unit {0}
@@ -79,17 +79,17 @@ long : (l o : Option ℕ) (d : Bool) (n : ℕ) (b : Bool) (g : Refusal) → or_l
 long (Some u) o d n b g h = some_limit _ g tt h
 long None o d n b g h = wide o d n b g h
 
-passed_limit : (lines : List Line) (g : Refusal) → limit_passed lines ≡ Some g → IsLimit g
+pub passed_limit : (lines : List Line) (g : Refusal) → limit_passed lines ≡ Some g → IsLimit g
 unfolding limit_passed
 passed_limit lines g h = long (first_long lines) (first_wide lines) (is_deep 0 lines) (items lines) (has_crowded_row no_counts lines) g h
 
-abbrev denied : Refusal → Result (List Line) Refusal
+abbrev pub denied : Refusal → Result (List Line) Refusal
 denied r = Err r
 
-denied_is : (a b : Refusal) → denied a ≡ denied b → a ≡ b
+pub denied_is : (a b : Refusal) → denied a ≡ denied b → a ≡ b
 denied_is a b h = cc
 
-lines_denied : (o : Option Refusal) (lines : List Line) (g : Refusal) → or_lines o lines ≡ denied g → o ≡ Some g
+pub lines_denied : (o : Option Refusal) (lines : List Line) (g : Refusal) → or_lines o lines ≡ denied g → o ≡ Some g
 lines_denied None lines g h = absurd cc
 lines_denied (Some r) lines g h = ap refused (denied_is r g h)
 

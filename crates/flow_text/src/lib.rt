@@ -26,6 +26,7 @@ pub use laws::{
 };
 pub use line::{Form, Line};
 pub use reading::read;
+pub use stack::Stack;
 
 #[cfg(test)]
 mod tests;

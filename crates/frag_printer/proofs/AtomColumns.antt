@@ -1,10 +1,10 @@
 -- A column of atoms ends behind one of its items, and reaches as far as what it needs with that item.
 use Rattle.std.proofs.Common.{◌≡◌, ℕ, zero, suc, ◌+◌, ◌-◌, ◌<◌, ◌≤◌, Bool, true, false, cond, List, [], ◌∷◌, ◌++◌, length, Option, Some, None, refl, sym, subst, ap, arith}
 use Rattle.std.specs.Prelude.{nat_lt, nat_le}
-use Rattle.flow_list.specs.declared.data.Flow.{Flow}
-use Rattle.flow_list.specs.declared.data.FlowsData.{FlowsData}
+use Rattle.flow_data.specs.declared.data.Flow.{Flow}
+use Rattle.flow_data.specs.declared.data.FlowsData.{FlowsData}
 use Rattle.flow_list.specs.Atoms.{HoldsAtoms}
-use Rattle.flow_list.specs.Flows.{seam_of, item_of}
+use Rattle.flow_data.specs.Flows.{seam_of, item_of}
 use Rattle.flow_list.specs.Tokens.{Token, row_start}
 use Rattle.flow_list.specs.Strip.{Strip, lay_all}
 use Rattle.flow_list.specs.ClonedEdges.{open_across, bottoms}

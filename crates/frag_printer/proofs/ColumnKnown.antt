@@ -1,13 +1,13 @@
 -- What is placed in a column of atoms names boxes and items that there are, high enough in the column.
 use Rattle.std.proofs.Common.{ℕ, ◌<◌, ◌≤◌, ◌^◌, length, sum_by, arith}
 use Rattle.std.specs.List.{AllByRecursion as Each}
-use Rattle.flow_list.specs.declared.data.Flow.{Flow}
-use Rattle.flow_list.specs.declared.data.FlowsData.{FlowsData}
+use Rattle.flow_data.specs.declared.data.Flow.{Flow}
+use Rattle.flow_data.specs.declared.data.FlowsData.{FlowsData}
 use Rattle.flow_list.specs.Atoms.{HoldsAtoms}
-use Rattle.flow_list.specs.Flows.{flow_of}
+use Rattle.flow_data.specs.Flows.{flow_of}
 use Rattle.flow_list.specs.Fragments.{place_of}
 use Rattle.flow_list.specs.Rows.{all_rows}
-use Rattle.flow_list.specs.Soundness.{IsSound}
+use Rattle.flow_data.specs.Soundness.{IsSound}
 use Rattle.flow_list.proofs.AtomFlows.{reach-bound}
 use Rattle.frag_printer.specs.Columns.{column_places}
 use Rattle.frag_printer.proofs.Rowless.{IsNoRow, column-rowless}

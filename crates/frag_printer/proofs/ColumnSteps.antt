@@ -1,23 +1,23 @@
 -- A column of a flow of atoms, item by item.
 use Rattle.std.proofs.Common.{◌≡◌, ℕ, zero, suc, ◌+◌, ◌-◌, ◌<◌, ◌≤◌, ◌^◌, List, [], ◌∷◌, ◌++◌, length, map, refl, sym, subst, ◌∙◌, ap, arith, append_assoc, sum_by, All, fold}
-use Rattle.flow_list.specs.declared.data.Edge.{Edge}
-use Rattle.flow_list.specs.declared.data.Flow.{Flow}
-use Rattle.flow_list.specs.declared.data.FlowsData.{FlowsData}
-use Rattle.flow_list.specs.declared.data.Item.{Item}
-use Rattle.flow_list.specs.declared.data.Item.TheVariants.{Atom, Row}
+use Rattle.flow_data.specs.declared.data.Edge.{Edge}
+use Rattle.flow_data.specs.declared.data.Flow.{Flow}
+use Rattle.flow_data.specs.declared.data.FlowsData.{FlowsData}
+use Rattle.flow_data.specs.declared.data.Item.{Item}
+use Rattle.flow_data.specs.declared.data.Item.TheVariants.{Atom, Row}
 use Rattle.flow_list.specs.Atoms.{IsAtom, HoldsAtoms}
 use Rattle.flow_list.specs.ClonedEdges.{open_across, tops, bottoms}
 use Rattle.flow_list.specs.Column.{Inner, height_of, start_strip}
-use Rattle.flow_list.specs.Flows.{no_flow, no_item, flow_of, item_of, seam_of, box_of, amount, atom_height}
+use Rattle.flow_data.specs.Flows.{no_flow, no_item, flow_of, item_of, seam_of, box_of, amount, atom_height}
 use Rattle.flow_list.specs.Fragments.{continued_from, laid_start, laid_item, laid_items, strip_after}
 use Rattle.flow_list.specs.Placing.{Laid, atom, laid_edges, Placed, places_from}
 use Rattle.flow_list.specs.Rows.{all_rows, reach}
-use Rattle.flow_list.specs.Soundness.{IsSound, IsSoundFlow}
+use Rattle.flow_data.specs.Soundness.{IsSound, IsSoundFlow}
 use Rattle.flow_list.specs.Strip.{Strip, put, lay_all}
 use Rattle.flow_list.specs.Tokens.{Token, row_start}
 use Rattle.flow_list.proofs.AtomFlows.{atom-height, reach-bound}
 use Rattle.flow_list.proofs.Fitting.{first-height, first-amounts, amounts-drop, heights-drop, open_across-le}
-use Rattle.flow_list.proofs.OpenBoxes.{across-known}
+use Rattle.flow_list.proofs.OpenAcross.{across-known}
 use Rattle.flow_list.proofs.StripBounds.{put_le, lay_all_le}
 use Rattle.frag_printer.specs.declared.placing.Placing.{Placing}
 use Rattle.frag_printer.specs.Columns.{column_laid, column_places, column_strip, item_laid, strip_past, HasRoom, opened_by}

@@ -2,16 +2,16 @@
 use Rattle.std.proofs.Common.{◌≡◌, ℕ, zero, suc, ◌+◌, ◌<◌, ◌≤◌, Bool, true, false, cond, List, [], ◌∷◌, ◌++◌, length, map, Option, Some, refl, sym, subst, ap, ◌∙◌, arith}
 use Rattle.std.proofs.lemmas.Bool.Decides.{nat_tests}
 use Rattle.mc_base.specs.PlainTree.{PlainTree, plain_trees}
-use Rattle.flow_list.specs.declared.data.Flow.{Flow}
-use Rattle.flow_list.specs.declared.data.FlowsData.{FlowsData}
-use Rattle.flow_list.specs.declared.data.RowInfo.{RowInfo}
+use Rattle.flow_data.specs.declared.data.Flow.{Flow}
+use Rattle.flow_data.specs.declared.data.FlowsData.{FlowsData}
+use Rattle.flow_data.specs.declared.data.RowInfo.{RowInfo}
 use Rattle.flow_list.specs.Atoms.{HoldsAtoms}
-use Rattle.flow_list.specs.Flows.{flow_of, flow_in, row_of}
+use Rattle.flow_data.specs.Flows.{flow_of, flow_in, row_of}
 use Rattle.flow_list.specs.Tokens.{Token, row_start, item_number, is_end}
 use Rattle.flow_list.specs.Column.{Column}
 use Rattle.flow_list.specs.Rows.{all_rows, columns_by, left_in}
 use Rattle.flow_list.specs.RowHeights.{size_of, balanced_height, row_columns, columns_of_row}
-use Rattle.flow_list.specs.Soundness.{IsSoundFlow}
+use Rattle.flow_data.specs.Soundness.{IsSoundFlow}
 use Rattle.flow_list.specs.Placing.{RowLaid}
 use Rattle.flow_list.specs.Fragments.{column_made, fragment_of, fragments_from, row_fragments}
 use Rattle.flow_list.specs.Tree.{TreeLine, Frame, column_frame, lines_of_columns}

@@ -2,17 +2,17 @@
 use Rattle.std.proofs.Common.{◌≡◌, ℕ, zero, suc, ◌+◌, ◌*◌, ◌-◌, ◌<◌, ◌≤◌, Bool, true, false, cond, List, [], ◌∷◌, ◌++◌, length, get_or, Option, Some, None, refl, ap, ◌∙◌, arith, All}
 use Rattle.std.specs.Prelude.{◌==◌, ◌&&◌, nat_lt}
 use Rattle.mc_base.specs.PlainTree.{PlainTree, plain_trees, column as column_tree}
-use Rattle.flow_list.specs.declared.data.Flow.{Flow}
-use Rattle.flow_list.specs.declared.data.FlowsData.{FlowsData}
-use Rattle.flow_list.specs.declared.data.Item.{Item}
-use Rattle.flow_list.specs.declared.data.RowInfo.{RowInfo}
+use Rattle.flow_data.specs.declared.data.Flow.{Flow}
+use Rattle.flow_data.specs.declared.data.FlowsData.{FlowsData}
+use Rattle.flow_data.specs.declared.data.Item.{Item}
+use Rattle.flow_data.specs.declared.data.RowInfo.{RowInfo}
 use Rattle.flow_list.specs.Atoms.{IsAtom, HoldsAtoms}
-use Rattle.flow_list.specs.Flows.{flow_of, stack_of, item_of, seam_of, no_item}
+use Rattle.flow_data.specs.Flows.{flow_of, stack_of, item_of, seam_of, no_item}
 use Rattle.flow_list.specs.Tokens.{Token, row_start, item_number, within}
 use Rattle.flow_list.specs.Strip.{Strip, strip_at, lay_all}
 use Rattle.flow_list.specs.ClonedEdges.{tops}
 use Rattle.flow_list.specs.Column.{Column, Inner, Step, steps, steps_from, strip_behind, start_strip, is_forced, cut, longer, room}
-use Rattle.flow_list.specs.Soundness.{IsSoundFlow}
+use Rattle.flow_data.specs.Soundness.{IsSoundFlow}
 use Rattle.flow_list.specs.Stacks.{stack_height, stack_extent}
 use Rattle.flow_list.specs.Placing.{RowLaid, Placed}
 use Rattle.flow_list.specs.Fragments.{laid_items, fills_item, stop_of, laid_to, laid_start, places_in, all_trees, column_made, fragment_of, row_fragments, stack_fragment}

@@ -3,7 +3,7 @@ use Rattle.std.proofs.Common.{◌≡◌, ℕ, zero, suc, ◌+◌, ◌<◌, ◌�
 use Rattle.std.proofs.lemmas.List.{append-nil, drop_more, take_more, map-append}
 use Rattle.std.specs.Prelude.{◌==◌}
 use Rattle.std.proofs.lemmas.Bool.Decides.{nat_tests}
-use Rattle.flow_list.specs.declared.data.Edge.TheVariants as E
+use Rattle.flow_data.specs.declared.data.Edge.TheVariants as E
 use Rattle.flow_list.specs.Strip.{Strip, put, lay}
 use Rattle.flow_list.specs.Placing.{Laid, margin, solid, wall, opens, closes, atom, ends_gap, gap_of, behind_gap, greatest_margin, laid_edge, Placed as AnyPlaced, atom_at, row_at, placed_in_gap, gap_places, placed_item, laid_height, gap_height, places_from, row}
 use Rattle.frag_printer.specs.declared.placing.Placing.{Placing}

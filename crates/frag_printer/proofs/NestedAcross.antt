@@ -8,16 +8,16 @@ use Rattle.std.proofs.lemmas.List.{append-nil, reverse-append, take-append-drop,
 use Rattle.std.proofs.lemmas.List.Elements.{filter-append}
 use Rattle.std.proofs.lemmas.List.Folds.{list_any-append}
 use Rattle.std.proofs.lemmas.List.Sums.{sum_by-cons, sum_by-append}
-use Rattle.flow_list.specs.declared.data.Edge.{Edge}
-use Rattle.flow_list.specs.declared.data.Edge.TheVariants.{Margin, Solid, Wall, Start, End}
-use Rattle.flow_list.specs.declared.data.Seam.{Seam}
-use Rattle.flow_list.specs.declared.data.Flow.{Flow}
-use Rattle.flow_list.specs.declared.data.FlowsData.{FlowsData}
-use Rattle.flow_list.specs.Flows.{seam_of, no_seam, started, ended, starts_in, ends_in, is_among, open_at, boxes_in}
+use Rattle.flow_data.specs.declared.data.Edge.{Edge}
+use Rattle.flow_data.specs.declared.data.Edge.TheVariants.{Margin, Solid, Wall, Start, End}
+use Rattle.flow_data.specs.declared.data.Seam.{Seam}
+use Rattle.flow_data.specs.declared.data.Flow.{Flow}
+use Rattle.flow_data.specs.declared.data.FlowsData.{FlowsData}
+use Rattle.flow_data.specs.Flows.{seam_of, no_seam, started, ended, starts_in, ends_in, is_among, open_at, boxes_in}
 use Rattle.flow_list.specs.ClonedEdges.{open_across}
-use Rattle.flow_list.specs.Soundness.{count_of, AreNested, edges_of, IsSoundFlow}
-use Rattle.flow_list.proofs.Fitting.{starts-take}
-use Rattle.flow_list.proofs.OpenBoxes.{less, sum-less, at-sum-first}
+use Rattle.flow_data.specs.Soundness.{count_of, AreNested, edges_of, IsSoundFlow}
+use Rattle.flow_data.proofs.BoxSums.{starts-take}
+use Rattle.flow_data.proofs.OpenBoxes.{less, sum-less, at-sum-first}
 use Rattle.frag_printer.proofs.NestedPlaces.{AreOnce, once-next, once-less, count-cons, count-append, count-self, count-reverse, reverse-first}
 
 -- ---- what stays open after edges

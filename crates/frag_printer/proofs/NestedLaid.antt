@@ -4,19 +4,19 @@ use Rattle.std.specs.Prelude.{◌==◌, ◌&&◌}
 use Rattle.std.specs.List.{flat_map}
 use Rattle.std.proofs.lemmas.Grind.{flat_map-append}
 use Rattle.std.proofs.lemmas.List.{append-nil, drop_more}
-use Rattle.flow_list.specs.declared.data.Bound.{Bound}
-use Rattle.flow_list.specs.declared.data.Edge.{Edge}
-use Rattle.flow_list.specs.declared.data.Item.{Item}
-use Rattle.flow_list.specs.declared.data.Item.TheVariants.{Atom, Row}
-use Rattle.flow_list.specs.declared.data.Seam.{Seam}
-use Rattle.flow_list.specs.declared.data.Flow.{Flow}
-use Rattle.flow_list.specs.declared.data.FlowsData.{FlowsData}
-use Rattle.flow_list.specs.Flows.{seam_of, item_of, no_seam, started, open_at}
+use Rattle.flow_data.specs.declared.data.Bound.{Bound}
+use Rattle.flow_data.specs.declared.data.Edge.{Edge}
+use Rattle.flow_data.specs.declared.data.Item.{Item}
+use Rattle.flow_data.specs.declared.data.Item.TheVariants.{Atom, Row}
+use Rattle.flow_data.specs.declared.data.Seam.{Seam}
+use Rattle.flow_data.specs.declared.data.Flow.{Flow}
+use Rattle.flow_data.specs.declared.data.FlowsData.{FlowsData}
+use Rattle.flow_data.specs.Flows.{seam_of, item_of, no_seam, started, open_at}
 use Rattle.flow_list.specs.Tokens.{Token, row_start, within}
 use Rattle.flow_list.specs.Strip.{Strip, strip_at, put, lay_all, begins}
 use Rattle.flow_list.specs.ClonedEdges.{open_across, tops}
 use Rattle.flow_list.specs.Column.{Inner, Step, height_of, strip_behind, start_strip, is_forced, room}
-use Rattle.flow_list.specs.Soundness.{AreNested, IsSoundFlow}
+use Rattle.flow_data.specs.Soundness.{AreNested, IsSoundFlow}
 use Rattle.flow_list.specs.Stacks.{stack_strip, height_in_stack}
 use Rattle.flow_list.specs.Placing.{Laid, laid_edges, places_from}
 use Rattle.flow_list.specs.Fragments.{laid_item, laid_items, laid_before, strip_after, filled_row, laid_filled, strip_filled, fills_item, laid_to, laid_start, places_in, continued_from, laid_in_stack, stack_laid}

@@ -4,24 +4,25 @@ use Rattle.std.specs.Prelude.{All}
 use Rattle.std.specs.List.{AllByRecursion as Each, flat_map}
 use Rattle.std.proofs.lemmas.List.{drop_more}
 use Rattle.std.proofs.lemmas.List.Sums.{sum_by-cons, sum_by-append, sum_by-le-sum_by}
-use Rattle.flow_list.specs.declared.data.Edge.{Edge}
-use Rattle.flow_list.specs.declared.data.Edge.TheVariants.{Margin, Solid, Wall, Start, End}
-use Rattle.flow_list.specs.declared.data.Flow.{Flow}
-use Rattle.flow_list.specs.declared.data.FlowsData.{FlowsData}
-use Rattle.flow_list.specs.declared.data.Item.{Item}
-use Rattle.flow_list.specs.declared.data.Item.TheVariants.{Atom, Row}
-use Rattle.flow_list.specs.declared.data.Seam.{Seam}
-use Rattle.flow_list.specs.Flows.{box_of, flow_of, item_of, seam_of, no_flow, no_seam, started, ended, starts_in, ends_in, is_among, boxes_in, open_at}
+use Rattle.flow_data.specs.declared.data.Edge.{Edge}
+use Rattle.flow_data.specs.declared.data.Edge.TheVariants.{Margin, Solid, Wall, Start, End}
+use Rattle.flow_data.specs.declared.data.Flow.{Flow}
+use Rattle.flow_data.specs.declared.data.FlowsData.{FlowsData}
+use Rattle.flow_data.specs.declared.data.Item.{Item}
+use Rattle.flow_data.specs.declared.data.Item.TheVariants.{Atom, Row}
+use Rattle.flow_data.specs.declared.data.Seam.{Seam}
+use Rattle.flow_data.specs.Flows.{box_of, flow_of, item_of, seam_of, no_flow, no_seam, started, ended, starts_in, ends_in, is_among, boxes_in, open_at}
 use Rattle.flow_list.specs.ClonedEdges.{open_across, bottoms, tops}
 use Rattle.flow_list.specs.Tokens.{Token, row_start}
 use Rattle.flow_list.specs.Strip.{Strip, strip_at, put, lay, lay_all}
 use Rattle.flow_list.specs.Column.{Inner, height_of, is_forced, start_strip, strip_behind}
 use Rattle.flow_list.specs.Rows.{all_rows}
-use Rattle.flow_list.specs.Soundness.{IsSound, IsSoundFlow}
+use Rattle.flow_data.specs.Soundness.{IsSound, IsSoundFlow}
 use Rattle.flow_list.specs.Placing.{RowLaid, Laid, margin, solid, wall, opens, closes, atom, row, laid_edge, laid_edges, ends_gap, gap_of, behind_gap, gap_height, Placed, opens_at, closes_at, atom_at, row_at, placed_in_gap, gap_places, placed_item, laid_height, places_from}
 use Rattle.flow_list.specs.Fragments.{laid_item, laid_items, laid_start, continued_from}
-use Rattle.flow_list.proofs.Fitting.{filter-le}
-use Rattle.flow_list.proofs.OpenBoxes.{starts-known, ends-known, across-known}
+use Rattle.flow_data.proofs.BoxSums.{filter-le}
+use Rattle.flow_list.proofs.OpenAcross.{across-known}
+use Rattle.flow_data.proofs.OpenBoxes.{starts-known, ends-known}
 use Rattle.flow_list.proofs.PlaceBounds.{Each-append}
 use Rattle.frag_printer.specs.Columns.{column_laid, column_places}
 use Rattle.frag_printer.specs.Parts.{IsPlacedIn, feet_in}

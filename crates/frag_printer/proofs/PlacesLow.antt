@@ -2,20 +2,20 @@
 use Rattle.std.proofs.Common.{◌≡◌, ℕ, zero, suc, ◌+◌, ◌-◌, ◌<◌, ◌≤◌, ◌^◌, ◌==◌, ◌||◌, Bool, true, false, cond, not, List, [], ◌∷◌, ◌++◌, length, drop, refl, arith, sum_by}
 use Rattle.std.specs.List.{AllByRecursion as Each}
 use Rattle.std.proofs.lemmas.List.Sums.{sum_by-cons, sum_by-append}
-use Rattle.flow_list.specs.declared.data.Edge.{Edge}
-use Rattle.flow_list.specs.declared.data.Edge.TheVariants.{Margin, Solid, Wall, Start, End}
-use Rattle.flow_list.specs.declared.data.Flow.{Flow}
-use Rattle.flow_list.specs.declared.data.FlowsData.{FlowsData}
-use Rattle.flow_list.specs.declared.data.Item.{Item}
-use Rattle.flow_list.specs.declared.data.Item.TheVariants.{Atom, Row}
+use Rattle.flow_data.specs.declared.data.Edge.{Edge}
+use Rattle.flow_data.specs.declared.data.Edge.TheVariants.{Margin, Solid, Wall, Start, End}
+use Rattle.flow_data.specs.declared.data.Flow.{Flow}
+use Rattle.flow_data.specs.declared.data.FlowsData.{FlowsData}
+use Rattle.flow_data.specs.declared.data.Item.{Item}
+use Rattle.flow_data.specs.declared.data.Item.TheVariants.{Atom, Row}
 use Rattle.flow_list.specs.Atoms.{HoldsAtoms}
-use Rattle.flow_list.specs.Flows.{box_of, flow_of, item_of, seam_of, amount, boxes_in}
+use Rattle.flow_data.specs.Flows.{box_of, flow_of, item_of, seam_of, amount, boxes_in}
 use Rattle.flow_list.specs.ClonedEdges.{open_across, tops}
 use Rattle.flow_list.specs.Tokens.{Token, row_start}
 use Rattle.flow_list.specs.Strip.{Strip, strip_at, put, lay, lay_all}
 use Rattle.flow_list.specs.Column.{Inner, height_of, is_forced, start_strip, strip_behind}
 use Rattle.flow_list.specs.Rows.{all_rows, reach, heights_from, amounts_in}
-use Rattle.flow_list.specs.Soundness.{IsSound}
+use Rattle.flow_data.specs.Soundness.{IsSound}
 use Rattle.flow_list.specs.Placing.{Laid, margin, solid, wall, opens, closes, laid_edge, laid_edges, Placed}
 use Rattle.flow_list.specs.Fragments.{laid_item, laid_items, continued_from, place_of}
 use Rattle.flow_list.proofs.AtomFlows.{reach-bound}

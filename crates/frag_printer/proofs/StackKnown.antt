@@ -1,11 +1,11 @@
 -- What stands in stack 0 leaves room, and names what there is.
 use Rattle.std.proofs.Common.{◌≡◌, ℕ, ◌+◌, ◌<◌, ◌^◌, length, sum_by, sym, subst, arith}
 use Rattle.std.specs.List.{AllByRecursion as Each}
-use Rattle.flow_list.specs.declared.data.FlowsData.{FlowsData}
-use Rattle.flow_list.specs.declared.data.Stack.{Stack}
-use Rattle.flow_list.specs.Flows.{amount, flow_of, item_of, seam_of, stack_of}
+use Rattle.flow_data.specs.declared.data.FlowsData.{FlowsData}
+use Rattle.flow_data.specs.declared.data.Stack.{Stack}
+use Rattle.flow_data.specs.Flows.{amount, flow_of, item_of, seam_of, stack_of}
 use Rattle.flow_list.specs.Fragments.{place_of}
-use Rattle.flow_list.specs.Soundness.{IsSound}
+use Rattle.flow_data.specs.Soundness.{IsSound}
 use Rattle.flow_list.specs.Stacks.{height_in_stack, stack_extent, stack_strip}
 use Rattle.flow_list.specs.Strip.{begins}
 use Rattle.frag_printer.specs.FlatRows.{HoldsFlatRows, IsPlacedInStack}

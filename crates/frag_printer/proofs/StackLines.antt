@@ -5,20 +5,20 @@ use Rattle.std.specs.List.{flat_map}
 use Rattle.std.proofs.lemmas.Grind.{flat_map-append}
 use Rattle.std.proofs.lemmas.List.{drop_more, drop_all}
 use Rattle.mc_base.specs.PlainTree.{plain_trees}
-use Rattle.flow_list.specs.declared.data.Bound.{Bound}
-use Rattle.flow_list.specs.declared.data.Edge.{Edge}
-use Rattle.flow_list.specs.declared.data.Edge.TheVariants.{Margin, Solid, Wall, Start, End}
-use Rattle.flow_list.specs.declared.data.FlatRow.{FlatRow}
-use Rattle.flow_list.specs.declared.data.Flow.{Flow}
-use Rattle.flow_list.specs.declared.data.FlowsData.{FlowsData}
-use Rattle.flow_list.specs.declared.data.Item.{Item}
-use Rattle.flow_list.specs.declared.data.Item.TheVariants.{Atom, Row}
+use Rattle.flow_data.specs.declared.data.Bound.{Bound}
+use Rattle.flow_data.specs.declared.data.Edge.{Edge}
+use Rattle.flow_data.specs.declared.data.Edge.TheVariants.{Margin, Solid, Wall, Start, End}
+use Rattle.flow_list.specs.declared.flat_row.FlatRow.{FlatRow}
+use Rattle.flow_data.specs.declared.data.Flow.{Flow}
+use Rattle.flow_data.specs.declared.data.FlowsData.{FlowsData}
+use Rattle.flow_data.specs.declared.data.Item.{Item}
+use Rattle.flow_data.specs.declared.data.Item.TheVariants.{Atom, Row}
 use Rattle.flow_list.specs.Atoms.{HoldsAtoms}
-use Rattle.flow_list.specs.Flows.{no_flow, no_row, no_item, flow_of, flow_in, row_of, stack_of, item_of, seam_of, box_of}
+use Rattle.flow_data.specs.Flows.{no_flow, no_row, no_item, flow_of, flow_in, row_of, stack_of, item_of, seam_of, box_of}
 use Rattle.flow_list.specs.Tokens.{Token, row_start}
 use Rattle.flow_list.specs.ClonedEdges.{tops}
 use Rattle.flow_list.specs.Strip.{Strip, lay, put, lay_all, begins}
-use Rattle.flow_list.specs.Soundness.{IsSound, IsSoundFlow}
+use Rattle.flow_data.specs.Soundness.{IsSound, IsSoundFlow}
 use Rattle.flow_list.specs.RowHeights.{row_columns, columns_of_row}
 use Rattle.flow_list.specs.Stacks.{stack_strip, stack_extent, stack_height, height_in_stack}
 use Rattle.flow_list.specs.Placing.{RowLaid, Laid, margin, solid, wall, opens, closes, atom, row, laid_edge, laid_edges, gap_of, behind_gap, gap_height, Placed, placed_in_gap, gap_places, placed_item, laid_height, places_from}

@@ -6,21 +6,21 @@ use Rattle.std.proofs.lemmas.List.Folds.{Any-from_list_any}
 use Rattle.std.proofs.lemmas.List.Sums.{sum_by-cons, sum_by-le-sum_by}
 use Rattle.std.proofs.lemmas.Map.Made.{IsDistinct-from_AllPairs}
 use Rattle.std.proofs.lemmas.Map.Steps.{length-le_from_distinct_below}
-use Rattle.flow_list.specs.declared.data.Bound.{Bound}
-use Rattle.flow_list.specs.declared.data.Flow.{Flow}
-use Rattle.flow_list.specs.declared.data.FlowsData.{FlowsData}
-use Rattle.flow_list.specs.declared.data.Item.{Item}
-use Rattle.flow_list.specs.declared.data.Item.TheVariants.{Atom, Row}
+use Rattle.flow_data.specs.declared.data.Bound.{Bound}
+use Rattle.flow_data.specs.declared.data.Flow.{Flow}
+use Rattle.flow_data.specs.declared.data.FlowsData.{FlowsData}
+use Rattle.flow_data.specs.declared.data.Item.{Item}
+use Rattle.flow_data.specs.declared.data.Item.TheVariants.{Atom, Row}
 use Rattle.flow_list.specs.Atoms.{HoldsAtoms}
 use Rattle.flow_list.specs.ClonedEdges.{bottoms, tops}
-use Rattle.flow_list.specs.Flows.{boxes_in, flow_in, flow_of, item_of, no_flow, no_item, seam_of, stack_of, started}
+use Rattle.flow_data.specs.Flows.{boxes_in, flow_in, flow_of, item_of, no_flow, no_item, seam_of, stack_of, started}
 use Rattle.flow_list.specs.Fragments.{laid_in_stack, stack_laid}
 use Rattle.flow_list.specs.Placing.{RowLaid, Laid, laid_edges, Placed, opens_at, closes_at, atom_at, row_at}
-use Rattle.flow_list.specs.Soundness.{IsSound, IsSoundFlow, IsSoundItem}
+use Rattle.flow_data.specs.Soundness.{IsSound, IsSoundFlow, IsSoundItem}
 use Rattle.flow_list.specs.Stacks.{height_in_stack, stack_strip}
 use Rattle.flow_list.specs.Strip.{begins, lay_all, put}
 use Rattle.flow_list.specs.Tokens.{row_start}
-use Rattle.flow_list.proofs.OpenBoxes.{opened-known}
+use Rattle.flow_data.proofs.OpenBoxes.{opened-known}
 use Rattle.frag_printer.specs.FlatRows.{HoldsFlatRows, IsPlacedInStack}
 use Rattle.frag_printer.specs.Parts.{feet_in, opens_in}
 use Rattle.frag_printer.specs.StackParts.{before_head, stack_places, whole_laid}

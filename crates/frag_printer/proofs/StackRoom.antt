@@ -1,16 +1,16 @@
 -- How far stack 0 reaches, item by item: no further than all flows together.
 use Rattle.std.proofs.Common.{ℕ, zero, suc, ◌+◌, ◌<◌, ◌≤◌, ◌^◌, length, Option, List, [], ◌∷◌, subst, add-one, arith, sum_by}
 use Rattle.std.specs.List.{AllByRecursion as Each}
-use Rattle.flow_list.specs.declared.data.Bound.{Bound}
-use Rattle.flow_list.specs.declared.data.Flow.{Flow}
-use Rattle.flow_list.specs.declared.data.FlowsData.{FlowsData}
+use Rattle.flow_data.specs.declared.data.Bound.{Bound}
+use Rattle.flow_data.specs.declared.data.Flow.{Flow}
+use Rattle.flow_data.specs.declared.data.FlowsData.{FlowsData}
 use Rattle.flow_list.specs.ClonedEdges.{bottoms, tops}
-use Rattle.flow_list.specs.Flows.{amount, box_of, boxes_in, flow_of, item_of, row_of, seam_of, stack_of}
+use Rattle.flow_data.specs.Flows.{amount, box_of, boxes_in, flow_of, item_of, row_of, seam_of, stack_of}
 use Rattle.flow_list.specs.Fragments.{place_of}
 use Rattle.flow_list.specs.Placing.{Placed, opens_at, closes_at, atom_at, row_at}
 use Rattle.flow_list.specs.RowHeights.{row_height}
 use Rattle.flow_list.specs.Rows.{all_rows, rows_to}
-use Rattle.flow_list.specs.Soundness.{IsSound}
+use Rattle.flow_data.specs.Soundness.{IsSound}
 use Rattle.flow_list.specs.Stacks.{height_in_stack, stack_extent, stack_strip}
 use Rattle.flow_list.specs.Strip.{begins, put}
 use Rattle.flow_list.proofs.Fitting.{open_across-le}

@@ -1,10 +1,10 @@
 -- A stack, item by item: its head, and what is still to come behind each item.
 use Rattle.std.proofs.Common.{◌≡◌, ℕ, zero, suc, ◌+◌, List, ◌∷◌, ◌++◌, length, refl, sym, subst, ap, ◌∙◌, add-one, append_assoc}
 use Rattle.std.proofs.lemmas.List.{append-nil}
-use Rattle.flow_list.specs.declared.data.Bound.{Bound}
-use Rattle.flow_list.specs.declared.data.Flow.{Flow}
-use Rattle.flow_list.specs.declared.data.FlowsData.{FlowsData}
-use Rattle.flow_list.specs.Flows.{flow_of, stack_of, item_of, seam_of}
+use Rattle.flow_data.specs.declared.data.Bound.{Bound}
+use Rattle.flow_data.specs.declared.data.Flow.{Flow}
+use Rattle.flow_data.specs.declared.data.FlowsData.{FlowsData}
+use Rattle.flow_data.specs.Flows.{flow_of, stack_of, item_of, seam_of}
 use Rattle.flow_list.specs.Fragments.{laid_in_stack, stack_laid}
 use Rattle.flow_list.specs.Placing.{Laid, laid_edges}
 use Rattle.flow_list.specs.Stacks.{stack_strip}

@@ -2,10 +2,10 @@
 -- deeper, up to its end.
 use Rattle.std.specs.Prelude.{◌≡◌, ℕ, ◌+◌, ◌-◌, ◌*◌, ◌<◌, ◌≤◌, Bool, false, cond, List, [], ◌∷◌, ◌++◌, Option, Some, None, is_some, length}
 use Rattle.mc_base.specs.PlainTree.{PlainTree, plain_trees}
-use Rattle.flow_list.specs.declared.data.Flow.{Flow}
-use Rattle.flow_list.specs.declared.data.FlowsData.{FlowsData}
-use Rattle.flow_list.specs.declared.data.RowInfo.{RowInfo}
-use Rattle.flow_list.specs.Flows.{flow_of, box_of, row_of, item_of, is_among}
+use Rattle.flow_data.specs.declared.data.Flow.{Flow}
+use Rattle.flow_data.specs.declared.data.FlowsData.{FlowsData}
+use Rattle.flow_data.specs.declared.data.RowInfo.{RowInfo}
+use Rattle.flow_data.specs.Flows.{flow_of, box_of, row_of, item_of, is_among}
 use Rattle.flow_list.specs.Placing.{RowLaid, Placed, opens_at, closes_at, atom_at, row_at}
 use Rattle.flow_list.specs.Fragments.{bottom_of}
 use Rattle.flow_list.specs.Tree.{TreeLine, Frame, box, row, col, column_frame, row_width, in_box, piece_bottom, piece_height, item_lines, lines_of_columns}

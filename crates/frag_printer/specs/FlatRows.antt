@@ -1,14 +1,14 @@
 -- Rows that were laid out, and the lines that they have.
 use Rattle.std.specs.Prelude.{◌≡◌, ℕ, ◌+◌, ◌<◌, EachIndex, false, flat_map, List, [], ◌∷◌, ◌++◌, length, map}
-use Rattle.flow_list.specs.declared.data.Bound.{Bound}
-use Rattle.flow_list.specs.declared.data.FlatRow.{FlatRow}
-use Rattle.flow_list.specs.declared.data.Flow.{Flow}
-use Rattle.flow_list.specs.declared.data.FlowsData.{FlowsData}
-use Rattle.flow_list.specs.declared.data.Item.{Item}
-use Rattle.flow_list.specs.declared.data.Item.TheVariants.{Atom, Row}
+use Rattle.flow_data.specs.declared.data.Bound.{Bound}
+use Rattle.flow_list.specs.declared.flat_row.FlatRow.{FlatRow}
+use Rattle.flow_data.specs.declared.data.Flow.{Flow}
+use Rattle.flow_data.specs.declared.data.FlowsData.{FlowsData}
+use Rattle.flow_data.specs.declared.data.Item.{Item}
+use Rattle.flow_data.specs.declared.data.Item.TheVariants.{Atom, Row}
 use Rattle.flow_list.specs.Atoms.{HoldsAtoms}
 use Rattle.flow_list.specs.Column.{Column}
-use Rattle.flow_list.specs.Flows.{flow_in, flow_of, no_seam, row_of, stack_of}
+use Rattle.flow_data.specs.Flows.{flow_in, flow_of, no_seam, row_of, stack_of}
 use Rattle.flow_list.specs.Fragments.{row_fragments}
 use Rattle.flow_list.specs.Placing.{Placed, opens_at, closes_at, atom_at, row_at}
 use Rattle.flow_list.specs.RowHeights.{columns_of_row, row_columns, row_height}

@@ -1,10 +1,10 @@
 -- The parts of a stack, with the rows that stand among them.
 use Rattle.std.specs.Prelude.{ℕ, ◌<◌, List, [], ◌∷◌, flat_map, length}
-use Rattle.flow_list.specs.declared.data.FlatRow.{FlatRow}
-use Rattle.flow_list.specs.declared.data.Flow.{Flow}
-use Rattle.flow_list.specs.declared.data.FlowsData.{FlowsData}
+use Rattle.flow_list.specs.declared.flat_row.FlatRow.{FlatRow}
+use Rattle.flow_data.specs.declared.data.Flow.{Flow}
+use Rattle.flow_data.specs.declared.data.FlowsData.{FlowsData}
 use Rattle.flow_list.specs.Atoms.{HoldsAtoms}
-use Rattle.flow_list.specs.Flows.{flow_in}
+use Rattle.flow_data.specs.Flows.{flow_in}
 use Rattle.flow_list.specs.RowHeights.{row_columns}
 use Rattle.frag_printer.specs.declared.parts.Part.{Part}
 use Rattle.frag_printer.specs.declared.parts.Part.TheVariants.{Opens, Closes, Atom, Row}

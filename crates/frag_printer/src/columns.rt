@@ -4,7 +4,7 @@ ghost use Rattle.std.specs.Prelude.{◌≡◌, ◌+◌, ◌<◌, ◌≤◌, ◌^
 ghost use Rattle.flow_list.specs.Atoms.{HoldsAtoms};
 ghost use Rattle.flow_list.specs.ClonedEdges.{bottoms, open_across, tops};
 ghost use Rattle.flow_list.specs.Column.{is_forced};
-ghost use Rattle.flow_list.specs.Flows.{atom_height, flow_of, seam_of};
+ghost use Rattle.flow_data.specs.Flows.{atom_height, flow_of, seam_of};
 ghost use Rattle.flow_list.specs.Fragments.{continued_from};
 ghost use Rattle.frag_printer.specs.Columns.{HasRoom, column_extent, column_places, column_strip, item_laid, opened_by, strip_past};
 ghost use Rattle.frag_printer.specs.Placing.{HasMargin, Leads, placed_as, strip_of};

@@ -2,10 +2,10 @@
 
 ghost use Rattle.std.specs.Prelude.{◌≡◌, ℕ, ◌+◌, ◌-◌, ◌<◌, ◌≤◌, ◌^◌, All, List, [], ◌∷◌, ◌++◌, length, map, nat_eq, option_to_list, sum_by, IfOk, OnOk};
 ghost use Rattle.std.specs.HashMap.{get};
-ghost use Rattle.flow_list.specs.Flows.{flow_of, item_of};
+ghost use Rattle.flow_data.specs.Flows.{flow_of, item_of};
 ghost use Rattle.flow_list.specs.Fragments.{bottom_of};
 ghost use Rattle.flow_list.specs.Placing.{Placed as AnyPlaced};
-ghost use Rattle.flow_list.specs.Soundness.{kind_x};
+ghost use Rattle.flow_data.specs.Soundness.{kind_x};
 ghost use Rattle.flow_list.specs.Tree.{atom_lines, item_lines, piece_bottom};
 ghost use Rattle.flow_list.specs.TreeText.{tree_text};
 ghost use Rattle.frag_printer.specs.Lines.{line_of};

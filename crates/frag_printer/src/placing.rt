@@ -2,7 +2,7 @@
 
 ghost use Rattle.std.specs.Prelude.{◌≡◌, ℕ, ◌+◌, ◌<◌, ◌≤◌, ◌^◌, List, [], ◌∷◌, ◌++◌, map, cond, false, nat_eq, sum_by, OnOk};
 ghost use Rattle.std.specs.HashSet.{contains};
-ghost use Rattle.flow_list.specs.Flows.{amount};
+ghost use Rattle.flow_data.specs.Flows.{amount};
 ghost use Rattle.flow_list.specs.Placing.{Laid, atom, gap_places, greatest_margin, laid_edge, laid_edges, opens_among, placed_in_gap, row as row_laid};
 ghost use Rattle.flow_list.specs.Strip.{lay, lay_all, put, strip_at};
 ghost use Rattle.frag_printer.specs.Placing.{HasMargin, Leads, laid_as, margin_of, placed_as, row_stands, standing, strip_of, waiting as waits, with_more};

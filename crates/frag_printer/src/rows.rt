@@ -3,7 +3,7 @@
 ghost use Rattle.std.specs.Prelude.{◌≡◌, ◌+◌, ◌*◌, ◌<◌, ◌≤◌, ◌^◌, ◌∷◌, ◌++◌, length, OnOk};
 ghost use Rattle.flow_list.specs.Atoms.{HoldsAtoms};
 ghost use Rattle.flow_list.specs.ClonedEdges.{open_across};
-ghost use Rattle.flow_list.specs.Flows.{flow_in, flow_of};
+ghost use Rattle.flow_data.specs.Flows.{flow_in, flow_of};
 ghost use Rattle.flow_list.specs.Fragments.{row_fragments};
 ghost use Rattle.flow_list.specs.Tree.{col, column_frame, row_width};
 ghost use Rattle.flow_list.specs.TreeText.{tree_text};

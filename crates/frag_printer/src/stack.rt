@@ -2,7 +2,7 @@
 
 ghost use Rattle.std.specs.Prelude.{◌≡◌, ◌+◌, ◌<◌, ◌^◌, ◌∷◌, [], Some, cond, drop, fold, length, map, IfOk, OnOk};
 ghost use Rattle.flow_list.specs.ClonedEdges.{open_across};
-ghost use Rattle.flow_list.specs.Flows.{flow_of, item_of, row_of, seam_of, stack_of};
+ghost use Rattle.flow_data.specs.Flows.{flow_of, item_of, row_of, seam_of, stack_of};
 ghost use Rattle.flow_list.specs.Fragments.{laid_in_stack};
 ghost use Rattle.flow_list.specs.Stacks.{available_at, height_in_stack, stack_extent, stack_strip};
 ghost use Rattle.flow_list.specs.Strip.{begins, put};

@@ -1,7 +1,7 @@
 //! The tree of a layout whose rows hold atoms alone.
 
 ghost use Rattle.std.specs.Prelude.{◌≡◌, ◌+◌, ◌<◌, ◌≤◌, ◌^◌, All, List, [], ◌∷◌, ◌++◌, drop, length, sum_by, take, IfOk, OnOk};
-ghost use Rattle.flow_list.specs.Flows.{flow_of};
+ghost use Rattle.flow_data.specs.Flows.{flow_of};
 ghost use Rattle.flow_list.specs.Tree.{tree_of};
 ghost use Rattle.flow_list.specs.TreeText.{tree_text};
 ghost use Rattle.frag_printer.specs.declared.parts.Part.{Part as AnyPart};

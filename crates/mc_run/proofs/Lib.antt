@@ -1,5 +1,4 @@
 pub mod Pieces
-pub mod ItemLines
-pub mod PlainSteps
-pub mod PlainResult
 pub mod Causes
+pub mod OneFlow
+pub mod FlatFile

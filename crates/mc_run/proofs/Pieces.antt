@@ -1,5 +1,5 @@
 -- A line that is put piece by piece.
-use Rattle.std.proofs.Common.{◌≡◌, ℕ, ◌+◌, ◌<◌, ◌≤◌, min, Bool, true, false, List, [], ◌∷◌, ◌++◌, length, get_or, take, drop, map, Option, Some, None, Result, Ok, Err, sym, ap, ◌∙◌, subst, append_assoc, arith}
+use Rattle.std.proofs.Common.{◌≡◌, ℕ, ◌+◌, ◌<◌, min, true, false, List, [], ◌∷◌, ◌++◌, length, get_or, take, drop, map, Option, Some, None, Result, Ok, Err, sym, ap, ◌∙◌, subst, append_assoc, arith}
 use Rattle.std.specs.List.{concat}
 use Rattle.std.specs.Result.{OnOk, OnErr, is_err}
 use Rattle.std.specs.Io.KnownBytes.{Appends}

@@ -1,5 +1,4 @@
 pub mod Asked
-pub mod Items
 pub mod Outcome
 pub mod Printed
 pub mod Stops

@@ -1,15 +1,17 @@
 -- What a command comes to: its result, or why it stops.
-use Rattle.std.specs.Prelude.{◌≡◌, ◌≢◌, ℕ, ◌<◌, ◌≤◌, ◌+◌, List, length, Option, None, Some, IfSome, IsSomeAnd, ⊤}
+use Rattle.std.specs.Prelude.{◌≡◌, ◌≢◌, ℕ, ◌<◌, ◌≤◌, ◌+◌, ◌⊎◌, List, length, EachIndex, Option, None, Some, IfSome, IsSomeAnd, ⊤}
 use Rattle.std.specs.Option.{option_and_then}
 use Rattle.std.specs.Io.KnownBytes.{Appends}
-use Rattle.flow_list.specs.declared.data.FlowsData.{FlowsData}
-use Rattle.flow_list.specs.declared.plain.PlainFile.{PlainFile}
-use Rattle.flow_list.specs.Plain.{IsPlain, spelling, flows_of}
+use Rattle.flow_text.specs.Grammar.{FlowFile}
+use Rattle.flow_data.specs.declared.data.FlowsData.{FlowsData}
+use Rattle.flow_list.specs.Atoms.{HoldsAtoms}
+use Rattle.flow_list.specs.FileFlows.{IsFile, RefusesText, flows_of, limit_of}
+use Rattle.flow_data.specs.Flows.{flow_in}
 use Rattle.mc_base.specs.Outside.{HasRisen, AppendsPart}
 use Rattle.mc_base.specs.declared.refusal.ConstructName.TheVariants.{Unbuilt}
 use Rattle.mc_base.specs.declared.refusal.Input.{Input}
 use Rattle.mc_base.specs.declared.refusal.Input.TheVariants.{Flow}
-use Rattle.mc_base.specs.declared.refusal.LimitName.TheVariants.{Flow as FlowBytes}
+use Rattle.mc_base.specs.declared.refusal.LimitName.TheVariants.{Flow as FlowBytes, Result as ResultBytes}
 use Rattle.mc_base.specs.declared.refusal.Refusal.{Refusal}
 use Rattle.mc_base.specs.declared.refusal.Refusal.TheVariants.{Grammar, Construct, Limit, NoMemory}
 use Rattle.mc_run.specs.declared.stop.Stop.{Stop}
@@ -17,35 +19,72 @@ use Rattle.mc_run.specs.declared.stop.Stop.TheVariants.{Usage, Read, Write, Refu
 use Rattle.mc_run.specs.Printed.{result_text}
 use Rattle.mc_run.specs.Words.{Command, rows, name_for}
 
--- how many bytes a flow file may have
+-- how many bytes a flow file may have, and a result
 abbrev pub flow_limit : ℕ
 flow_limit = 4194304
 
--- these bytes are a flow file that is read by now, and these the flows that it says
-abbrev pub FlowSays : List ℕ → FlowsData → Type 0
-FlowSays bytes d = (p : PlainFile) × IsPlain p × (bytes ≡ spelling p) × (d ≡ flows_of p)
+abbrev pub result_limit : ℕ
+result_limit = 268435456
 
--- no flow file that is read by now has these bytes
-abbrev pub SaysNoFlow : List ℕ → Type 0
-SaysNoFlow bytes = (d : FlowsData) → FlowSays bytes d → ⊥
+-- these bytes are a flow file within its limits, and these the flows that it says
+abbrev pub FlowSays : List ℕ → FlowsData → Type 0
+FlowSays bytes d = (file : FlowFile) × IsFile bytes file × (limit_of file ≡ None) × (d ≡ flows_of file)
+
+-- these bytes are no flow file
+abbrev pub IsNoFlowFile : List ℕ → Type 0
+IsNoFlowFile bytes = (file : FlowFile) → IsFile bytes file → ⊥
+
+-- no row holds another one
+abbrev pub IsFlat : FlowsData → Type 0
+IsFlat d = EachIndex d.rows (λ r. HoldsAtoms (flow_in d r))
 
 -- this text is the result of a flow file
 abbrev pub IsFlowResult : List ℕ → List ℕ → Type 0
-IsFlowResult bytes text = (length bytes ≤ flow_limit) × ((d : FlowsData) × FlowSays bytes d × (text ≡ result_text d))
+IsFlowResult bytes text = (length bytes ≤ flow_limit) × ((d : FlowsData) × FlowSays bytes d × IsFlat d × (text ≡ result_text d) × (length text ≤ result_limit))
 
--- A flow file is refused for this reason: it is too long, or isn't read by now. Its bytes may be told.
+-- these bytes are a flow file within its limits, and a row of it holds another one
+abbrev pub HoldsRows : List ℕ → Type 0
+HoldsRows bytes = (d : FlowsData) × FlowSays bytes d × (IsFlat d → ⊥)
+
+-- these bytes are a flow file, and the text that is its result has more bytes than a result may have
+abbrev pub IsLongWinded : List ℕ → Type 0
+IsLongWinded bytes = (d : FlowsData) × FlowSays bytes d × IsFlat d × (result_limit < length (result_text d))
+
+-- a flow file has too many bytes, passes one of its limits, or has too long a result
+abbrev pub PassesLimit : List ℕ → Type 0
+PassesLimit bytes =
+    (flow_limit < length bytes) ⊎ ((length bytes ≤ flow_limit) × (((file : FlowFile) × IsFile bytes file × (limit_of file ≢ None)) ⊎ IsLongWinded bytes))
+
+-- a flow file has more bytes than it may have
+abbrev pub IsTooLong : List ℕ → Refusal → Type 0
+IsTooLong bytes refusal = (flow_limit < length bytes) × (refusal ≡ Limit FlowBytes (flow_limit + 1) flow_limit)
+
+-- a flow file's result has more bytes than it may have
+abbrev pub HasLongResult : List ℕ → Refusal → Type 0
+HasLongResult bytes refusal = IsLongWinded bytes × (refusal ≡ Limit ResultBytes (result_limit + 1) result_limit)
+
+-- These bytes, not too many, are refused for this reason: they are no flow file, whose first fault is told; a row of it
+-- holds another one; it passes a limit, or its result does.
+abbrev pub RefusesBytes : List ℕ → Refusal → Type 0
+RefusesBytes bytes (Grammar input offset rule) = IsNoFlowFile bytes × RefusesText bytes (Grammar input offset rule)
+RefusesBytes bytes (Construct input offset name) =
+    (input ≡ Flow) × (offset ≡ 0) × (name ≡ Unbuilt) × HoldsRows bytes
+RefusesBytes bytes (Limit name reached limit) = RefusesText bytes (Limit name reached limit) ⊎ HasLongResult bytes (Limit name reached limit)
+RefusesBytes bytes NoMemory = ⊤
+
+-- the bytes of an input, where they are told
+abbrev pub IsHeld : Option (List ℕ) → List ℕ → Type 0
+IsHeld held bytes = IfSome held (λ told. bytes ≡ told)
+
+-- a flow file is refused for this reason; want of memory has none
 abbrev pub RefusesFlow : Option (List ℕ) → Refusal → Type 0
-RefusesFlow held (Grammar input offset rule) = ⊥
-RefusesFlow held (Construct input offset name) =
-    (input ≡ Flow) × (offset ≡ 0) × (name ≡ Unbuilt) × IfSome held (λ bytes. (length bytes ≤ flow_limit) × SaysNoFlow bytes)
-RefusesFlow held (Limit name reached limit) =
-    (name ≡ FlowBytes) × (reached ≡ flow_limit + 1) × (limit ≡ flow_limit) × IfSome held (λ bytes. flow_limit < length bytes)
-RefusesFlow held NoMemory = ⊤
+RefusesFlow held refusal =
+    (refusal ≡ NoMemory) ⊎ ((bytes : List ℕ) × IsHeld held bytes × (IsTooLong bytes refusal ⊎ ((length bytes ≤ flow_limit) × RefusesBytes bytes refusal)))
 
--- where the flow file of a command is told, this is true of its bytes
+-- this is true of the bytes of a command's flow file
 abbrev pub OfFlow : Option Command → (List ℕ → Option (List ℕ)) → (List ℕ → Type 0) → Type 0
 OfFlow None held P = ⊥
-OfFlow (Some (rows flow)) held P = IfSome (held flow) P
+OfFlow (Some (rows flow)) held P = (bytes : List ℕ) × IsHeld (held flow) bytes × P bytes
 
 -- a command is refused for this reason
 abbrev pub Refuses : Option Command → (List ℕ → Option (List ℕ)) → Refusal → Type 0
@@ -59,7 +98,7 @@ Gives command held text = OfFlow command held (λ bytes. IsFlowResult bytes text
 -- the inputs of a command are told, and none is refused
 abbrev pub Accepts : Option Command → (List ℕ → Option (List ℕ)) → Type 0
 Accepts None held = ⊥
-Accepts (Some (rows flow)) held = IsSomeAnd (held flow) (λ bytes. (length bytes ≤ flow_limit) × ((d : FlowsData) × FlowSays bytes d))
+Accepts (Some (rows flow)) held = IsSomeAnd (held flow) (λ bytes. (text : List ℕ) × IsFlowResult bytes text)
 
 -- the name that is given for an input, if the words are taken and the command reads it
 abbrev pub name_asked : Input → Option Command → Option (List ℕ)

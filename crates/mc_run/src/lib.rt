@@ -4,18 +4,17 @@
 //! that the sink gets exactly the result of the command, and that the line of a refusal tells its cause.
 #![tactic(auto)]
 
-ghost use Rattle.std.specs.Prelude.{◌≡◌, ◌≢◌, ◌↔◌, ℕ, ◌≤◌, ◌<◌, [], ◌∷◌, List, length, map, None, IsSomeAnd, Contains, string_bytes};
+ghost use Rattle.std.specs.Prelude.{◌≡◌, ◌≢◌, ◌↔◌, ℕ, ◌≤◌, ◌<◌, List, length, map, None, IsSomeAnd, string_bytes};
 ghost use Rattle.mc_base.specs.Outside.{HasRisen};
 ghost use Rattle.mc_base.specs.declared.refusal.Input.{Input};
 ghost use Rattle.mc_run.specs.declared.stop.Stop.{Stop as AnyStop};
 ghost use Rattle.mc_run.specs.Told.{Tells};
 ghost use Rattle.mc_run.specs.Stops.{line_of, status_of};
 ghost use Rattle.mc_run.specs.Words.{command_of};
-ghost use Rattle.mc_run.specs.Outcome.{flow_limit, SaysNoFlow, OfFlow, Accepts, name_asked, OnlyAsked, AllRead, IsCause, GetsResult, GetsPart};
+ghost use Rattle.mc_run.specs.Outcome.{flow_limit, IsNoFlowFile, HoldsRows, PassesLimit, OfFlow, Accepts, name_asked, OnlyAsked, AllRead, IsCause, GetsResult, GetsPart};
 
 mod answer;
 mod inputs;
-mod print;
 mod rows;
 mod stop;
 #[cfg(test)]
@@ -31,8 +30,8 @@ use stop::{status, tell};
 ///
 /// `files` are read by name; the result is put to `out` in one call after it is whole, and the line of a refusal to
 /// `err`, whose faults change nothing. The status is 0 where the result was put, 1 where the words aren't taken, 2 after a
-/// read fault, 3 after a write fault, 5 where the flow file isn't read by now, 6 where it is too long and 7 for want of
-/// memory.
+/// read fault, 3 after a write fault, 4 where the flow file is off its grammar, 5 where a row of it holds another one, 6
+/// where a limit is passed and 7 for want of memory.
 pub fn run<F: Files, K: Sink, E: Sink>(
     alloc: Global,
     words: &[String],
@@ -54,12 +53,14 @@ pub fn run<F: Files, K: Sink, E: Sink>(
     ensures write { result ≡ 3 → HasRisen (K.faults out.old) (K.faults out.new) ×
         GetsPart (command_of (map string_bytes words.now)) (F.held files.old) (K.written out.old) (K.written out.new) }
 
-    // With 5 the flow file isn't one that is read by now, with 6 it is too long.
+    // With 4 the flow file is off the grammar; with 5 it is within it and its limits, and a row of it holds another one;
+    // with 6 it is too long, passes a limit, or its result is too long.
+    ensures grammar { result ≡ 4 → OfFlow (command_of (map string_bytes words.now)) (F.held files.old)
+        (λ bytes. (length bytes ≤ flow_limit) × IsNoFlowFile bytes) }
     ensures construct { result ≡ 5 → OfFlow (command_of (map string_bytes words.now)) (F.held files.old)
-        (λ bytes. (length bytes ≤ flow_limit) × SaysNoFlow bytes) }
-    ensures limit { result ≡ 6 → OfFlow (command_of (map string_bytes words.now)) (F.held files.old)
-        (λ bytes. flow_limit < length bytes) }
-    ensures statuses { Contains (0 ∷ 1 ∷ 2 ∷ 3 ∷ 5 ∷ 6 ∷ 7 ∷ []) result }
+        (λ bytes. (length bytes ≤ flow_limit) × HoldsRows bytes) }
+    ensures limit { result ≡ 6 → OfFlow (command_of (map string_bytes words.now)) (F.held files.old) PassesLimit }
+    ensures statuses { result ≤ 7 }
 
     // The line tells why the command stopped, and that is so.
     ensures told { result ≢ 0 → (stop : AnyStop) × (result ≡ status_of stop) ×

@@ -1,62 +1,100 @@
 //! The result of a flow file.
 
-ghost use Rattle.std.specs.Prelude.{◌≡◌, ◌+◌, ◌^◌, ◌<◌, ◌≤◌, ◌≢◌, ◌∷◌, ◌++◌, ℕ, List, length, None, Some, IfOk, IfErr, IfSome, OnOk, OnErr, IsErrOf};
-ghost use Rattle.flow_list.specs.Plain.{IsPlain, flows_of};
-ghost use Rattle.flow_list.specs.declared.plain.PlainFile.{PlainFile};
-ghost use Rattle.mc_run.specs.Printed.{available_in, result_text, row_width};
-ghost use Rattle.mc_run.specs.Outcome.{RefusesFlow, IsFlowResult};
+ghost use Rattle.std.specs.Prelude.{◌≡◌, ◌+◌, ◌^◌, ◌<◌, ◌≤◌, ◌⊎◌, length, true, false, EachIndex, IfOk, IfErr};
+ghost use Rattle.flow_text.specs.Grammar.{FlowFile};
+ghost use Rattle.flow_list.specs.Atoms.{HoldsAtoms};
+ghost use Rattle.flow_list.specs.FileFlows.{flows_of};
+ghost use Rattle.flow_data.specs.Flows.{flow_in};
+ghost use Rattle.flow_list.specs.Stacks.{available_at};
+ghost use Rattle.frag_printer.specs.FlatRows.{flat_rows};
+ghost use Rattle.mc_run.specs.Printed.{result_text};
+ghost use Rattle.mc_run.specs.Outcome.{IsFlat, IsFlowResult, RefusesBytes};
 
-use crate::print::{put_columns, put_line};
 use column_row::flat_row;
-use flow_list::{Bound, Flows, RowInfo, flow_counts, read_flow, row_at, stack_at};
-use mc_base::{NoMemory, Refusal, Text, Units};
+use flow_list::{Bound, FlatRow, Flows, flow_counts, read_flow, stack_at};
+use frag_printer::write_flat;
+use mc_base::{ConstructName, Input, LimitName, List, NoMemory, Refusal, Text, Units};
 use std::alloc::Global;
 
-/// The height that a row directly in a stack may use.
+/// How many bytes a result may have.
+const RESULT_LIMIT: u64 = 268_435_456;
+
+/// Whether no row of a flow file's flows holds another one. Each row but the first stands in another one.
+fn is_flat(flows: &Flows) -> bool
+    requires { (file : FlowFile) × (flows.now ≡ flows_of file) }
+    ensures flat { result ≡ true → IsFlat flows.now }
+    ensures nested { result ≡ false → IsFlat flows.now → ⊥ }
+{
+    flow_counts(flows).rows == 1
+}
+
+/// The height that a row at a stack's top may use.
 fn available(bound: Bound) -> Option<Units>
-    ensures { result ≡ available_in bound }
+    ensures { result ≡ available_at bound 0 }
 {
     match bound {
         Bound::Free => None,
-        Bound::Each(height) | Bound::Left(height) => Some(height),
+        Bound::Each(height) => Some(height),
+        Bound::Left(height) => Some(height.max(64)),
     }
 }
 
-/// How wide the columns that are wanted are with the gaps between them.
-fn width(row: RowInfo) -> Units
-    requires some_column { 0 < row.n }
-    requires column_limit { row.n ≤ 32 }
-    requires step { row.step ≤ 2 ^ 25 }
-    requires w { row.w < 2 ^ 60 }
-    ensures { result ≡ row_width row }
+/// The one row of a flow file, laid out.
+fn laid_rows(alloc: Global, flows: &Flows) -> Result<List<FlatRow>, NoMemory>
+    requires file { (file : FlowFile) × (flows.now ≡ flows_of file) }
+    requires flat { IsFlat flows.now }
+    ensures { IfOk result (λ rows. rows ≡ flat_rows flows.now) }
 {
-    u64::from(row.n - 1) * row.step + row.w
+    let stack = *stack_at(flows, 0);
+    let mut rows = List::new(alloc);
+    rows.push(flat_row(alloc, flows, 0, available(stack.bound))?)?;
+    Ok(rows)
 }
 
-/// The result of the flows of a plain flow file.
+/// The result of the flows of a flow file.
 #[tactic(auto, unfolding(crate::specs::Printed::result_text))]
 fn write_result(alloc: Global, flows: &Flows) -> Result<Text, NoMemory>
-    requires { (p : PlainFile) × IsPlain p × (flows.now ≡ flows_of p) }
+    requires file { (file : FlowFile) × (flows.now ≡ flows_of file) }
+    requires flat { IsFlat flows.now }
     ensures { IfOk result (λ text. text ≡ result_text flows.now) }
 {
-    let row = *row_at(flows, 0);
-    let stack = *stack_at(flows, 0);
-    let laid = flat_row(alloc, flows, 0, available(stack.bound))?;
+    let rows = laid_rows(alloc, flows)?;
+    let tree = write_flat(alloc, flows, &rows)?;
     let mut out = Text::new(alloc);
     out.extend(b"mcol 1\n")?;
-    put_line(&mut out, 0, b"stack", &[0, 0, 0, stack.w, laid.height])?;
-    put_line(&mut out, 1, b"row", &[0, 0, 0, 0, width(row), laid.height])?;
-    put_columns(&mut out, flows, row, laid.height, laid.ends.as_slice())?;
+    out.extend(tree.as_slice())?;
     out.extend(b"end\n")?;
     Ok(out)
+}
+
+/// A result, unless it is too long.
+fn within_limit(text: Text) -> Result<Text, Refusal>
+    ensures ok { IfOk result (λ whole. (whole ≡ text) × (length text ≤ 268435456)) }
+    ensures err { IfErr result (λ refusal. (268435456 < length text) × (refusal ≡ Refusal.Limit LimitName.Result 268435457 268435456)) }
+{
+    if text.len() as u64 > RESULT_LIMIT {
+        return Err(Refusal::Limit {
+            name: LimitName::Result,
+            reached: RESULT_LIMIT + 1,
+            limit: RESULT_LIMIT,
+        });
+    }
+    Ok(text)
 }
 
 /// The result of a flow file.
 pub fn rows_result(alloc: Global, bytes: &[u8]) -> Result<Text, Refusal>
     requires { length bytes.now ≤ 4194304 }
     ensures ok { IfOk result (IsFlowResult bytes.now) }
-    ensures err { IfErr result (RefusesFlow (Some bytes.now)) }
+    ensures err { IfErr result (λ refusal. (refusal ≡ Refusal.NoMemory) ⊎ RefusesBytes bytes.now refusal) }
 {
     let flows = read_flow(alloc, bytes)?;
-    Ok(write_result(alloc, &flows)?)
+    if !is_flat(&flows) {
+        return Err(Refusal::Construct {
+            input: Input::Flow,
+            offset: 0,
+            name: ConstructName::Unbuilt,
+        });
+    }
+    within_limit(write_result(alloc, &flows)?)
 }

@@ -87,22 +87,177 @@ fn plain_flow_files_get_their_trees(rt: HostRuntime) -> Result<(), Fail> {
     Ok(())
 }
 
+/// What stands where: each flow file with its result.
+#[test]
+fn rows_of_atoms_get_their_trees(rt: HostRuntime) -> Result<(), Fail> {
+    let cases = [
+        // bottom padding goes with the last line
+        (
+            "flow 1\nrow 2 100 110 - balance\n( 0 0 100 auto\na 20\n| 0\na 20\ns 10\n) 0\nend\n",
+            "mcol 1\n0 stack 0 0 0 210 30\n1 row 0 0 0 0 210 30\n2 col 0 0 0 100 30\n3 box 0 s- 0 0 100 30\n4 atom 0 0 0 100 20\n2 col 1 110 0 100 30\n3 box 0 -e 110 0 100 30\n4 atom 1 110 0 100 20\nend\n",
+        ),
+        // five lines with orphans and widows
+        (
+            "flow 1\nrow 2 100 110 - balance\na 10\n| 1\na 10\n| 0\na 10\n| 0\na 10\n| 1\na 10\nend\n",
+            "mcol 1\n0 stack 0 0 0 210 30\n1 row 0 0 0 0 210 30\n2 col 0 0 0 100 30\n3 atom 0 0 0 100 10\n3 atom 1 0 10 100 10\n3 atom 2 0 20 100 10\n2 col 1 110 0 100 30\n3 atom 3 110 0 100 10\n3 atom 4 110 10 100 10\nend\n",
+        ),
+        // forced breaks make a third column
+        (
+            "flow 1\nrow 2 100 110 - balance\na 10\n| F\na 10\n| F\na 10\nend\n",
+            "mcol 1\n0 stack 0 0 0 210 10\n1 row 0 0 0 0 210 10\n2 col 0 0 0 100 10\n3 atom 0 0 0 100 10\n2 col 1 110 0 100 10\n3 atom 1 110 0 100 10\n2 col 2 220 0 100 10\n3 atom 2 220 0 100 10\nend\n",
+        ),
+        // margins at an unforced break
+        (
+            "flow 1\nrow 2 100 110 - balance\nm 16\na 20\nm 16\n| 0\nm 16\na 20\nm 16\nend\n",
+            "mcol 1\n0 stack 0 0 0 210 36\n1 row 0 0 0 0 210 36\n2 col 0 0 0 100 36\n3 atom 0 0 16 100 20\n2 col 1 110 0 100 36\n3 atom 1 110 0 100 20\nend\n",
+        ),
+        // margins at a forced break
+        (
+            "flow 1\nrow 2 100 110 - balance\nm 16\na 20\nm 16\n| F\nm 16\na 20\nm 16\nend\n",
+            "mcol 1\n0 stack 0 0 0 210 36\n1 row 0 0 0 0 210 36\n2 col 0 0 0 100 36\n3 atom 0 0 16 100 20\n2 col 1 110 0 100 36\n3 atom 1 110 16 100 20\nend\n",
+        ),
+        // three lines kept in one column
+        (
+            "flow 1\nrow 2 100 110 - balance\na 40\n| 1\na 40\n| 1\na 40\nend\n",
+            "mcol 1\n0 stack 0 0 0 210 120\n1 row 0 0 0 0 210 120\n2 col 0 0 0 100 120\n3 atom 0 0 0 100 40\n3 atom 1 0 40 100 40\n3 atom 2 0 80 100 40\nend\n",
+        ),
+        // three lines no height fits
+        (
+            "flow 1\nrow 2 100 110 80 balance\na 40\n| 1\na 40\n| 1\na 40\nend\n",
+            "mcol 1\n0 stack 0 0 0 210 80\n1 row 0 0 0 0 210 80\n2 col 0 0 0 100 80\n3 atom 0 0 0 100 40\n3 atom 1 0 40 100 40\n2 col 1 110 0 100 80\n3 atom 2 110 0 100 40\nend\n",
+        ),
+        // line counts relaxed before break avoidance
+        (
+            "flow 1\nrow 2 100 110 80 balance\na 20\n| 1\na 20\n| 1\na 20\n| 2\na 40\nend\n",
+            "mcol 1\n0 stack 0 0 0 210 80\n1 row 0 0 0 0 210 80\n2 col 0 0 0 100 80\n3 atom 0 0 0 100 20\n3 atom 1 0 20 100 20\n2 col 1 110 0 100 80\n3 atom 2 110 0 100 20\n3 atom 3 110 20 100 40\nend\n",
+        ),
+        // filled row of two columns
+        (
+            "flow 1\nrow 2 100 110 100 auto\na 40\n| 0\na 40\n| 0\na 40\nend\n",
+            "mcol 1\n0 stack 0 0 0 210 100\n1 row 0 0 0 0 210 100\n2 col 0 0 0 100 100\n3 atom 0 0 0 100 40\n3 atom 1 0 40 100 40\n2 col 1 110 0 100 100\n3 atom 2 110 0 100 40\nend\n",
+        ),
+        // filled row of one column
+        (
+            "flow 1\nrow 2 100 110 200 auto\na 40\n| 0\na 40\n| 0\na 40\nend\n",
+            "mcol 1\n0 stack 0 0 0 210 120\n1 row 0 0 0 0 210 120\n2 col 0 0 0 100 120\n3 atom 0 0 0 100 40\n3 atom 1 0 40 100 40\n3 atom 2 0 80 100 40\nend\n",
+        ),
+        // padding cloned at a break
+        (
+            "flow 1\nrow 2 100 110 - balance\n( 0 0 100 auto 5 10\ns 5\na 20\n| 0\na 20\ns 10\n) 0\nend\n",
+            "mcol 1\n0 stack 0 0 0 210 35\n1 row 0 0 0 0 210 35\n2 col 0 0 0 100 35\n3 box 0 s- 0 0 100 35\n4 atom 0 0 5 100 20\n2 col 1 110 0 100 35\n3 box 0 -e 110 0 100 35\n4 atom 1 110 5 100 20\nend\n",
+        ),
+        // padding of two boxes cloned
+        (
+            "flow 1\nrow 2 100 110 - balance\n( 0 0 100 auto 5 10\ns 5\n( 1 2 90 auto 2 3\ns 2\na 20\n| 0\na 20\ns 3\n) 1\ns 10\n) 0\nend\n",
+            "mcol 1\n0 stack 0 0 0 210 40\n1 row 0 0 0 0 210 40\n2 col 0 0 0 100 40\n3 box 0 s- 0 0 100 40\n4 box 1 s- 2 5 90 25\n5 atom 0 0 7 100 20\n2 col 1 110 0 100 40\n3 box 0 -e 110 0 100 40\n4 box 1 -e 112 5 90 25\n5 atom 1 110 7 100 20\nend\n",
+        ),
+        // padding not cloned at a break
+        (
+            "flow 1\nrow 2 100 110 - balance\n( 0 0 100 auto\ns 5\na 20\n| 0\na 20\ns 10\n) 0\nend\n",
+            "mcol 1\n0 stack 0 0 0 210 30\n1 row 0 0 0 0 210 30\n2 col 0 0 0 100 30\n3 box 0 s- 0 0 100 30\n4 atom 0 0 5 100 20\n2 col 1 110 0 100 30\n3 box 0 -e 110 0 100 30\n4 atom 1 110 0 100 20\nend\n",
+        ),
+    ];
+    for (flow, result) in cases {
+        let seen = run_over(rt.alloc(), "rows flow.txt", flow.as_bytes(), NEVER, NEVER)?;
+        assert_eq!(rt; seen.status, 0, "{flow}");
+        assert_eq!(rt; seen.out.as_slice(), result.as_bytes(), "{flow}");
+    }
+    Ok(())
+}
+
+/// Each text that is refused, with its status and line.
+#[test]
+fn flow_files_are_refused_for_their_first_fault_or_limit(rt: HostRuntime) -> Result<(), Fail> {
+    let cases = [
+        ("flow 1\n\0\n", 4, "grammar: flow 7 w1\n"),
+        ("flow 1\r\n", 4, "grammar: flow 6 w2\n"),
+        ("\u{feff}flow 1\n", 4, "grammar: flow 0 w2\n"),
+        ("flow 1", 4, "grammar: flow 0 w2\n"),
+        (
+            "flow 1\nrow 2 100 110 - balance\na 5\nend",
+            4,
+            "grammar: flow 35 w2\n",
+        ),
+        ("", 4, "grammar: flow 0 w3\n"),
+        ("flow 2\n", 4, "grammar: flow 0 w3\n"),
+        (
+            "flow 1\nrow 2 100 110 - balance\na 010\nend\n",
+            4,
+            "grammar: flow 31 w4\n",
+        ),
+        (
+            "flow 1\nrow 2 100 110 - balance\na 12345678901234567890\nend\n",
+            4,
+            "grammar: flow 31 w4\n",
+        ),
+        (
+            "flow 1\nrow 2 100 110 - balance\n| 0\na 5\nend\n",
+            4,
+            "grammar: flow 31 w5\n",
+        ),
+        (
+            "flow 1\nrow 2 100 110 - balance\na 5\n| 0\nend\n",
+            4,
+            "grammar: flow 35 w5\n",
+        ),
+        (
+            "flow 1\nrow 2 100 110 - balance\n( 0 0 9 auto\nrow 1 5 5 0\na 5\n) 0\nend\nend\n",
+            4,
+            "grammar: flow 60 w6\n",
+        ),
+        (
+            "flow 1\nrow 2 100 110 - balance\nrow 1 5 5 0\nend\nend\n",
+            4,
+            "grammar: flow 31 w6\n",
+        ),
+        (
+            "flow 1\nrow 2 100 110 - balance\n",
+            4,
+            "grammar: flow 31 w7\n",
+        ),
+        (
+            "flow 1\nrow 2 100 110 - balance\nend\nend\n",
+            4,
+            "grammar: flow 35 w7\n",
+        ),
+        (
+            "flow 1\nrow 2 100 110 - balance\n( 0 0 9 auto 5 10\na 5\ns 10\n) 0\nend\n",
+            4,
+            "grammar: flow 31 w8\n",
+        ),
+        (
+            "flow 1\nrow 2 100 110 - balance\na 16777217\nend\n",
+            6,
+            "limit: length 16777217 16777216\n",
+        ),
+        (
+            "flow 1\nrow 33 100 110 - balance\nend\n",
+            6,
+            "limit: columns 33 32\n",
+        ),
+        (
+            "flow 1\nrow 2 100 110 - balance\nrow 2 45 55 0\nrow 2 20 25 0\nrow 2 5 15 0\na 10\nend\nend\nend\nend\n",
+            6,
+            "limit: nest 4 3\n",
+        ),
+        (
+            "flow 1\nrow 2 100 110 - balance\nrow 2 45 55 0\na 10\nend\nend\n",
+            5,
+            "construct: flow 0 unbuilt\n",
+        ),
+    ];
+    for (flow, status, line) in cases {
+        let seen = run_over(rt.alloc(), "rows flow.txt", flow.as_bytes(), NEVER, NEVER)?;
+        assert_eq!(rt; seen.status, status, "{flow}");
+        assert_eq!(rt; seen.out.len(), 0, "{flow}");
+        assert_eq!(rt; seen.err.as_slice(), line.as_bytes(), "{flow}");
+    }
+    Ok(())
+}
+
 #[test]
 fn refusals_tell_their_cause(rt: HostRuntime) -> Result<(), Fail> {
-    let unbuilt = "construct: flow 0 unbuilt\n";
     let cases = [
-        (
-            "rows flow.txt",
-            "flow 1\nrow 2 100 110 - balance\nm 5\na 10\nend\n",
-            5,
-            unbuilt,
-        ),
-        (
-            "rows flow.txt",
-            "flow 1\nrow 2 100 110 - balance\n",
-            5,
-            unbuilt,
-        ),
         ("rows other.txt", SIX, 2, "read: flow\n"),
         ("frobnicate", SIX, 1, USAGE),
         ("rows", SIX, 1, USAGE),

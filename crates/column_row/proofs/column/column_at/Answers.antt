@@ -1,5 +1,5 @@
 use Rattle.std.proofs.Common.{◌+◌, refl, sym, arith}
-use Rattle.flow_list.specs.Flows.{flow_of, box_of}
+use Rattle.flow_data.specs.Flows.{flow_of, box_of}
 use Rattle.flow_list.specs.Rows.{all_rows}
 use Rattle.flow_list.proofs.Fitting.{open_across-le}
 use Rattle.column_row.proofs.Passages.{bound, is_atom}

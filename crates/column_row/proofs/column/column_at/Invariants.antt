@@ -1,7 +1,7 @@
 use Rattle.std.proofs.Common.{◌≡◌, [], ◌∷◌}
 use Rattle.std.specs.Prelude.{IfSome, IfNone}
 use Rattle.flow_list.specs.Column.{avoids_at, column, place_in}
-use Rattle.flow_list.specs.Flows.{flow_of}
+use Rattle.flow_data.specs.Flows.{flow_of}
 use Rattle.flow_list.specs.Rows.{all_rows}
 use Rattle.flow_list.proofs.Walk.{walk}
 use Rattle.column_row.specs.Ending.{place_opt, IsBefore, IsEnding, IsLast}

@@ -1,5 +1,5 @@
 use Rattle.std.proofs.Common.{◌∙◌, sym, arith}
-use Rattle.flow_list.specs.Flows.{flow_of}
+use Rattle.flow_data.specs.Flows.{flow_of}
 use Rattle.flow_list.specs.Rows.{all_rows}
 use Rattle.column_row.proofs.ColumnLoops.{fits-out, fits-bad, fits-good, fits-end}
 use Rattle.column_row.proofs.columns.flow_fits.Goals as goal

@@ -1,5 +1,5 @@
 use Rattle.std.proofs.Common.{◌≡◌, ◌-◌, ◌≤◌, [], ◌∷◌, length}
-use Rattle.flow_list.specs.Flows.{flow_of}
+use Rattle.flow_data.specs.Flows.{flow_of}
 use Rattle.flow_list.specs.Rows.{all_rows, columns, reach_end}
 use Rattle.flow_list.specs.Tokens.{row_start}
 use Rattle.column_row.specs.Ending.{IsAcross}

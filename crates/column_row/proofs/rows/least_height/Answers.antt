@@ -1,5 +1,5 @@
 use Rattle.std.proofs.Common.{◌+◌, ◌-◌, ◌<◌, true, false, sym, arith}
-use Rattle.flow_list.specs.Flows.{row_of}
+use Rattle.flow_data.specs.Flows.{row_of}
 use Rattle.flow_list.specs.RowHeights.{size_of}
 use Rattle.flow_list.specs.Tokens.{row_start}
 use Rattle.column_row.proofs.Passages.{bound}

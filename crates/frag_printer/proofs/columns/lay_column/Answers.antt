@@ -1,6 +1,6 @@
 use Rattle.std.proofs.Common.{◌≡◌, ◌+◌, ◌<◌, ◌≤◌, ◌∙◌, ap, sym, subst, arith, length}
 use Rattle.flow_list.specs.ClonedEdges.{open_across, bottoms}
-use Rattle.flow_list.specs.Flows.{flow_of}
+use Rattle.flow_data.specs.Flows.{flow_of}
 use Rattle.flow_list.specs.Strip.{Strip}
 use Rattle.frag_printer.specs.Columns.{HasRoom}
 use Rattle.frag_printer.specs.Placing.{strip_of}

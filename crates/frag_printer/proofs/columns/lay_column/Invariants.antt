@@ -1,7 +1,7 @@
 use Rattle.std.proofs.Common.{◌≡◌, ◌-◌, [], ◌∷◌}
 use Rattle.flow_list.specs.ClonedEdges.{open_across}
 use Rattle.flow_list.specs.Column.{start_strip}
-use Rattle.flow_list.specs.Flows.{flow_of}
+use Rattle.flow_data.specs.Flows.{flow_of}
 use Rattle.flow_list.specs.Fragments.{strip_after}
 use Rattle.flow_list.specs.Rows.{all_rows}
 use Rattle.flow_list.specs.Tokens.{row_start}

@@ -1,6 +1,6 @@
 -- what is put, and the parts to come, which stand in the same column
 use Rattle.std.proofs.Common.{◌≡◌, ◌+◌, ◌≤◌, ◌++◌, drop, sum_by}
-use Rattle.flow_list.specs.Flows.{flow_of}
+use Rattle.flow_data.specs.Flows.{flow_of}
 use Rattle.flow_list.specs.TreeText.{tree_text}
 use Rattle.frag_printer.specs.PartLines.{part_lines}
 use Rattle.frag_printer.specs.Parts.{feet_of, frame_of, no_stacks}

@@ -1,6 +1,6 @@
 use Rattle.std.proofs.Common.{◌≡◌, ℕ, ◌+◌, ◌-◌, ◌<◌, ◌≤◌, ◌^◌, ◌∙◌, ap, sym, subst, arith, All, List, length, sum_by}
 use Rattle.std.specs.List.{AllByRecursion as Each}
-use Rattle.flow_list.specs.Flows.{flow_of}
+use Rattle.flow_data.specs.Flows.{flow_of}
 use Rattle.flow_list.specs.Fragments.{place_of, row_fragments}
 use Rattle.flow_list.specs.Tree.{Frame, col}
 use Rattle.flow_list.specs.Placing.{Placed}

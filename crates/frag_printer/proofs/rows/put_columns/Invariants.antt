@@ -1,7 +1,7 @@
 -- what is put, and the columns to come
 use Rattle.std.proofs.Common.{◌≡◌, ◌++◌, drop, length}
 use Rattle.flow_list.specs.ClonedEdges.{open_across}
-use Rattle.flow_list.specs.Flows.{flow_of}
+use Rattle.flow_data.specs.Flows.{flow_of}
 use Rattle.flow_list.specs.Fragments.{row_fragments}
 use Rattle.flow_list.specs.TreeText.{tree_text}
 use Rattle.frag_printer.specs.FlatLines.{ArePlaces, columns_lines}

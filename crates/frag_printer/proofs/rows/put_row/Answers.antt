@@ -1,5 +1,5 @@
 use Rattle.std.proofs.Common.{◌≡◌, ◌+◌, ◌<◌, ◌^◌, ◌≤◌, ap, arith, length}
-use Rattle.flow_list.specs.Flows.{flow_in, row_of, no_row, no_flow}
+use Rattle.flow_data.specs.Flows.{flow_in, row_of, no_row, no_flow}
 use Rattle.frag_printer.proofs.PartLines.{places-count}
 use Rattle.frag_printer.proofs.rows.put_row.Goals as goal
 

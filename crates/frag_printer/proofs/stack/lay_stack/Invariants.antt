@@ -1,7 +1,7 @@
 -- what is laid, and what is to come
 use Rattle.std.proofs.Common.{◌≡◌, ◌-◌, drop}
 use Rattle.flow_list.specs.ClonedEdges.{open_across}
-use Rattle.flow_list.specs.Flows.{flow_of}
+use Rattle.flow_data.specs.Flows.{flow_of}
 use Rattle.frag_printer.specs.FlatRows.{flat_rows_from}
 use Rattle.frag_printer.specs.Placing.{HasMargin, strip_of, with_more}
 use Rattle.frag_printer.specs.StackParts.{before_head, stack_places}

@@ -1,6 +1,6 @@
 use Rattle.std.proofs.Common.{◌∙◌, ap}
-use Rattle.flow_list.specs.declared.data.Seam.{Seam}
-use Rattle.flow_list.specs.Flows.{flow_of}
+use Rattle.flow_data.specs.declared.data.Seam.{Seam}
+use Rattle.flow_data.specs.Flows.{flow_of}
 use Rattle.frag_printer.proofs.StackKnown.{stack-known}
 use Rattle.frag_printer.proofs.StackSteps.{stack-head-room, stack-strip, stack-stand-room, stack-tail-room, stack-leads}
 use Rattle.frag_printer.proofs.stack.lay_stack_item.Goals as goal

@@ -1,5 +1,5 @@
 use Rattle.std.proofs.Common.{ap, get_or}
-use Rattle.flow_list.specs.Flows.{flow_of}
+use Rattle.flow_data.specs.Flows.{flow_of}
 use Rattle.frag_printer.proofs.StackSteps.{row-leads}
 use Rattle.frag_printer.proofs.stack.stand_item.Goals as goal
 

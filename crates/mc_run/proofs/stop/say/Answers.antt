@@ -1,5 +1,5 @@
 -- The pieces that were put, and of a piece that failed its first part.
-use Rattle.std.proofs.Common.{arith, inl, inr, sym, subst, ◌∙◌}
+use Rattle.std.proofs.Common.{arith, inr, sym, subst, ◌∙◌}
 use Rattle.mc_base.specs.Outside.{AppendsPart}
 use Rattle.std.specs.Io.KnownBytes.{Appends}
 use Rattle.mc_run.proofs.Pieces.{at_err, at_ok, pieces_more, pieces_split, appends_on, part_on}

@@ -1,5 +1,5 @@
 -- The pieces of the line of a construct.
-use Rattle.std.proofs.Common.{◌≡◌, ◌∙◌, subst}
+use Rattle.std.proofs.Common.{◌∙◌, subst}
 use Rattle.mc_run.specs.Told.{Tells}
 use Rattle.mc_run.proofs.Pieces.{construct_line}
 use Rattle.mc_run.proofs.stop.tell_refusal.Goals as goal

@@ -1,0 +1,10 @@
+pub mod BoxSums
+pub mod EdgeSums
+pub mod Everywhere
+pub mod FilledBoxes
+pub mod FitsAcross
+pub mod OpenBoxes
+pub mod SoundFlow
+pub mod SoundSeams
+pub mod StandsOnce
+pub mod Verdicts

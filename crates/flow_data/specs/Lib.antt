@@ -1,0 +1,4 @@
+pub mod Across
+pub mod Flows
+pub mod Sizes
+pub mod Soundness

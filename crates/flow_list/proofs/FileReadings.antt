@@ -1,0 +1,107 @@
+-- What was read of the lines of a text, and what a refusal says of it.
+use Rattle.std.proofs.Common.{◌≡◌, ℕ, ◌≤◌, ◌^◌, List, [], ◌∷◌, length, Some, None, Result, Ok, Err, refl, sym, ap, ◌∙◌, subst, inl, inr, All}
+use Rattle.std.specs.Prelude.{◌⊎◌}
+use Rattle.std.proofs.lemmas.List.Elements.{All-nil, All-cons}
+use Rattle.mc_base.specs.declared.refusal.Refusal.{Refusal}
+use Rattle.mc_base.specs.declared.refusal.Refusal.TheVariants as refusals
+use Rattle.flow_text.specs.declared.fault.Fault.{Fault}
+use Rattle.flow_text.specs.declared.line.Line.{Line}
+use Rattle.flow_text.specs.Answer.{IsAnswer, IsRead, answer_of, answered, refusal_of, within_limits}
+use Rattle.flow_text.specs.Grammar.{FlowFile, IsFlowFile}
+use Rattle.flow_text.specs.Limits.{limit_passed}
+use Rattle.flow_text.specs.Text.{IsText, lines_of}
+use Rattle.flow_text.proofs.AnswerLaws.{denied, denied_is, given, limits_ok, lines_denied, passed_limit}
+use Rattle.flow_text.proofs.FaultLaws.{first_fault}
+use Rattle.flow_text.proofs.Sound.{read_is_file}
+use Rattle.flow_text.proofs.TextLaws.{text_takes}
+use Rattle.flow_data.specs.declared.data.FlowsData.{FlowsData}
+use Rattle.flow_list.specs.Building.{IsLow}
+use Rattle.flow_list.specs.FileFlows.{IsFile, RefusesText, flows_of, limit_of}
+use Rattle.flow_data.specs.Soundness.{IsSound}
+use Rattle.flow_list.proofs.FileLimits.{AreLowLines, line_count, low_lines, passes_none}
+use Rattle.flow_list.proofs.FileSound.{file_is_sound}
+
+-- ---- what was read
+
+abbrev IsLowLine : Line → Type 0
+IsLowLine line = IsLow line.form
+
+all_low : (lines : List Line) → AreLowLines lines → All IsLowLine lines
+all_low [] h = All-nil IsLowLine
+all_low (l ∷ lines) h = All-cons IsLowLine l lines h.0.0 (all_low lines h.1)
+
+pub read_low : (text : List ℕ) (lines : List Line) → IsRead text lines → All (λ (line : Line). IsLow line.form) lines
+read_low text lines is = let none = passes_none lines is.within in all_low lines (low_lines lines 0 text is.spelled none.long none.wide)
+
+pub read_few : (text : List ℕ) (lines : List Line) → IsRead text lines → length lines ≤ length text
+read_few text lines is = line_count lines 0 text is.spelled
+
+-- the file that was read
+pub read_file : (text : List ℕ) (lines : List Line) → IsRead text lines → (file : FlowFile) × IsFile text file × IsFlowFile lines file × (limit_of file ≡ None)
+read_file text lines is =
+    (is.file, record { lines = lines; spelled = is.spelled; on_grammar = is.on_grammar }, is.on_grammar, ap limit_passed (sym is.on_grammar.whole) ∙ is.within)
+
+abbrev MakesFlows : List Line → FlowsData → Type 0
+MakesFlows lines d = (file : FlowFile) → IsFlowFile lines file → d ≡ flows_of file
+
+pub read_sound : (text : List ℕ) (lines : List Line) (d : FlowsData) → length text ≤ 2 ^ 28 → IsRead text lines → MakesFlows lines d → IsSound d
+read_sound text lines d few is made =
+    let f = read_file text lines is in
+    subst IsSound (sym (made f.0 f.2)) (file_is_sound text f.0 few f.1 f.3)
+
+pub read_found : (text : List ℕ) (lines : List Line) (d : FlowsData) → IsRead text lines → MakesFlows lines d → (file : FlowFile) × IsFile text file × (limit_of file ≡ None) × (d ≡ flows_of file)
+read_found text lines d is made = let f = read_file text lines is in (f.0, f.1, f.3, made f.0 f.2)
+
+-- what the lines' reader promises of each flow file
+abbrev ReadsOnly : List ℕ → Result (List Line) Refusal → Type 0
+ReadsOnly text r = (lines : List Line) (file : FlowFile) → IsText 0 lines text → IsFlowFile lines file → IsAnswer r (within_limits lines)
+
+pub read_only : (text : List ℕ) (got : List Line) (d : FlowsData) → ReadsOnly text (given got) → MakesFlows got d → (file : FlowFile) → IsFile text file → (limit_of file ≡ None) × (d ≡ flows_of file)
+read_only text got d only made file is =
+    let ok = limits_ok (limit_passed is.lines) is.lines got (only is.lines file is.spelled is.on_grammar) in
+    (ap limit_passed (sym is.on_grammar.whole) ∙ ok.0, made file (subst (λ (lines : List Line). IsFlowFile lines file) ok.1 is.on_grammar))
+
+-- ---- what is refused
+
+denies : (r : Refusal) (lines : List Line) → IsAnswer (denied r) (within_limits lines) → (r ≡ refusals.NoMemory) ⊎ (limit_passed lines ≡ Some r)
+denies refusals.NoMemory lines h = inl refl
+denies (refusals.Grammar input offset rule) lines h = inr (lines_denied (limit_passed lines) lines (refusals.Grammar input offset rule) h)
+denies (refusals.Construct input offset name) lines h = inr (lines_denied (limit_passed lines) lines (refusals.Construct input offset name) h)
+denies (refusals.Limit name reached limit) lines h = inr (lines_denied (limit_passed lines) lines (refusals.Limit name reached limit) h)
+
+pub refused_only : (text : List ℕ) (r : Refusal) → ReadsOnly text (denied r) → (file : FlowFile) → IsFile text file → (r ≡ refusals.NoMemory) ⊎ (limit_of file ≡ Some r)
+refused_only text r only file is =
+    subst (λ (lines : List Line). (r ≡ refusals.NoMemory) ⊎ (limit_passed lines ≡ Some r)) is.on_grammar.whole (denies r is.lines (only is.lines file is.spelled is.on_grammar))
+
+abbrev given_lines : List Line → Result (List Line) Fault
+given_lines lines = Ok lines
+
+abbrev failed_lines : Fault → Result (List Line) Fault
+failed_lines fault = Err fault
+
+-- why a text has no answer
+data Reason (text : List ℕ) (r : Refusal) : Type 0 where
+  by_limit : (lines : List Line) → lines_of text ≡ given_lines lines → limit_passed lines ≡ Some r → Reason text r
+  by_fault : (fault : Fault) → lines_of text ≡ failed_lines fault → refusal_of fault ≡ r → Reason text r
+
+reason : (text : List ℕ) (r : Refusal) (read : Result (List Line) Fault) → lines_of text ≡ read → answered read ≡ denied r → Reason text r
+reason text r (Ok lines) is h = by_limit lines is (lines_denied (limit_passed lines) lines r h)
+reason text r (Err fault) is h = by_fault fault is (denied_is (refusal_of fault) r h)
+
+refuses_by : (text : List ℕ) (r : Refusal) → Reason text r → RefusesText text r
+refuses_by text (refusals.Grammar input offset rule) (by_limit lines is limit) = absurd (passed_limit lines (refusals.Grammar input offset rule) limit)
+refuses_by text (refusals.Grammar input offset rule) (by_fault fault is same) = (fault, first_fault text fault is, same)
+refuses_by text (refusals.Construct input offset name) (by_limit lines is limit) = passed_limit lines (refusals.Construct input offset name) limit
+refuses_by text (refusals.Construct input offset name) (by_fault fault is same) = absurd cc
+refuses_by text (refusals.Limit name reached limit) (by_limit lines is passed) =
+    let takes = text_takes text lines is in
+    let file = read_is_file lines takes.1 in
+    (file.0, record { lines = lines; spelled = takes.0; on_grammar = file.1 }, ap limit_passed (sym file.1.whole) ∙ passed)
+refuses_by text (refusals.Limit name reached limit) (by_fault fault is same) = absurd cc
+refuses_by text refusals.NoMemory h = tt
+
+pub refuses : (text : List ℕ) (r : Refusal) → IsAnswer (denied r) (answer_of text) → RefusesText text r
+refuses text refusals.NoMemory h = tt
+refuses text (refusals.Grammar input offset rule) h = refuses_by text (refusals.Grammar input offset rule) (reason text (refusals.Grammar input offset rule) (lines_of text) refl h)
+refuses text (refusals.Construct input offset name) h = refuses_by text (refusals.Construct input offset name) (reason text (refusals.Construct input offset name) (lines_of text) refl h)
+refuses text (refusals.Limit name reached limit) h = refuses_by text (refusals.Limit name reached limit) (reason text (refusals.Limit name reached limit) (lines_of text) refl h)

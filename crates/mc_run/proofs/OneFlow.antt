@@ -1,0 +1,66 @@
+-- Bytes are one flow file at most, and what is refused has a reason that no accepted file has.
+use Rattle.std.proofs.Common.{◌≡◌, ◌⊎◌, inl, inr, ℕ, List, None, Some, Result, Ok, Err, refl, sym, ◌∙◌, ap, subst}
+use Rattle.std.specs.Prelude.{IfErr, MatchResult}
+use Rattle.mc_base.specs.declared.refusal.Input.{Input}
+use Rattle.mc_base.specs.declared.refusal.Refusal.{Refusal}
+use Rattle.mc_base.specs.declared.refusal.Refusal.TheVariants.{Grammar, Construct, Limit, NoMemory}
+use Rattle.mc_base.specs.declared.refusal.Rule.{Rule}
+use Rattle.flow_text.specs.declared.fault.Fault.{Fault}
+use Rattle.flow_text.specs.declared.line.Line.{Line}
+use Rattle.flow_text.specs.Grammar.{FlowFile, IsFlowFile, file_lines}
+use Rattle.flow_text.specs.Text.{lines_of}
+use Rattle.flow_text.proofs.AnswerLaws.{passed_limit}
+use Rattle.flow_text.proofs.Complete.{file_is_read}
+use Rattle.flow_text.proofs.TextLaws.{text_again}
+use Rattle.flow_text.proofs.Unique.{one_file}
+use Rattle.flow_data.specs.declared.data.FlowsData.{FlowsData}
+use Rattle.flow_list.specs.FileFlows.{IsFile, RefusesText, flows_of, limit_of}
+use Rattle.mc_run.specs.Outcome.{FlowSays, IsNoFlowFile, RefusesBytes}
+
+abbrev read_as : List Line → Result (List Line) Fault
+read_as lines = Ok lines
+
+lines_same : (a b : List Line) → read_as a ≡ read_as b → a ≡ b
+lines_same a b e = cc
+
+pub file_same : (text : List ℕ) (f g : FlowFile) → IsFile text f → IsFile text g → f ≡ g
+file_same text f g a b =
+    let first : lines_of text ≡ read_as a.lines = text_again text a.lines a.spelled (file_is_read a.lines f a.on_grammar) in
+    let second : lines_of text ≡ read_as b.lines = text_again text b.lines b.spelled (file_is_read b.lines g b.on_grammar) in
+    let same : a.lines ≡ b.lines = lines_same a.lines b.lines (sym first ∙ second) in
+    one_file a.lines f g a.on_grammar (subst (λ lines. IsFlowFile lines g) (sym same) b.on_grammar)
+
+pub flow_same : (text : List ℕ) (d e : FlowsData) → FlowSays text d → FlowSays text e → d ≡ e
+flow_same text d e a b = a.3 ∙ ap flows_of (file_same text a.0 b.0 a.1 b.1) ∙ sym b.3
+
+-- a file that says flows passes no limit
+pub no_limit : (text : List ℕ) (d : FlowsData) (file : FlowFile) → FlowSays text d → IsFile text file → limit_of file ≡ None
+no_limit text d file says is = subst (λ f. limit_of f ≡ None) (file_same text says.0 file says.1 is) says.2
+
+-- no limit is a fault of grammar
+pub limit_apart : (file : FlowFile) (input : Input) (offset : ℕ) (rule : Rule) → limit_of file ≡ Some (Grammar input offset rule) → ⊥
+limit_apart file input offset rule e = passed_limit (file_lines file) (Grammar input offset rule) e
+
+-- ---- what is refused by the reader
+
+abbrev GivesFlows : List ℕ → Result FlowsData Refusal → Type 0
+GivesFlows text result = (file : FlowFile) → IsFile text file → MatchResult result (λ flows. (limit_of file ≡ None) × (flows ≡ flows_of file)) (λ refusal. (refusal ≡ NoMemory) ⊎ (limit_of file ≡ Some refusal))
+
+no_file : (text : List ℕ) (input : Input) (offset : ℕ) (rule : Rule) → GivesFlows text (Err (Grammar input offset rule)) → IsNoFlowFile text
+no_file text input offset rule only file is = go (only file is)
+  where
+    go : (Grammar input offset rule ≡ NoMemory) ⊎ (limit_of file ≡ Some (Grammar input offset rule)) → ⊥
+    go (inl e) = absurd cc
+    go (inr e) = limit_apart file input offset rule e
+
+pub reader_refuses : (text : List ℕ) (refusal : Refusal) → GivesFlows text (Err refusal) → RefusesText text refusal → (refusal ≡ NoMemory) ⊎ RefusesBytes text refusal
+reader_refuses text (Grammar input offset rule) only refused = inr (no_file text input offset rule only, refused)
+reader_refuses text (Construct input offset name) only refused = absurd refused
+reader_refuses text (Limit name reached limit) only refused = inr (inl refused)
+reader_refuses text NoMemory only refused = inl refl
+
+pub reader_result : (text : List ℕ) (result : Result FlowsData Refusal) (refusal : Refusal) → result ≡ Err refusal → GivesFlows text result → IfErr result (RefusesText text) → (refusal ≡ NoMemory) ⊎ RefusesBytes text refusal
+reader_result text (Ok flows) refusal is only refused = absurd cc
+reader_result text (Err e) refusal is only refused =
+    let same : e ≡ refusal = cc in
+    subst (λ r. (r ≡ NoMemory) ⊎ RefusesBytes text r) same (reader_refuses text e only refused)
