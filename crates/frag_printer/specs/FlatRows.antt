@@ -8,7 +8,7 @@ use Rattle.flow_data.specs.declared.data.Item.{Item}
 use Rattle.flow_data.specs.declared.data.Item.TheVariants.{Atom, Row}
 use Rattle.flow_list.specs.Atoms.{HoldsAtoms}
 use Rattle.flow_list.specs.Column.{Column}
-use Rattle.flow_data.specs.Flows.{flow_in, flow_of, no_seam, row_of, stack_of}
+use Rattle.flow_data.specs.Flows.{flow_in, flow_of, row_of, stack_of}
 use Rattle.flow_list.specs.Fragments.{row_fragments}
 use Rattle.flow_list.specs.Placing.{Placed, opens_at, closes_at, atom_at, row_at}
 use Rattle.flow_list.specs.RowHeights.{columns_of_row, row_columns, row_height}

@@ -1,8 +1,12 @@
-use Rattle.std.proofs.Common.{◌≡◌, ◌+◌, ◌<◌, ◌≤◌, ◌∙◌, ap, sym, subst, arith, length}
+use Rattle.flow_list.specs.Tokens.{row_start}
+use Rattle.flow_list.specs.Column.{start_strip}
+use Rattle.flow_list.specs.Rows.{all_rows}
+use Rattle.flow_list.specs.Fragments.{strip_after}
+use Rattle.std.proofs.Common.{◌≡◌, ◌+◌, ◌<◌, ◌≤◌, ◌∙◌, ap, sym, subst, arith, length, ◌-◌, [], ◌∷◌}
 use Rattle.flow_list.specs.ClonedEdges.{open_across, bottoms}
 use Rattle.flow_data.specs.Flows.{flow_of}
 use Rattle.flow_list.specs.Strip.{Strip}
-use Rattle.frag_printer.specs.Columns.{HasRoom}
+use Rattle.frag_printer.specs.Columns.{HasRoom, column_places}
 use Rattle.frag_printer.specs.Placing.{strip_of}
 use Rattle.frag_printer.proofs.ColumnSteps.{begin-known, bottoms-room, is_atom, column-begins, strip-begins, column-goes, strip-goes, column-ends, strip-ends, first-room, past-room, across-goes, extent-room, end-room}
 use Rattle.frag_printer.proofs.columns.lay_column.Goals as goal
@@ -32,8 +36,8 @@ loop-k-preserved c =
     let within = c.requires.end in
     let lt : k < length f.items = omega arith in
     record {
-      places = column-goes d f k c.args.end test c.loop-k.at c.lay_item.new.at e.leads (is_atom d c.args.flow sound c.requires.flow c.requires.atoms k lt) _ h.places;
-      strip = strip-goes d f k c.args.end test c.loop-k.at c.lay_item.new.at e.leads _ h.strip;
+      places = column-goes d f k c.args.end test c.loop-k.at c.lay_item.new.at e.leads (is_atom d c.args.flow sound c.requires.flow c.requires.atoms k lt) (column_places d f c.args.begin c.args.end) h.places;
+      strip = strip-goes d f k c.args.end test c.loop-k.at c.lay_item.new.at e.leads (strip_after (all_rows d) f (start_strip d f (c.args.begin ∷ [])) c.args.begin row_start (c.args.end - c.args.begin)) h.strip;
       margin = e.leads.margin;
       room = let P : Strip → Type 0 = HasRoom d f (k + 1) in subst P (sym e.leads.strip) (past-room d c.args.flow sound c.requires.flow c.requires.atoms k lt (strip_of c.loop-k.at) h.room);
       across = across-goes d c.args.flow sound c.requires.flow c.requires.atoms k lt _ _ h.across e.boxes;
