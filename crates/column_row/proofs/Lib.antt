@@ -2,3 +2,4 @@ pub mod ColumnLoops
 pub mod ColumnWalk
 pub mod Passages
 pub mod RowColumns
+pub mod Rejected

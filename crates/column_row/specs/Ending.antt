@@ -8,7 +8,7 @@ use Rattle.flow_list.specs.ClonedEdges.{open_across, tops, bottoms}
 use Rattle.flow_list.specs.Rows.{all_rows, amounts_in, heights_from, reach}
 use Rattle.flow_list.specs.Tokens.{item_number, row_start}
 use Rattle.std.specs.List.{list_any}
-use Rattle.flow_list.specs.RowHeights.{is_unforced}
+use Rattle.flow_list.specs.RowHeights.{height_fits, is_unforced}
 use Rattle.flow_list.specs.Column.{Column, Place, better_place, rank}
 use Rattle.column_row.specs.declared.cloned.Cloned.{Cloned}
 use Rattle.column_row.specs.declared.column.Ending.{Ending}
@@ -85,3 +85,7 @@ filled_to (Some available) extent unforced = cond (unforced || nat_lt available 
 abbrev pub is_all_of : Option ℕ → ℕ → Bool
 is_all_of None height = false
 is_all_of (Some available) height = height == available
+
+-- no height below this one fits a row
+abbrev pub NoneFitsBelow : FlowsData → ℕ → ℕ → Type 0
+NoneFitsBelow d r h = (k : ℕ) → k < h → height_fits d r k ≡ false

@@ -1,9 +1,10 @@
 //! Columns of a row one after another, and the height of a row.
 //!
-//! It stands on flow_list, flow_data and mc_base. It promises the columns, the heights that fit and the row heights that the
-//! definitions of flow_list give, for rows whose flow holds atoms alone.
+//! It stands on flow_laws, flow_list, flow_data and mc_base. It promises the columns, the heights that fit and the row
+//! heights that the definitions of flow_list give, for rows whose flow holds atoms alone.
 #![tactic(auto)]
 
+mod bounds;
 mod cloned;
 mod column;
 mod columns;

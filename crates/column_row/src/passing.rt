@@ -40,7 +40,7 @@ pub struct Behind {
     pub level: Level,
 }
 
-fn height_of_atom(item: Item) -> Units
+pub fn height_of_atom(item: Item) -> Units
     ensures { result ≡ atom_height item }
 {
     match item {

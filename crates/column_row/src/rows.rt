@@ -7,6 +7,7 @@ ghost use Rattle.flow_list.specs.RowHeights.{balanced_height, before_items, colu
 ghost use Rattle.flow_list.specs.Tokens.{row_start};
 ghost use Rattle.column_row.specs.Ending.{any_unforced, filled_to, is_all_of, items_of, limit};
 
+use crate::bounds::first_height;
 use crate::columns::{Made, columns_at, flow_fits, most_columns};
 use flow_list::{FlatRow, Flows, flow_counts, row_at};
 use mc_base::{List, NoMemory, Units};
@@ -73,9 +74,20 @@ fn is_all(available: Option<Units>, height: Units) -> bool
     }
 }
 
+/// This height, or what is available where that is less.
+fn at_most(available: Option<Units>, height: Units) -> Units
+    ensures { result ≡ balanced_height available height }
+{
+    match available {
+        None => height,
+        Some(most) => height.min(most),
+    }
+}
+
 /// The height of a balanced row: the least that fits, or what is available where that is less.
 ///
-/// The heights are tried one after another, since above one that fits there may be others that don't.
+/// The heights are tried one after another, since above one that fits there may be others that don't. The first is the
+/// least at which there is room for the tallest atom, and in all columns for the atoms together.
 fn least_height(flows: &Flows, row: u32, available: Option<Units>) -> Units
     requires row { row < length flows.now.rows }
     requires atoms { HoldsAtoms (flow_in flows.now row) }
@@ -85,7 +97,7 @@ fn least_height(flows: &Flows, row: u32, available: Option<Units>) -> Units
     let _counts = flow_counts(flows);
     let most = most_columns(flows, row);
     let flow = row_at(flows, row).flow;
-    let mut height: Units = 0;
+    let mut height = at_most(available, first_height(flows, row));
     'heights: while !is_all(available, height) && !flow_fits(flows, flow, most, height) {
         height += 1;
     }

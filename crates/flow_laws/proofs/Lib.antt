@@ -7,7 +7,7 @@ mod Held
 pub mod HeldSums
 pub mod LaidSums
 mod Laying
-mod Needs
+pub mod Needs
 pub mod PlacedSums
 mod Rejects
 pub mod RowHeightBounds

@@ -71,6 +71,10 @@ module _ (inner : Inner) (d : FlowsData) (f : Flow) (sound : IsSoundFlow d f) wh
   behind-rises : (s : Strip) (k : ℕ) (q : Token) → s.y + height_of inner (item_of f k) q ≤ (strip_behind inner f s k q).y
   behind-rises s k q = let a = put-rises s (height_of inner (item_of f k) q) in let b = lay_all-rises (put s (height_of inner (item_of f k) q)) (seam_of f (k + 1)).tail in omega arith
 
+  -- an atom needs no less than its own height
+  pub atom-loose : (k : ℕ) → atom_height (item_of f k) ≤ loose_need inner d f k
+  atom-loose k = let a = behind-rises (unforced_start d f k) k row_start in let b = atom-height-le inner (item_of f k) row_start in omega arith
+
   behind-tops : (s : Strip) (k : ℕ) (q : Token) → k + 1 < length f.seams → HasTops k s → tops d (open_across f (k + 1)) ≤ (strip_behind inner f s k q).y
   behind-tops s k q lt has =
       let a = behind-rises s k q in
