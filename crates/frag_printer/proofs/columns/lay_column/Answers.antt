@@ -60,14 +60,14 @@ overflow_add-extent c =
 pub returns-clause-placed : goal.returns-clause-placed
 returns-clause-placed c =
     let d = c.args.flows.now in
-    c.in_ok-finish.ensures.placed ∙ column-ends d (flow_of d c.args.flow) c.loop-k.k c.args.end c.loop-k-test.false c.loop-k.at _ c.loop-k.invariant.places
+    c.in_ok-finish.ensures.placed ∙ column-ends d (flow_of d c.args.flow) c.loop-k.k c.args.end c.loop-k-test.false c.loop-k.at (column_places d (flow_of d c.args.flow) c.args.begin c.args.end) c.loop-k.invariant.places
 
 pub returns-clause-extent : goal.returns-clause-extent
 returns-clause-extent c =
     let d = c.args.flows.now in
     let f = flow_of d c.args.flow in
     let y : c.finish.new.self.y ≡ c.loop-k.at.y = c.in_ok-finish.ensures.y in
-    let s = strip-ends d f c.loop-k.k c.args.end c.loop-k-test.false c.loop-k.at _ c.loop-k.invariant.strip in
+    let s = strip-ends d f c.loop-k.k c.args.end c.loop-k-test.false c.loop-k.at (strip_after (all_rows d) f (start_strip d f (c.args.begin ∷ [])) c.args.begin row_start (c.args.end - c.args.begin)) c.loop-k.invariant.strip in
     let t = c.loop-k-test.false in
     let r = c.requires.begin in
     let a : c.loop-k.k ≤ c.args.end = c.loop-k.auto.k-end (omega arith) in
