@@ -1,3 +1,5 @@
+//! The lines of a tree, and those of a row with boxes.
+
 ghost use Rattle.std.specs.Prelude.{◌≡◌, ◌<◌, length, true};
 ghost use Rattle.flow_list.specs.Atoms.{HoldsAtoms};
 ghost use Rattle.flow_data.specs.Flows.{flow_in};
