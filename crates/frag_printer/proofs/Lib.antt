@@ -6,6 +6,7 @@ pub mod Edges
 pub mod FlatFragments
 pub mod Flattened
 pub mod Gaps
+pub mod Limits
 pub mod NestedAcross
 pub mod NestedLaid
 pub mod NestedPlaces

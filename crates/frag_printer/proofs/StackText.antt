@@ -104,14 +104,14 @@ module _ (d : FlowsData) (sound : IsSound d) (ps : List Placed) (placed : map pl
     abbrev line : (w h : ℕ) → TreeLine
     line w h = record { depth = 0; kind = stack 0; x = 0; y = 0; w = w; h = h }
 
-    pub stack-text : length d.stacks ≡ 1 → s ≡ stack_of d 0 → (h : ℕ) → h ≡ stack_extent d (stack_of d 0).bound (flow_of d (stack_of d 0).flow) → (none one two : List ℕ) → none ≡ [] → one ≡ none ++ tree_line_text (line s.w h) →
-        two ≡ one ++ tree_text (part_lines d no_stacks (flow_of d s.flow) 1 (frame s.w h) parts) → two ≡ tree_text (tree_of d)
-    stack-text one_stack is h high none one two z a b =
+    pub stack-text : length d.stacks ≡ 1 → s ≡ stack_of d 0 → (h : ℕ) → h ≡ stack_extent d (stack_of d 0).bound (flow_of d (stack_of d 0).flow) → (out one two : List ℕ) → one ≡ out ++ tree_line_text (line s.w h) →
+        two ≡ one ++ tree_text (part_lines d no_stacks (flow_of d s.flow) 1 (frame s.w h) parts) → two ≡ out ++ tree_text (tree_of d)
+    stack-text one_stack is h high out one two a b =
         let lines : Stack → ℕ → List TreeLine = λ t k. line t.w k ∷ flat_lines (row_fragments d (suc (length d.rows))) d no_stacks (flow_of d t.flow) 1 (frame t.w k) (stack_places d 0) in
-        column-text [] one two (line s.w h) (flat_lines (row_fragments d (suc (length d.rows))) d no_stacks (flow_of d s.flow) 1 (frame s.w h) (stack_places d 0)) (part_lines d no_stacks (flow_of d s.flow) 1 (frame s.w h) parts)
-        (a ∙ ap (λ o. o ++ tree_line_text (line s.w h)) z) b
+        column-text out one two (line s.w h) (flat_lines (row_fragments d (suc (length d.rows))) d no_stacks (flow_of d s.flow) 1 (frame s.w h) (stack_places d 0)) (part_lines d no_stacks (flow_of d s.flow) 1 (frame s.w h) parts)
+        a b
         (sym (ap (flat_lines (row_fragments d (suc (length d.rows))) d no_stacks (flow_of d s.flow) 1 (frame s.w h)) placed) ∙ parts-stack d sound (flow_of d s.flow) 1 (frame s.w h) ps in_stack ∙ ap (part_lines d no_stacks (flow_of d s.flow) 1 (frame s.w h)) (sym are))
-        ∙ ap tree_text (ap (λ t. lines t h) is ∙ ap (lines (stack_of d 0)) high ∙ sym (stack-flat d sound one_stack))
+        ∙ ap (λ ls. out ++ tree_text ls) (ap (λ t. lines t h) is ∙ ap (lines (stack_of d 0)) high ∙ sym (stack-flat d sound one_stack))
 
   pub parts-rows : (rows : List FlatRow) → rows ≡ flat_rows d → row_parts d parts ≡ rows
   parts-rows rows is = ap (row_parts d) are ∙ rows-are d ps ∙ ap (rows_placed d) placed ∙ stack-rows d ∙ sym is

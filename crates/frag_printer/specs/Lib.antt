@@ -1,6 +1,7 @@
 pub mod Columns
 pub mod FlatLines
 pub mod FlatRows
+pub mod Limits
 pub mod Lines
 pub mod PartLines
 pub mod Parts

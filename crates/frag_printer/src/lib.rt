@@ -6,13 +6,14 @@
 
 mod columns;
 mod lines;
+mod output;
 mod parts;
 mod placing;
 mod rows;
 mod stack;
 mod tree;
 
-pub use tree::write_flat;
+pub use tree::{write_flat, write_flat_within};
 
 #[cfg(test)]
 mod tests;

@@ -1,10 +1,12 @@
 //! The lines of a tree.
 
-ghost use Rattle.std.specs.Prelude.{◌≡◌, ◌∷◌, ◌++◌, OnOk};
+ghost use Rattle.std.specs.Prelude.{◌≡◌, ◌∷◌, ◌++◌, IsErrOf, OnOk};
 ghost use Rattle.std.specs.Fmt.{decimal};
 ghost use Rattle.flow_list.specs.TreeText.{ends_text, kind_words, spaced, tree_line_text};
+ghost use Rattle.frag_printer.specs.Limits.{KeepsLimit, PassesLimit};
 ghost use Rattle.frag_printer.specs.Lines.{kind_of, line_of, spaced_numbers};
 
+use crate::output::{Output, PutError};
 use itoa::Buffer;
 use mc_base::{NoMemory, Text, Units};
 
@@ -101,8 +103,7 @@ fn put_kind(out: &mut Text, kind: Kind) -> Result<(), NoMemory>
     }
 }
 
-/// Adds a line.
-pub fn put_line(out: &mut Text, line: Line) -> Result<(), NoMemory>
+fn put_text(out: &mut Text, line: Line) -> Result<(), NoMemory>
     ensures { OnOk result (out.new ≡ out.old ++ tree_line_text (line_of line)) }
 {
     let mut buffer = Buffer::new();
@@ -110,5 +111,18 @@ pub fn put_line(out: &mut Text, line: Line) -> Result<(), NoMemory>
     put_kind(out, line.kind)?;
     put_numbers(out, &[line.x, line.y, line.w, line.h])?;
     out.push(b'\n')?;
+    Ok(())
+}
+
+/// Adds a line. The error is `Long` where the text has more bytes with it than it may have.
+pub fn put_line(out: &mut Output, line: Line) -> Result<(), PutError>
+    ensures text { OnOk result (out.new.text ≡ out.old.text ++ tree_line_text (line_of line)) }
+    ensures within { OnOk result (KeepsLimit out.old out.new) }
+    ensures long { IsErrOf result PutError.Long → PassesLimit out.old (tree_line_text (line_of line)) }
+{
+    put_text(&mut out.text, line)?;
+    if out.text.len() as u64 > out.most {
+        return Err(PutError::Long);
+    }
     Ok(())
 }

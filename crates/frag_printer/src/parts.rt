@@ -1,6 +1,6 @@
 //! The lines of what stands in a column.
 
-ghost use Rattle.std.specs.Prelude.{◌≡◌, ℕ, ◌+◌, ◌-◌, ◌<◌, ◌≤◌, ◌^◌, All, List, [], ◌∷◌, ◌++◌, length, map, nat_eq, option_to_list, sum_by, IfOk, OnOk};
+ghost use Rattle.std.specs.Prelude.{◌≡◌, ℕ, ◌+◌, ◌-◌, ◌<◌, ◌≤◌, ◌^◌, All, List, [], ◌∷◌, ◌++◌, length, map, nat_eq, option_to_list, sum_by, IfOk, IsErrOf, OnOk};
 ghost use Rattle.std.specs.HashMap.{get};
 ghost use Rattle.flow_data.specs.Flows.{flow_of, item_of};
 ghost use Rattle.flow_list.specs.Fragments.{bottom_of};
@@ -8,15 +8,17 @@ ghost use Rattle.flow_list.specs.Placing.{Placed as AnyPlaced};
 ghost use Rattle.flow_data.specs.Soundness.{kind_x};
 ghost use Rattle.flow_list.specs.Tree.{atom_lines, item_lines, piece_bottom};
 ghost use Rattle.flow_list.specs.TreeText.{tree_text};
+ghost use Rattle.frag_printer.specs.Limits.{KeepsLimit, PassesLimit};
 ghost use Rattle.frag_printer.specs.Lines.{line_of};
 ghost use Rattle.frag_printer.specs.PartLines.{part_lines};
 ghost use Rattle.frag_printer.specs.Parts.{IsPartIn, feet_of, frame_of, no_stacks, opens_of, part_of, parts_of};
 ghost use Rattle.frag_printer.specs.Placing.{placed_as};
 
 use crate::lines::{Kind, Line, put_line};
+use crate::output::{Output, PutError};
 use crate::placing::Placed;
 use flow_list::{AtomKind, Counts, Flows, Item, box_at, flow_counts, item_at};
-use mc_base::{NoMemory, Text, Units};
+use mc_base::{NoMemory, Units};
 use std::alloc::Global;
 use std::collections::HashMap;
 
@@ -153,18 +155,21 @@ fn line_of_atom(at: Inside, item: u32, y: Units, height: Units, kind: AtomKind) 
 
 /// Adds the line of item `item`, which stands at `y`.
 fn put_item(
-    out: &mut Text,
+    out: &mut Output,
     flows: &Flows,
     flow: u32,
     at: Inside,
     item: u32,
     y: Units,
-) -> Result<(), NoMemory>
+) -> Result<(), PutError>
     requires flow { flow < length flows.now.flows }
     requires item { item < length (flow_of flows.now flow).items }
     requires x { at.x < 2 ^ 62 }
     requires y { at.y + y < 2 ^ 63 }
-    ensures { OnOk result (out.new ≡ out.old ++ tree_text (item_lines no_stacks at.depth (frame_of at) item y (item_of (flow_of flows.now flow) item))) }
+    ensures text { OnOk result (out.new.text ≡ out.old.text ++ tree_text (item_lines no_stacks at.depth (frame_of at) item y (item_of (flow_of flows.now flow) item))) }
+    ensures within { OnOk result (KeepsLimit out.old out.new) }
+    ensures long { IsErrOf result PutError.Long →
+        PassesLimit out.old (tree_text (item_lines no_stacks at.depth (frame_of at) item y (item_of (flow_of flows.now flow) item))) }
 {
     // Sealed flows are sound.
     let _counts = flow_counts(flows);
@@ -184,24 +189,27 @@ fn put_item(
 
 /// Adds the line of something that isn't a row, and tells where the next one stands.
 pub fn put_part(
-    out: &mut Text,
+    out: &mut Output,
     flows: &Flows,
     flow: u32,
     at: Inside,
     part: Part,
-) -> Result<Inside, NoMemory>
+) -> Result<Inside, PutError>
     requires flow { flow < length flows.now.flows }
     requires known { IsPartIn flows.now (flow_of flows.now flow) (2 ^ 63 - at.y) part }
     requires x { at.x < 2 ^ 62 }
     requires depth { at.depth + 1 < 2 ^ 64 }
     requires feet { at.feet + feet_of flows.now part < 2 ^ 63 }
     ensures text { IfOk result (λ next. (more : List Part) →
-        out.new ++ tree_text (part_lines flows.now no_stacks (flow_of flows.now flow) next.depth (frame_of next) more)
-        ≡ out.old ++ tree_text (part_lines flows.now no_stacks (flow_of flows.now flow) at.depth (frame_of at) (part ∷ more))) }
+        out.new.text ++ tree_text (part_lines flows.now no_stacks (flow_of flows.now flow) next.depth (frame_of next) more)
+        ≡ out.old.text ++ tree_text (part_lines flows.now no_stacks (flow_of flows.now flow) at.depth (frame_of at) (part ∷ more))) }
     ensures x { IfOk result (λ next. next.x ≡ at.x) }
     ensures y { IfOk result (λ next. next.y ≡ at.y) }
     ensures depth { IfOk result (λ next. next.depth ≤ at.depth + opens_of part) }
     ensures feet { IfOk result (λ next. next.feet ≤ at.feet + feet_of flows.now part) }
+    ensures within { OnOk result (KeepsLimit out.old out.new) }
+    ensures long { (more : List Part) → IsErrOf result PutError.Long →
+        PassesLimit out.old (tree_text (part_lines flows.now no_stacks (flow_of flows.now flow) at.depth (frame_of at) (part ∷ more))) }
 {
     // Sealed flows are sound.
     let _counts = flow_counts(flows);
@@ -249,18 +257,21 @@ pub fn put_part(
 
 /// Adds the lines of what stands in a column, in order: what stands in a box follows its line, one deeper.
 pub fn put_parts(
-    out: &mut Text,
+    out: &mut Output,
     flows: &Flows,
     flow: u32,
     inside: Inside,
     parts: &[Part],
-) -> Result<(), NoMemory>
+) -> Result<(), PutError>
     requires flow { flow < length flows.now.flows }
     requires known { All (IsPartIn flows.now (flow_of flows.now flow) (2 ^ 63 - inside.y)) parts.now }
     requires x { inside.x < 2 ^ 62 }
     requires depth { inside.depth + length parts.now < 2 ^ 64 }
     requires feet { inside.feet + sum_by (feet_of flows.now) parts.now < 2 ^ 63 }
-    ensures { OnOk result (out.new ≡ out.old ++ tree_text (part_lines flows.now no_stacks (flow_of flows.now flow) inside.depth (frame_of inside) parts.now)) }
+    ensures text { OnOk result (out.new.text ≡ out.old.text ++ tree_text (part_lines flows.now no_stacks (flow_of flows.now flow) inside.depth (frame_of inside) parts.now)) }
+    ensures within { OnOk result (KeepsLimit out.old out.new) }
+    ensures long { IsErrOf result PutError.Long →
+        PassesLimit out.old (tree_text (part_lines flows.now no_stacks (flow_of flows.now flow) inside.depth (frame_of inside) parts.now)) }
 {
     let mut at = inside;
     for part in parts {

@@ -1,6 +1,6 @@
 //! The lines of a row that was laid out.
 
-ghost use Rattle.std.specs.Prelude.{◌≡◌, ◌+◌, ◌*◌, ◌<◌, ◌≤◌, ◌^◌, ◌∷◌, ◌++◌, length, OnOk};
+ghost use Rattle.std.specs.Prelude.{◌≡◌, ◌+◌, ◌*◌, ◌<◌, ◌≤◌, ◌^◌, ◌∷◌, ◌++◌, length, IsErrOf, OnOk};
 ghost use Rattle.flow_list.specs.Atoms.{HoldsAtoms};
 ghost use Rattle.flow_list.specs.ClonedEdges.{open_across};
 ghost use Rattle.flow_data.specs.Flows.{flow_in, flow_of};
@@ -10,20 +10,22 @@ ghost use Rattle.flow_list.specs.TreeText.{tree_text};
 ghost use Rattle.frag_printer.specs.Columns.{column_extent, column_places};
 ghost use Rattle.frag_printer.specs.FlatLines.{ArePlaces, column_line, columns_lines, flat_lines};
 ghost use Rattle.frag_printer.specs.FlatRows.{flat_row_lines};
+ghost use Rattle.frag_printer.specs.Limits.{KeepsLimit, PassesLimit};
 ghost use Rattle.frag_printer.specs.Parts.{frame_of, no_stacks};
 
 use crate::columns::lay_column;
 use crate::lines::{Kind, Line, put_line};
+use crate::output::{Output, PutError};
 use crate::parts::{Inside, put_parts, with_bottoms};
 use flow_list::{FlatRow, Flows, RowInfo, flow_counts, opened_in, row_at};
-use mc_base::{NoMemory, Text, Units};
+use mc_base::Units;
 use std::alloc::Global;
 
 /// Adds the lines of column `i` of a row of this height, from item `begin` on and before item `end`; `at` is where it
 /// stands. `boxes` are those that are open where it begins, and then where it ends.
 fn put_column(
     alloc: Global,
-    out: &mut Text,
+    out: &mut Output,
     flows: &Flows,
     flow: u32,
     i: u64,
@@ -31,7 +33,7 @@ fn put_column(
     boxes: &mut Vec<u32>,
     begin: u32,
     end: u32,
-) -> Result<(), NoMemory>
+) -> Result<(), PutError>
     requires flow { flow < length flows.now.flows }
     requires atoms { HoldsAtoms (flow_of flows.now flow) }
     requires begin { begin < end }
@@ -42,7 +44,12 @@ fn put_column(
     requires y { at.y < 2 ^ 62 }
     requires feet { at.feet ≡ 0 }
     ensures across { OnOk result (boxes.new.items ≡ open_across (flow_of flows.now flow) end) }
-    ensures text { OnOk result (out.new ≡ out.old ++ tree_text (
+    ensures text { OnOk result (out.new.text ≡ out.old.text ++ tree_text (
+        record { depth = at.depth + 1; kind = col i; x = at.x; y = at.y; w = at.w; h = at.h }
+        ∷ flat_lines (row_fragments flows.now (length flows.now.rows)) flows.now no_stacks (flow_of flows.now flow) (at.depth + 2)
+        (record (frame_of at) { extent = column_extent flows.now (flow_of flows.now flow) begin end }) (column_places flows.now (flow_of flows.now flow) begin end))) }
+    ensures within { OnOk result (KeepsLimit out.old out.new) }
+    ensures long { IsErrOf result PutError.Long → PassesLimit out.old (tree_text (
         record { depth = at.depth + 1; kind = col i; x = at.x; y = at.y; w = at.w; h = at.h }
         ∷ flat_lines (row_fragments flows.now (length flows.now.rows)) flows.now no_stacks (flow_of flows.now flow) (at.depth + 2)
         (record (frame_of at) { extent = column_extent flows.now (flow_of flows.now flow) begin end }) (column_places flows.now (flow_of flows.now flow) begin end))) }
@@ -74,14 +81,14 @@ fn put_column(
 /// Adds the lines of the columns of a row that stands at `y`, and ends its columns before the items `ends`.
 fn put_columns(
     alloc: Global,
-    out: &mut Text,
+    out: &mut Output,
     flows: &Flows,
     row: RowInfo,
     at: Inside,
     y: Units,
     height: Units,
     ends: &[u32],
-) -> Result<(), NoMemory>
+) -> Result<(), PutError>
     requires flow { row.flow < length flows.now.flows }
     requires atoms { HoldsAtoms (flow_of flows.now row.flow) }
     requires step { row.step ≤ 2 ^ 25 }
@@ -91,7 +98,10 @@ fn put_columns(
     requires depth { at.depth < 2 ^ 62 }
     requires x { at.x < 2 ^ 60 }
     requires y { at.y + y < 2 ^ 62 }
-    ensures { OnOk result (out.new ≡ out.old ++ tree_text (
+    ensures text { OnOk result (out.new.text ≡ out.old.text ++ tree_text (
+        columns_lines (row_fragments flows.now (length flows.now.rows)) flows.now no_stacks row at.depth (frame_of at) y height 0 0 ends.now)) }
+    ensures within { OnOk result (KeepsLimit out.old out.new) }
+    ensures long { IsErrOf result PutError.Long → PassesLimit out.old (tree_text (
         columns_lines (row_fragments flows.now (length flows.now.rows)) flows.now no_stacks row at.depth (frame_of at) y height 0 0 ends.now)) }
 {
     // Sealed flows are sound.
@@ -120,19 +130,21 @@ fn put_columns(
 /// Adds the lines of a row that stands at `y`: its own, and those of its columns.
 pub fn put_row(
     alloc: Global,
-    out: &mut Text,
+    out: &mut Output,
     flows: &Flows,
     at: Inside,
     y: Units,
     flat: &FlatRow,
-) -> Result<(), NoMemory>
+) -> Result<(), PutError>
     requires row { flat.now.row < length flows.now.rows }
     requires atoms { HoldsAtoms (flow_in flows.now flat.now.row) }
     requires places { ArePlaces (flow_in flows.now flat.now.row) 0 flat.now.ends }
     requires depth { at.depth < 2 ^ 62 }
     requires x { at.x < 2 ^ 60 }
     requires y { at.y + y < 2 ^ 62 }
-    ensures { OnOk result (out.new ≡ out.old ++ tree_text (flat_row_lines flows.now at.depth (frame_of at) y flat.now)) }
+    ensures text { OnOk result (out.new.text ≡ out.old.text ++ tree_text (flat_row_lines flows.now at.depth (frame_of at) y flat.now)) }
+    ensures within { OnOk result (KeepsLimit out.old out.new) }
+    ensures long { IsErrOf result PutError.Long → PassesLimit out.old (tree_text (flat_row_lines flows.now at.depth (frame_of at) y flat.now)) }
 {
     // Sealed flows are sound.
     let _counts = flow_counts(flows);

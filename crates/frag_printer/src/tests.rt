@@ -5,12 +5,14 @@ ghost use Rattle.flow_list.specs.Atoms.{HoldsAtoms};
 ghost use Rattle.flow_data.specs.Flows.{flow_in};
 
 use crate::lines::{Kind, Line, put_line};
+use crate::output::Output;
 use crate::parts::Inside;
 use crate::rows::put_row;
 use flow_list::{
     Counts, FlatRow, Flows, Item, flow_counts, item_at, item_count, read_flow, row_at,
 };
 use mc_base::{List, Text};
+use std::alloc::Global;
 use std::test::*;
 
 /// Whether the flow of a row holds atoms alone.
@@ -34,6 +36,13 @@ fn holds_atoms(flows: &Flows, row: u32) -> bool
         }
     }
     true
+}
+
+fn empty(alloc: Global) -> Output {
+    Output {
+        text: Text::new(alloc),
+        most: u64::MAX,
+    }
 }
 
 /// Each kind of line with its text.
@@ -67,9 +76,9 @@ fn lines_are_written(rt: HostRuntime) -> Result<(), Fail> {
             w: 4,
             h: 5,
         };
-        let mut out = Text::new(rt.alloc());
+        let mut out = empty(rt.alloc());
         put_line(&mut out, line).ok().ok_or("there is memory")?;
-        assert_eq!(rt; out.as_slice(), text);
+        assert_eq!(rt; out.text.as_slice(), text);
     }
     Ok(())
 }
@@ -107,10 +116,10 @@ fn a_row_has_its_lines(rt: HostRuntime) -> Result<(), Fail> {
         extent: 40,
         feet: 0,
     };
-    let mut out = Text::new(rt.alloc());
+    let mut out = empty(rt.alloc());
     put_row(rt.alloc(), &mut out, &flows, at, 0, &row)
         .ok()
         .ok_or("there is memory")?;
-    assert_eq!(rt; out.as_slice(), CLONED_LINES);
+    assert_eq!(rt; out.text.as_slice(), CLONED_LINES);
     Ok(())
 }

@@ -1,6 +1,6 @@
 //! The result of a flow file.
 
-ghost use Rattle.std.specs.Prelude.{◌≡◌, ◌+◌, ◌^◌, ◌<◌, ◌≤◌, ◌⊎◌, length, true, false, EachIndex, IfOk, IfErr};
+ghost use Rattle.std.specs.Prelude.{◌≡◌, ◌+◌, ◌^◌, ◌<◌, ◌≤◌, ◌⊎◌, length, true, false, None, EachIndex, IfOk, IfErr, IfSome};
 ghost use Rattle.flow_text.specs.Grammar.{FlowFile};
 ghost use Rattle.flow_list.specs.Atoms.{HoldsAtoms};
 ghost use Rattle.flow_list.specs.FileFlows.{flows_of};
@@ -12,12 +12,16 @@ ghost use Rattle.mc_run.specs.Outcome.{IsFlat, IsFlowResult, RefusesBytes};
 
 use column_row::flat_row;
 use flow_list::{Bound, FlatRow, Flows, flow_counts, read_flow, stack_at};
-use frag_printer::write_flat;
+use frag_printer::write_flat_within;
 use mc_base::{ConstructName, Input, LimitName, List, NoMemory, Refusal, Text, Units};
 use std::alloc::Global;
 
 /// How many bytes a result may have.
 const RESULT_LIMIT: u64 = 268_435_456;
+
+const FIRST_LINE: &[u8] = b"mcol 1\n";
+
+const LAST_LINE: &[u8] = b"end\n";
 
 /// Whether no row of a flow file's flows holds another one. Each row but the first stands in another one.
 fn is_flat(flows: &Flows) -> bool
@@ -51,35 +55,25 @@ fn laid_rows(alloc: Global, flows: &Flows) -> Result<List<FlatRow>, NoMemory>
     Ok(rows)
 }
 
-/// The result of the flows of a flow file.
+/// The result of the flows of a flow file, or None where it is too long: then no line is put behind the first that doesn't
+/// fit.
 #[tactic(auto, unfolding(crate::specs::Printed::result_text))]
-fn write_result(alloc: Global, flows: &Flows) -> Result<Text, NoMemory>
+fn write_result(alloc: Global, flows: &Flows) -> Result<Option<Text>, NoMemory>
     requires file { (file : FlowFile) × (flows.now ≡ flows_of file) }
     requires flat { IsFlat flows.now }
-    ensures { IfOk result (λ text. text ≡ result_text flows.now) }
+    ensures text { IfOk result (λ found. IfSome found (λ text. text ≡ result_text flows.now)) }
+    ensures short { IfOk result (λ found. IfSome found (λ text. length text ≤ RESULT_LIMIT)) }
+    ensures long { IfOk result (λ found. found ≡ None → RESULT_LIMIT < length (result_text flows.now)) }
 {
     let rows = laid_rows(alloc, flows)?;
-    let tree = write_flat(alloc, flows, &rows)?;
-    let mut out = Text::new(alloc);
-    out.extend(b"mcol 1\n")?;
-    out.extend(tree.as_slice())?;
-    out.extend(b"end\n")?;
-    Ok(out)
-}
-
-/// A result, unless it is too long.
-fn within_limit(text: Text) -> Result<Text, Refusal>
-    ensures ok { IfOk result (λ whole. (whole ≡ text) × (length text ≤ 268435456)) }
-    ensures err { IfErr result (λ refusal. (268435456 < length text) × (refusal ≡ Refusal.Limit LimitName.Result 268435457 268435456)) }
-{
-    if text.len() as u64 > RESULT_LIMIT {
-        return Err(Refusal::Limit {
-            name: LimitName::Result,
-            reached: RESULT_LIMIT + 1,
-            limit: RESULT_LIMIT,
-        });
-    }
-    Ok(text)
+    let mut first = Text::new(alloc);
+    first.extend(FIRST_LINE)?;
+    let most = RESULT_LIMIT - LAST_LINE.len() as u64;
+    let Some(mut text) = write_flat_within(alloc, flows, &rows, first, most)? else {
+        return Ok(None);
+    };
+    text.extend(LAST_LINE)?;
+    Ok(Some(text))
 }
 
 /// The result of a flow file.
@@ -96,5 +90,12 @@ pub fn rows_result(alloc: Global, bytes: &[u8]) -> Result<Text, Refusal>
             name: ConstructName::Unbuilt,
         });
     }
-    within_limit(write_result(alloc, &flows)?)
+    match write_result(alloc, &flows)? {
+        Some(text) => Ok(text),
+        None => Err(Refusal::Limit {
+            name: LimitName::Result,
+            reached: RESULT_LIMIT + 1,
+            limit: RESULT_LIMIT,
+        }),
+    }
 }

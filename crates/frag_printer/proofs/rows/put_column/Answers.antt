@@ -1,8 +1,15 @@
-use Rattle.std.proofs.Common.{◌≡◌, ℕ, ◌+◌, ◌-◌, ◌<◌, ◌≤◌, ◌^◌, ◌∙◌, ap, sym, subst, arith, All, List, length, sum_by}
+use Rattle.std.proofs.Common.{◌≡◌, ℕ, ◌+◌, ◌-◌, ◌<◌, ◌≤◌, ◌^◌, ◌∷◌, ◌++◌, ◌∙◌, refl, ap, sym, subst, arith, All, List, length, map, sum_by}
+use Rattle.std.proofs.lemmas.Result.{err_from_is_err_and}
 use Rattle.std.specs.List.{AllByRecursion as Each}
 use Rattle.flow_data.specs.Flows.{flow_of}
 use Rattle.flow_list.specs.Fragments.{place_of, row_fragments}
-use Rattle.flow_list.specs.Tree.{Frame, col}
+use Rattle.flow_data.specs.declared.data.Flow.{Flow}
+use Rattle.flow_data.specs.declared.data.FlowsData.{FlowsData}
+use Rattle.flow_list.specs.Tree.{Frame, TreeLine, col}
+use Rattle.flow_list.specs.TreeText.{tree_text}
+use Rattle.frag_printer.specs.declared.placing.Placed.{Placed as RustPlaced}
+use Rattle.frag_printer.specs.Placing.{placed_as}
+use Rattle.frag_printer.proofs.Limits.{passes-on}
 use Rattle.flow_list.specs.Placing.{Placed}
 use Rattle.frag_printer.specs.declared.parts.Part.{Part}
 use Rattle.frag_printer.specs.Columns.{column_extent, column_places}
@@ -39,18 +46,45 @@ put_parts-requires-clause-feet c =
     ap (sum_by (feet_of d)) (c.as_slice-2.ensures.value ∙ c.in_ok-parts.ensures ∙ ap parts_of c.as_slice.ensures.value) ∙ feet-are d f c.in_ok-column.column.placed.items ∙ ap (sum_by (feet_in d)) c.in_ok-column.ensures.placed in
     omega arith
 
+-- the lines of a column's parts are those of what is placed there
+lines-are : (d : FlowsData) (f : Flow) (depth : ℕ) (frame : Frame) (begin end extent : ℕ) (ps : List RustPlaced) (parts : List Part) → Each IsNoRow (column_places d f begin end) → map placed_as ps ≡ column_places d f begin end →
+    extent ≡ column_extent d f begin end → parts ≡ parts_of ps →
+    flat_lines (row_fragments d (length d.rows)) d no_stacks f depth (record frame { extent = column_extent d f begin end }) (column_places d f begin end) ≡ part_lines d no_stacks f depth (record frame { extent = extent }) parts
+lines-are d f depth frame begin end extent ps parts none placed reaches are =
+    let N : List Placed → Type 0 = Each IsNoRow in
+    let columns = row_fragments d (length d.rows) in
+    sym (ap (λ x. flat_lines columns d no_stacks f depth (record frame { extent = x }) (column_places d f begin end)) reaches)
+    ∙ sym (ap (flat_lines columns d no_stacks f depth (record frame { extent = extent })) placed)
+    ∙ parts-flat columns d no_stacks f depth (record frame { extent = extent }) ps (subst N (sym placed) none)
+    ∙ ap (part_lines d no_stacks f depth (record frame { extent = extent })) (sym are)
+
 pub returns-clause-text : goal.returns-clause-text
 returns-clause-text c =
     let d = c.args.flows.now in
     let f = flow_of d c.args.flow in
     let k = column-known d c.args.flow c.flow_counts-counts.ensures.sound c.requires.flow c.requires.atoms c.args.begin c.args.end c.requires.begin c.requires.end in
-    let N : List Placed → Type 0 = Each IsNoRow in
-    let columns = row_fragments d (length d.rows) in
-    let frame : ℕ → Frame = λ x. record (frame_of c.args.at) { extent = x } in
-    let depth : ℕ = c.args.at.depth + 2 in
-    let ps = c.in_ok-column.column.placed.items in
-    let places = column_places d f c.args.begin c.args.end in
-    column-text c.args.out.now c.put_line.new.out c.put_parts.new.out (record { depth = c.args.at.depth + 1; kind = col c.args.i; x = c.args.at.x; y = c.args.at.y; w = c.args.at.w; h = c.args.at.h }) (flat_lines columns d no_stacks f depth (frame (column_extent d f c.args.begin c.args.end)) places) (part_lines d no_stacks f depth (frame c.in_ok-column.column.extent) c.as_slice-2.result.now) c.in_ok-put_line.ensures c.in_ok-put_parts.ensures
-    (sym (ap (λ x. flat_lines columns d no_stacks f depth (frame x) places) c.in_ok-column.ensures.extent) ∙ sym (ap (flat_lines columns d no_stacks f depth (frame c.in_ok-column.column.extent)) c.in_ok-column.ensures.placed)
-    ∙ parts-flat columns d no_stacks f depth (frame c.in_ok-column.column.extent) ps (subst N (sym c.in_ok-column.ensures.placed) k.none)
-    ∙ ap (part_lines d no_stacks f depth (frame c.in_ok-column.column.extent)) (sym (c.as_slice-2.ensures.value ∙ c.in_ok-parts.ensures ∙ ap parts_of c.as_slice.ensures.value)))
+    let at = c.args.at in
+    let column = c.in_ok-column.column in
+    let parts = c.as_slice-2.result.now in
+    column-text c.args.out.now.text c.put_line.new.out.text c.put_parts.new.out.text (record { depth = at.depth + 1; kind = col c.args.i; x = at.x; y = at.y; w = at.w; h = at.h })
+    (flat_lines (row_fragments d (length d.rows)) d no_stacks f (at.depth + 2) (record (frame_of at) { extent = column_extent d f c.args.begin c.args.end }) (column_places d f c.args.begin c.args.end))
+    (part_lines d no_stacks f (at.depth + 2) (record (frame_of at) { extent = column.extent }) parts) c.in_ok-put_line.ensures.text c.in_ok-put_parts.ensures.text
+    (lines-are d f (at.depth + 2) (frame_of at) c.args.begin c.args.end column.extent column.placed.items parts k.none c.in_ok-column.ensures.placed c.in_ok-column.ensures.extent (c.as_slice-2.ensures.value ∙ c.in_ok-parts.ensures ∙ ap parts_of c.as_slice.ensures.value))
+
+pub returns-in_err-put_parts-clause-long : goal.returns-in_err-put_parts-clause-long
+returns-in_err-put_parts-clause-long c =
+    let d = c.args.flows.now in
+    let f = flow_of d c.args.flow in
+    let k = column-known d c.args.flow c.flow_counts-counts.ensures.sound c.requires.flow c.requires.atoms c.args.begin c.args.end c.requires.begin c.requires.end in
+    let at = c.args.at in
+    let column = c.in_ok-column.column in
+    let parts = c.as_slice-2.result.now in
+    let line : TreeLine = record { depth = at.depth + 1; kind = col c.args.i; x = at.x; y = at.y; w = at.w; h = at.h } in
+    let whole = flat_lines (row_fragments d (length d.rows)) d no_stacks f (at.depth + 2) (record (frame_of at) { extent = column_extent d f c.args.begin c.args.end }) (column_places d f c.args.begin c.args.end) in
+    let rest = part_lines d no_stacks f (at.depth + 2) (record (frame_of at) { extent = column.extent }) parts in
+    let here = c.put_line.new.out in
+    let p = err_from_is_err_and c.from_residual-in_err-put_parts.result c.from_residual-in_err-put_parts.ensures.1 in
+    rw (p.1, p.2) (λ stop. passes-on c.args.out.now here (tree_text rest) (tree_text (line ∷ whole)) c.in_ok-put_line.ensures.within
+    (column-text c.args.out.now.text here.text (here.text ++ tree_text rest) line whole rest c.in_ok-put_line.ensures.text refl
+    (lines-are d f (at.depth + 2) (frame_of at) c.args.begin c.args.end column.extent column.placed.items parts k.none c.in_ok-column.ensures.placed c.in_ok-column.ensures.extent (c.as_slice-2.ensures.value ∙ c.in_ok-parts.ensures ∙ ap parts_of c.as_slice.ensures.value)))
+    (c.in_err-put_parts.ensures.long stop))
