@@ -1,7 +1,7 @@
 //! The tree of a layout as text: a line for each stack, row, column, box and atom, with its rectangle.
 //!
 //! It stands on flow_data and flow_list, and its proofs on flow_laws too. It promises the text that the definitions of
-//! flow_list give, for one stack whose rows hold atoms alone.
+//! flow_list give, for one stack whose rows hold atoms alone, or tells that it has more bytes than a limit.
 #![tactic(auto)]
 
 mod columns;
