@@ -5,7 +5,7 @@ mod Exists
 mod FillEnds
 mod Held
 pub mod HeldSums
-mod LaidSums
+pub mod LaidSums
 mod Laying
 pub mod Needs
 pub mod PlacedSums

@@ -100,7 +100,7 @@ module _ (d : FlowsData) (f : Flow) (total : ℕ → ℕ) where
     in-stack-share k (Atom height kind) = refl
     in-stack-share k (Row r) = refl
 
-    in-stack-height : (item : Item) (x : ℕ) → height_in_stack d bound item x ≤ item_share total item
+    pub in-stack-height : (item : Item) (x : ℕ) → height_in_stack d bound item x ≤ item_share total item
     in-stack-height (Atom height kind) x = omega arith
     in-stack-height (Row r) x = heights r (available_at bound x)
 
@@ -153,7 +153,7 @@ module _ (d : FlowsData) (f : Flow) (total : ℕ → ℕ) where
         (places-le (share total) (IsRowOf f) _ (tops d f.opened) whole (laid_edges (strip_at (tops d f.opened) false) (seam_of f 0).head ++ stack_laid d bound f 0 (length f.items))
         (Each-append (HasShare (share total) (IsRowOf f)) (laid_edges (strip_at (tops d f.opened) false) (seam_of f 0).head) _ (edges-have total (IsRowOf f) _ (seam_of f 0).head) to.each) (omega arith))
 
-    strip-le : (k : ℕ) → (stack_strip d bound f k).y + (stack_strip d bound f k).pending + ahead total f inner k ≤ tops d (boxes_in f) + sum_by amount (seam_of f 0).head + ahead total f inner 0
+    pub strip-le : (k : ℕ) → (stack_strip d bound f k).y + (stack_strip d bound f k).pending + ahead total f inner k ≤ tops d (boxes_in f) + sum_by amount (seam_of f 0).head + ahead total f inner 0
     unfolding stack_strip
     strip-le zero =
         let top : tops d (open_across f 0) ≤ tops d (boxes_in f) = open_across-le (λ b. (box_of d b).top) f 0 in

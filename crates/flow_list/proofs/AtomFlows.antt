@@ -50,7 +50,7 @@ atoms-reach inner d f h =
     let b = sum-both (λ b. (box_of d b).top) (λ b. (box_of d b).bottom) (boxes_in f) in
     omega arith
 
-one-of : {A : Type 0} (g : A → ℕ) (xs : List A) (k : ℕ) (d : A) → k < length xs → g (get_or xs k d) ≤ sum_by g xs
+pub one-of : {A : Type 0} (g : A → ℕ) (xs : List A) (k : ℕ) (d : A) → k < length xs → g (get_or xs k d) ≤ sum_by g xs
 one-of g [] k d lt = absurd (omega arith)
 one-of g (x ∷ xs) zero d lt = let s = sum_by-cons g x xs in omega arith
 one-of g (x ∷ xs) (suc k) d lt = let s = sum_by-cons g x xs in let r = one-of g xs k d (omega arith) in omega arith

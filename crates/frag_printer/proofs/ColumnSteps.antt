@@ -71,7 +71,7 @@ module _ (d : FlowsData) (f : Flow) where
   rest-first : (i e : ℕ) → i < e → rest_laid (column_strip d f i) i (e - i) ≡ column_laid d f i e
   rest-first i e lt = let n : e - i ≡ suc (e - i - 1) = omega arith in ap (rest_laid (column_strip d f i) i) n ∙ sym (ap (laid_for i) n)
 
-  with-none : (at : Placing) (xs : List Laid) (ps : List Placed) (y : ℕ) → standing at ≡ ps → waiting at ≡ [] → at.y ≡ y → with_more at xs ≡ ps ++ places_from (length xs + 1) y xs
+  pub with-none : (at : Placing) (xs : List Laid) (ps : List Placed) (y : ℕ) → standing at ≡ ps → waiting at ≡ [] → at.y ≡ y → with_more at xs ≡ ps ++ places_from (length xs + 1) y xs
   with-none at xs ps y a b c =
       ap (λ qs. qs ++ places_from (length (waiting at ++ xs) + 1) at.y (waiting at ++ xs)) a ∙ ap (λ ws. ps ++ places_from (length (ws ++ xs) + 1) at.y (ws ++ xs)) b ∙ ap (λ z. ps ++ places_from (length xs + 1) z xs) c
 

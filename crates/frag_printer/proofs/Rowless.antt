@@ -1,5 +1,5 @@
 -- No row is placed in a column of atoms.
-use Rattle.std.proofs.Common.{◌≡◌, ℕ, zero, suc, ◌+◌, ◌-◌, ◌<◌, ◌≤◌, Bool, true, false, cond, List, [], ◌∷◌, ◌++◌, length, arith, sum_by, get_or, All}
+use Rattle.std.proofs.Common.{ℕ, zero, suc, ◌+◌, ◌-◌, Bool, true, false, cond, List, [], ◌∷◌, length, arith, sum_by, get_or, All}
 use Rattle.std.specs.Prelude.{◌==◌, not, ◌||◌}
 use Rattle.std.specs.List.{AllByRecursion as Each}
 use Rattle.flow_data.specs.declared.data.Edge.{Edge}
@@ -13,7 +13,7 @@ use Rattle.flow_list.specs.ClonedEdges.{open_across, tops}
 use Rattle.flow_list.specs.Column.{Inner, height_of, is_forced, start_strip, strip_behind}
 use Rattle.flow_data.specs.Flows.{box_of, item_of, no_item, seam_of}
 use Rattle.flow_list.specs.Fragments.{continued_from, laid_item, laid_items}
-use Rattle.flow_list.specs.Placing.{RowLaid, Laid, margin, solid, wall, opens, closes, atom, row, laid_edge, laid_edges, Placed, opens_at, closes_at, atom_at, row_at, places_from}
+use Rattle.flow_list.specs.Placing.{RowLaid, Laid, margin, solid, laid_edge, laid_edges, Placed, opens_at, closes_at, atom_at, row_at}
 use Rattle.flow_list.specs.Rows.{all_rows}
 use Rattle.flow_list.specs.Strip.{Strip, strip_at, put, lay, lay_all}
 use Rattle.flow_list.specs.Tokens.{Token, row_start}
@@ -68,9 +68,11 @@ items-have inner f atoms s k q (suc zero) =
     (item-has inner (item_of f k) k q (each-atom f.items atoms k), Each-append Has (laid_edges (put s (height_of inner (item_of f k) q)) (seam_of f (k + 1)).tail) [] (edges-have (put s (height_of inner (item_of f k) q)) (seam_of f (k + 1)).tail) tt)
 items-have inner f atoms s k q (suc (suc n)) =
     let behind = strip_behind inner f s k q in
-    let later = items-have inner f atoms (lay_all behind (seam_of f (k + 1)).head) (k + 1) row_start (suc n) in
-    (item-has inner (item_of f k) k q (each-atom f.items atoms k), Each-append Has (laid_edges (put s (height_of inner (item_of f k) q)) (seam_of f (k + 1)).tail) _ (edges-have (put s (height_of inner (item_of f k) q)) (seam_of f (k + 1)).tail)
-    (Each-append Has (laid_edges behind (seam_of f (k + 1)).head) _ (edges-have behind (seam_of f (k + 1)).head) later))
+    let later = items-have inner f atoms (lay_all behind (seam_of f (k + 1)).head) (k + 1) row_start (suc n) in (
+      item-has inner (item_of f k) k q (each-atom f.items atoms k),
+      Each-append Has (laid_edges (put s (height_of inner (item_of f k) q)) (seam_of f (k + 1)).tail) _ (edges-have (put s (height_of inner (item_of f k) q)) (seam_of f (k + 1)).tail)
+          (Each-append Has (laid_edges behind (seam_of f (k + 1)).head) _ (edges-have behind (seam_of f (k + 1)).head) later),
+    )
 
 no-rows : (bottom : ℕ) (ps : List Placed) → Each (IsNoLower laid_amount never bottom) ps → Each IsNoRow ps
 unfolding never

@@ -25,7 +25,7 @@ module _ (d : FlowsData) (bound : Bound) (f : Flow) where
   behind-head zero = refl
   behind-head (suc k) = ap (λ j. lay_all (lay_all (behind_item d bound f k) (seam_of f j).tail) (seam_of f (suc k)).head) (add-one k)
 
-  next-head : (k : ℕ) → behind_tail d bound f k ≡ before_head d bound f (k + 1)
+  pub next-head : (k : ℕ) → behind_tail d bound f k ≡ before_head d bound f (k + 1)
   next-head k = subst (λ (j : ℕ). behind_tail d bound f k ≡ before_head d bound f j) (sym (add-one k)) refl
 
   -- one item further

@@ -8,7 +8,7 @@ use Rattle.flow_data.specs.declared.data.Item.{Item}
 use Rattle.flow_data.specs.declared.data.Item.TheVariants.{Atom, Row}
 use Rattle.flow_list.specs.Atoms.{HoldsAtoms}
 use Rattle.flow_list.specs.Column.{Column}
-use Rattle.flow_data.specs.Flows.{flow_in, flow_of, no_seam, row_of, stack_of}
+use Rattle.flow_data.specs.Flows.{flow_in, flow_of, row_of, stack_of}
 use Rattle.flow_list.specs.Fragments.{row_fragments}
 use Rattle.flow_list.specs.Placing.{Placed, opens_at, closes_at, atom_at, row_at}
 use Rattle.flow_list.specs.RowHeights.{columns_of_row, row_columns, row_height}
@@ -45,10 +45,6 @@ abbrev pub flat_row_lines : FlowsData → (depth : ℕ) → Frame → (y : ℕ) 
 flat_row_lines d depth frame y flat =
     record { depth = depth; kind = row flat.row row_start; x = frame.x + (row_of d flat.row).x; y = frame.y + y; w = row_width (row_of d flat.row); h = flat.height }
     ∷ columns_lines (row_fragments d (length d.rows)) d no_stacks (row_of d flat.row) depth frame y flat.height 0 0 flat.ends
-
--- the flow of a stack that holds this row and nothing else
-abbrev pub row_alone : ℕ → Flow
-row_alone r = record { opened = []; items = Row r ∷ []; seams = no_seam ∷ no_seam ∷ [] }
 
 -- the row that is placed there, as it was laid out
 abbrev pub row_placed : FlowsData → Placed → List FlatRow

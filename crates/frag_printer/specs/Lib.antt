@@ -5,4 +5,5 @@ pub mod Lines
 pub mod PartLines
 pub mod Parts
 pub mod Placing
+pub mod StackLines
 pub mod StackParts

@@ -1,8 +1,8 @@
 -- What is placed in a column, with the bottom of each box.
-use Rattle.std.specs.Prelude.{ℕ, ◌+◌, ◌-◌, ◌<◌, List, [], ◌∷◌, ◌++◌, length, map}
+use Rattle.std.specs.Prelude.{ℕ, ◌<◌, List, [], ◌∷◌, length, map}
 use Rattle.flow_data.specs.declared.data.Flow.{Flow}
 use Rattle.flow_data.specs.declared.data.FlowsData.{FlowsData}
-use Rattle.flow_data.specs.Flows.{box_of, item_of}
+use Rattle.flow_data.specs.Flows.{box_of}
 use Rattle.flow_list.specs.Fragments.{bottom_of}
 use Rattle.flow_list.specs.Placing.{Placed as AnyPlaced, opens_at, closes_at, atom_at, row_at}
 use Rattle.flow_list.specs.Tree.{TreeLine, Frame}
@@ -58,3 +58,16 @@ feet_of d (Opens number y starts bottom) = (box_of d number).bottom
 feet_of d (Closes number) = 0
 feet_of d (Atom item y) = 0
 feet_of d (Row number height made y) = 0
+
+-- how many boxes start or continue there
+abbrev pub opens_in : AnyPlaced → ℕ
+opens_in (opens_at b y starts) = 1
+opens_in (closes_at b y) = 0
+opens_in (atom_at k y) = 0
+opens_in (row_at r y) = 0
+
+abbrev pub opens_of : Part → ℕ
+opens_of (Opens number y starts bottom) = 1
+opens_of (Closes number) = 0
+opens_of (Atom item y) = 0
+opens_of (Row number height made y) = 0

@@ -22,7 +22,7 @@ pub struct Column {
 }
 
 /// Keeps the list of open boxes, the outermost first, behind these edges.
-fn pass_edges(boxes: &mut Vec<u32>, edges: &[Edge]) -> Result<(), NoMemory>
+pub fn pass_edges(boxes: &mut Vec<u32>, edges: &[Edge]) -> Result<(), NoMemory>
     ensures { OnOk result (boxes.new.items ≡ fold opened_by boxes.old.items edges.now) }
 {
     for edge in edges {
@@ -49,7 +49,12 @@ fn pass_edge(boxes: &mut Vec<u32>, edge: Edge) -> Result<(), NoMemory>
 
 /// The boxes that continue at a column's top, each below the upper cloned edges of those around it
 /// (CSS Fragmentation 3, section 5.4), and how far down these edges reach.
-fn continued(alloc: Global, flows: &Flows, boxes: &[u32], drops: bool) -> Result<Placing, NoMemory>
+pub fn continued(
+    alloc: Global,
+    flows: &Flows,
+    boxes: &[u32],
+    drops: bool,
+) -> Result<Placing, NoMemory>
     requires known { All (λ b. b < length flows.now.boxes) boxes.now }
     requires room { tops flows.now boxes.now < 2 ^ 63 }
     ensures placed { IfOk result (λ p. map placed_as p.placed.items ≡ continued_from flows.now 0 boxes.now) }
@@ -71,7 +76,7 @@ fn continued(alloc: Global, flows: &Flows, boxes: &[u32], drops: bool) -> Result
 }
 
 /// What these boxes have below a break.
-fn bottoms_of(flows: &Flows, boxes: &[u32]) -> Units
+pub fn bottoms_of(flows: &Flows, boxes: &[u32]) -> Units
     requires known { All (λ b. b < length flows.now.boxes) boxes.now }
     requires room { bottoms flows.now boxes.now < 2 ^ 63 }
     ensures { result ≡ bottoms flows.now boxes.now }

@@ -1,7 +1,7 @@
 //! The tree of a layout as text: a line for each stack, row, column, box and atom, with its rectangle.
 //!
-//! It stands on flow_list and mc_base. It promises the text that the definitions of flow_list give, for rows whose flows
-//! hold atoms alone.
+//! It stands on flow_data and flow_list, and its proofs on flow_laws too. It promises the text that the definitions of
+//! flow_list give, for one stack whose rows hold atoms alone.
 #![tactic(auto)]
 
 mod columns;
@@ -9,6 +9,10 @@ mod lines;
 mod parts;
 mod placing;
 mod rows;
+mod stack;
 mod tree;
 
 pub use tree::write_flat;
+
+#[cfg(test)]
+mod tests;

@@ -10,7 +10,7 @@ ghost use Rattle.flow_list.specs.Tree.{atom_lines, item_lines, piece_bottom};
 ghost use Rattle.flow_list.specs.TreeText.{tree_text};
 ghost use Rattle.frag_printer.specs.Lines.{line_of};
 ghost use Rattle.frag_printer.specs.PartLines.{part_lines};
-ghost use Rattle.frag_printer.specs.Parts.{IsPartIn, feet_of, frame_of, no_stacks, part_of, parts_of};
+ghost use Rattle.frag_printer.specs.Parts.{IsPartIn, feet_of, frame_of, no_stacks, opens_of, part_of, parts_of};
 ghost use Rattle.frag_printer.specs.Placing.{placed_as};
 
 use crate::lines::{Kind, Line, put_line};
@@ -183,7 +183,7 @@ fn put_item(
 }
 
 /// Adds the line of something that isn't a row, and tells where the next one stands.
-fn put_part(
+pub fn put_part(
     out: &mut Text,
     flows: &Flows,
     flow: u32,
@@ -200,7 +200,7 @@ fn put_part(
         ≡ out.old ++ tree_text (part_lines flows.now no_stacks (flow_of flows.now flow) at.depth (frame_of at) (part ∷ more))) }
     ensures x { IfOk result (λ next. next.x ≡ at.x) }
     ensures y { IfOk result (λ next. next.y ≡ at.y) }
-    ensures depth { IfOk result (λ next. next.depth ≤ at.depth + 1) }
+    ensures depth { IfOk result (λ next. next.depth ≤ at.depth + opens_of part) }
     ensures feet { IfOk result (λ next. next.feet ≤ at.feet + feet_of flows.now part) }
 {
     // Sealed flows are sound.

@@ -17,9 +17,19 @@ use std::collections::HashSet;
 /// no end.
 #[derive(Clone, Copy)]
 pub enum Placed {
-    Opens { number: u32, y: Units, starts: bool },
-    Closes { number: u32, y: Units },
-    Atom { item: u32, y: Units },
+    Opens {
+        number: u32,
+        y: Units,
+        starts: bool,
+    },
+    Closes {
+        number: u32,
+        y: Units,
+    },
+    Atom {
+        item: u32,
+        y: Units,
+    },
     Row {
         row: u32,
         height: Units,

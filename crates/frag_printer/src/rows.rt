@@ -37,7 +37,7 @@ fn put_column(
     requires begin { begin < end }
     requires end { end ≤ length (flow_of flows.now flow).items }
     requires across { boxes.old.items ≡ open_across (flow_of flows.now flow) begin }
-    requires depth { at.depth < 2 ^ 32 }
+    requires depth { at.depth < 2 ^ 62 }
     requires x { at.x < 2 ^ 62 }
     requires y { at.y < 2 ^ 62 }
     requires feet { at.feet ≡ 0 }
@@ -88,7 +88,7 @@ fn put_columns(
     requires row_x { row.x < 2 ^ 60 }
     requires places { ArePlaces (flow_of flows.now row.flow) 0 ends.now }
     requires count { length ends.now < 2 ^ 32 }
-    requires depth { at.depth < 2 ^ 31 }
+    requires depth { at.depth < 2 ^ 62 }
     requires x { at.x < 2 ^ 60 }
     requires y { at.y + y < 2 ^ 62 }
     ensures { OnOk result (out.new ≡ out.old ++ tree_text (
@@ -129,7 +129,7 @@ pub fn put_row(
     requires row { flat.now.row < length flows.now.rows }
     requires atoms { HoldsAtoms (flow_in flows.now flat.now.row) }
     requires places { ArePlaces (flow_in flows.now flat.now.row) 0 flat.now.ends }
-    requires depth { at.depth < 2 ^ 31 }
+    requires depth { at.depth < 2 ^ 62 }
     requires x { at.x < 2 ^ 60 }
     requires y { at.y + y < 2 ^ 62 }
     ensures { OnOk result (out.new ≡ out.old ++ tree_text (flat_row_lines flows.now at.depth (frame_of at) y flat.now)) }

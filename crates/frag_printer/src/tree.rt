@@ -1,36 +1,118 @@
 //! The tree of a layout whose rows hold atoms alone.
 
-ghost use Rattle.std.specs.Prelude.{◌≡◌, ◌<◌, [], ◌∷◌, length, IfOk};
-ghost use Rattle.flow_list.specs.Atoms.{HoldsAtoms};
-ghost use Rattle.flow_data.specs.Flows.{flow_in, flow_of, stack_of};
+ghost use Rattle.std.specs.Prelude.{◌≡◌, ◌+◌, ◌<◌, ◌≤◌, ◌^◌, All, List, [], ◌∷◌, ◌++◌, drop, length, sum_by, take, IfOk, OnOk};
+ghost use Rattle.flow_data.specs.Flows.{flow_of};
 ghost use Rattle.flow_list.specs.Tree.{tree_of};
 ghost use Rattle.flow_list.specs.TreeText.{tree_text};
-ghost use Rattle.frag_printer.specs.FlatRows.{flat_rows, row_alone};
+ghost use Rattle.frag_printer.specs.declared.parts.Part.{Part as AnyPart};
+ghost use Rattle.frag_printer.specs.FlatRows.{HoldsFlatRows, flat_rows};
+ghost use Rattle.frag_printer.specs.PartLines.{part_lines};
+ghost use Rattle.frag_printer.specs.Parts.{feet_of, frame_of, no_stacks, opens_of};
+ghost use Rattle.frag_printer.specs.StackLines.{IsStackPart, row_part, row_parts};
 
 use crate::lines::{Kind, Line, put_line};
-use crate::parts::Inside;
+use crate::parts::{Inside, Part, put_part, with_bottoms};
 use crate::rows::put_row;
+use crate::stack::lay_stack;
 use flow_list::{FlatRow, Flows, flow_counts, stack_at};
 use mc_base::{List, NoMemory, Text};
 use std::alloc::Global;
 
+/// Where the next line of a stack stands, and the number of the next row.
+#[derive(Clone, Copy)]
+struct Reached {
+    at: Inside,
+    next: usize,
+}
+
+/// Adds the lines of something in a stack, and tells what is reached behind it.
+fn put_stack_part(
+    alloc: Global,
+    out: &mut Text,
+    flows: &Flows,
+    flow: u32,
+    rows: &[FlatRow],
+    reached: Reached,
+    part: Part,
+) -> Result<Reached, NoMemory>
+    requires flow { flow < length flows.now.flows }
+    requires known { IsStackPart flows.now (flow_of flows.now flow) (2 ^ 61) part }
+    requires rows { take (length (row_part flows.now part)) (drop reached.next rows.now) ≡ row_part flows.now part }
+    requires depth { reached.at.depth < 2 ^ 62 }
+    requires x { reached.at.x ≡ 0 }
+    requires y { reached.at.y ≡ 0 }
+    requires feet { reached.at.feet + feet_of flows.now part < 2 ^ 63 }
+    ensures text { IfOk result (λ r. (more : List AnyPart) →
+        out.new ++ tree_text (part_lines flows.now no_stacks (flow_of flows.now flow) r.at.depth (frame_of r.at) more)
+        ≡ out.old ++ tree_text (part_lines flows.now no_stacks (flow_of flows.now flow) reached.at.depth (frame_of reached.at) (part ∷ more))) }
+    ensures next { IfOk result (λ r. r.next ≡ reached.next + length (row_part flows.now part)) }
+    ensures depth { IfOk result (λ r. r.at.depth ≤ reached.at.depth + opens_of part) }
+    ensures x { IfOk result (λ r. r.at.x ≡ 0) }
+    ensures y { IfOk result (λ r. r.at.y ≡ 0) }
+    ensures feet { IfOk result (λ r. r.at.feet ≤ reached.at.feet + feet_of flows.now part) }
+{
+    match part {
+        Part::Row { y, .. } => {
+            put_row(alloc, out, flows, reached.at, y, &rows[reached.next])?;
+            Ok(Reached {
+                at: reached.at,
+                next: reached.next + 1,
+            })
+        }
+        _ => {
+            let at = put_part(out, flows, flow, reached.at, part)?;
+            Ok(Reached {
+                at,
+                next: reached.next,
+            })
+        }
+    }
+}
+
+/// Adds the lines of what stands in a stack, in order.
+fn put_stack_parts(
+    alloc: Global,
+    out: &mut Text,
+    flows: &Flows,
+    flow: u32,
+    rows: &[FlatRow],
+    inside: Inside,
+    parts: &[Part],
+) -> Result<(), NoMemory>
+    requires flow { flow < length flows.now.flows }
+    requires known { All (IsStackPart flows.now (flow_of flows.now flow) (2 ^ 61)) parts.now }
+    requires rows { row_parts flows.now parts.now ≡ rows.now }
+    requires depth { inside.depth + sum_by opens_of parts.now < 2 ^ 62 }
+    requires x { inside.x ≡ 0 }
+    requires y { inside.y ≡ 0 }
+    requires feet { inside.feet + sum_by (feet_of flows.now) parts.now < 2 ^ 63 }
+    ensures { OnOk result (out.new ≡ out.old ++ tree_text (part_lines flows.now no_stacks (flow_of flows.now flow) inside.depth (frame_of inside) parts.now)) }
+{
+    let mut reached = Reached {
+        at: inside,
+        next: 0,
+    };
+    for part in parts {
+        reached = put_stack_part(alloc, out, flows, flow, rows, reached, *part)?;
+    }
+    Ok(())
+}
+
 /// The text of the tree of a layout: a line for each stack, row, column, box and atom, with its depth and its rectangle
 /// from the document's top left, in units.
 ///
-/// `rows` are the rows of stack 0 as they were laid out. Each row holds atoms alone. For now stack 0 holds one row and
-/// nothing else, as that of a flow file does.
+/// There is one stack, in which no row stands in another one. `rows` are the rows of the stack as they were laid out.
 pub fn write_flat(alloc: Global, flows: &Flows, rows: &List<FlatRow>) -> Result<Text, NoMemory>
     requires stack { length flows.now.stacks ≡ 1 }
-    requires row { 0 < length flows.now.rows }
-    requires alone { flow_of flows.now (stack_of flows.now 0).flow ≡ row_alone 0 }
-    requires atoms { HoldsAtoms (flow_in flows.now 0) }
+    requires atoms { HoldsFlatRows flows.now }
     requires rows { rows.now ≡ flat_rows flows.now }
     ensures { IfOk result (λ text. text ≡ tree_text (tree_of flows.now)) }
 {
     // Sealed flows are sound.
     let _counts = flow_counts(flows);
-    let w = stack_at(flows, 0).w;
-    let flat = &rows.as_slice()[0];
+    let stack = *stack_at(flows, 0);
+    let column = lay_stack(alloc, flows, rows.as_slice())?;
+    let parts = with_bottoms(alloc, column.placed.as_slice())?;
     let mut out = Text::new(alloc);
     put_line(
         &mut out,
@@ -39,19 +121,27 @@ pub fn write_flat(alloc: Global, flows: &Flows, rows: &List<FlatRow>) -> Result<
             kind: Kind::Stack(0),
             x: 0,
             y: 0,
-            w,
-            h: flat.height,
+            w: stack.w,
+            h: column.extent,
         },
     )?;
     let inside = Inside {
         depth: 1,
         x: 0,
         y: 0,
-        w,
-        h: flat.height,
-        extent: flat.height,
+        w: stack.w,
+        h: column.extent,
+        extent: column.extent,
         feet: 0,
     };
-    put_row(alloc, &mut out, flows, inside, 0, flat)?;
+    put_stack_parts(
+        alloc,
+        &mut out,
+        flows,
+        stack.flow,
+        rows.as_slice(),
+        inside,
+        parts.as_slice(),
+    )?;
     Ok(out)
 }

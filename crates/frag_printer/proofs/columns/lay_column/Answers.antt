@@ -1,8 +1,12 @@
-use Rattle.std.proofs.Common.{◌≡◌, ◌+◌, ◌<◌, ◌≤◌, ◌∙◌, ap, sym, subst, arith, length}
+use Rattle.flow_list.specs.Tokens.{row_start}
+use Rattle.flow_list.specs.Column.{start_strip}
+use Rattle.flow_list.specs.Rows.{all_rows}
+use Rattle.flow_list.specs.Fragments.{strip_after}
+use Rattle.std.proofs.Common.{◌≡◌, ◌+◌, ◌<◌, ◌≤◌, ◌∙◌, ap, sym, subst, arith, length, ◌-◌, [], ◌∷◌}
 use Rattle.flow_list.specs.ClonedEdges.{open_across, bottoms}
 use Rattle.flow_data.specs.Flows.{flow_of}
 use Rattle.flow_list.specs.Strip.{Strip}
-use Rattle.frag_printer.specs.Columns.{HasRoom}
+use Rattle.frag_printer.specs.Columns.{HasRoom, column_places}
 use Rattle.frag_printer.specs.Placing.{strip_of}
 use Rattle.frag_printer.proofs.ColumnSteps.{begin-known, bottoms-room, is_atom, column-begins, strip-begins, column-goes, strip-goes, column-ends, strip-ends, first-room, past-room, across-goes, extent-room, end-room}
 use Rattle.frag_printer.proofs.columns.lay_column.Goals as goal
@@ -32,8 +36,8 @@ loop-k-preserved c =
     let within = c.requires.end in
     let lt : k < length f.items = omega arith in
     record {
-      places = column-goes d f k c.args.end test c.loop-k.at c.lay_item.new.at e.leads (is_atom d c.args.flow sound c.requires.flow c.requires.atoms k lt) _ h.places;
-      strip = strip-goes d f k c.args.end test c.loop-k.at c.lay_item.new.at e.leads _ h.strip;
+      places = column-goes d f k c.args.end test c.loop-k.at c.lay_item.new.at e.leads (is_atom d c.args.flow sound c.requires.flow c.requires.atoms k lt) (column_places d f c.args.begin c.args.end) h.places;
+      strip = strip-goes d f k c.args.end test c.loop-k.at c.lay_item.new.at e.leads (strip_after (all_rows d) f (start_strip d f (c.args.begin ∷ [])) c.args.begin row_start (c.args.end - c.args.begin)) h.strip;
       margin = e.leads.margin;
       room = let P : Strip → Type 0 = HasRoom d f (k + 1) in subst P (sym e.leads.strip) (past-room d c.args.flow sound c.requires.flow c.requires.atoms k lt (strip_of c.loop-k.at) h.room);
       across = across-goes d c.args.flow sound c.requires.flow c.requires.atoms k lt _ _ h.across e.boxes;
@@ -56,14 +60,14 @@ overflow_add-extent c =
 pub returns-clause-placed : goal.returns-clause-placed
 returns-clause-placed c =
     let d = c.args.flows.now in
-    c.in_ok-finish.ensures.placed ∙ column-ends d (flow_of d c.args.flow) c.loop-k.k c.args.end c.loop-k-test.false c.loop-k.at _ c.loop-k.invariant.places
+    c.in_ok-finish.ensures.placed ∙ column-ends d (flow_of d c.args.flow) c.loop-k.k c.args.end c.loop-k-test.false c.loop-k.at (column_places d (flow_of d c.args.flow) c.args.begin c.args.end) c.loop-k.invariant.places
 
 pub returns-clause-extent : goal.returns-clause-extent
 returns-clause-extent c =
     let d = c.args.flows.now in
     let f = flow_of d c.args.flow in
     let y : c.finish.new.self.y ≡ c.loop-k.at.y = c.in_ok-finish.ensures.y in
-    let s = strip-ends d f c.loop-k.k c.args.end c.loop-k-test.false c.loop-k.at _ c.loop-k.invariant.strip in
+    let s = strip-ends d f c.loop-k.k c.args.end c.loop-k-test.false c.loop-k.at (strip_after (all_rows d) f (start_strip d f (c.args.begin ∷ [])) c.args.begin row_start (c.args.end - c.args.begin)) c.loop-k.invariant.strip in
     let t = c.loop-k-test.false in
     let r = c.requires.begin in
     let a : c.loop-k.k ≤ c.args.end = c.loop-k.auto.k-end (omega arith) in

@@ -1,4 +1,4 @@
-use Rattle.std.proofs.Common.{◌<◌, ◌≤◌, arith, max, ◌≡◌, ◌∙◌, sym, ap, map, take, drop, List, get_or}
+use Rattle.std.proofs.Common.{arith, max, ◌∙◌, sym, ap, map, take, drop, List, get_or}
 use Rattle.flow_list.specs.Placing.{Laid, gap_places, opens_among, greatest_margin}
 use Rattle.frag_printer.specs.declared.placing.Waiting.TheVariants.{Margin}
 use Rattle.frag_printer.specs.Placing.{laid_as, placed_as, margin_of}
