@@ -18,7 +18,7 @@ use Rattle.column_row.specs.declared.passing.Behind.{Behind}
 use Rattle.column_row.specs.declared.strip.Laying.{Laying}
 use Rattle.flow_list.specs.Rows.{all_rows}
 use Rattle.column_row.specs.Laying.{strip_of}
-use Rattle.column_row.specs.Ending.{place_of, place_opt, considered, IsAcross, IsBefore, IsBehind, IsEnding, IsLast}
+use Rattle.column_row.specs.Ending.{place_of, place_opt, considered, IsAcross, IsBefore, IsBehind, IsBelow, IsEnding, IsLast}
 
 module _ (inner : Inner) (d : FlowsData) (f : Flow) where
   -- the items from item k on, taken whole
@@ -90,7 +90,7 @@ ending-later d f from k None h = tt
 ending-later d f from k (Some x) h = record { later = h.later; within = let w = h.within in omega arith; across = h.across }
 
 abbrev pub ending_at : ℕ → Behind → Ending
-ending_at k past = record { item = k + 1; level = 0; extent = past.strip.y + past.cloned.bottoms; overflow = false; cloned = past.cloned }
+ending_at k past = record { item = k + 1; level = 0; extent = past.strip.y + past.cloned.bottoms; overflow = false; cloned = past.cloned; bound = None }
 
 module _ (d : FlowsData) (f : Flow) (from k h : ℕ) (best last new : Option Ending) (before : Before) (past : Behind) (atom : IsAtom (item_of f k)) (lt : k < length f.items)
     (place : Place) (walked : place ≡ walk (all_rows d) (avoids_at d f) h (place_opt best) (place_opt last) (steps_on (all_rows d) d f (strip_of before.strip) k))
@@ -151,3 +151,10 @@ end-place d f k h best last s place walked le here is =
   where
     none : (n : ℕ) → n ≡ 0 → steps (all_rows d) d f s k row_start n ≡ []
     none n e = nothing-left (all_rows d) d f s k n e
+
+-- and no height is too great for it
+pub unbounded-last : (d : FlowsData) (f : Flow) (from k : ℕ) (last : Option Ending) (here : Ending) → last ≡ Some here → IfSome last (IsLast d f from k) → (h : ℕ) → IsBelow h here.bound
+unbounded-last d f from k last here is known h =
+    let P : Option Ending → Type 0 = λ o. IfSome o (IsLast d f from k) in
+    let e : IsLast d f from k here = subst P is known in
+    subst (IsBelow h) (sym e.unbounded) tt

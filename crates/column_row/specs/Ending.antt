@@ -1,5 +1,5 @@
 -- The endings of columns as places, and what is known of them.
-use Rattle.std.specs.Prelude.{◌≡◌, ℕ, ◌+◌, ◌-◌, ◌^◌, ◌==◌, ◌||◌, cond, nat_lt, ◌<◌, ◌≤◌, false, Bool, List, [], ◌∷◌, drop, map, sum_by, Option, Some, None}
+use Rattle.std.specs.Prelude.{◌≡◌, ℕ, ◌+◌, ◌-◌, ◌^◌, ◌==◌, ◌||◌, cond, nat_lt, ◌<◌, ◌≤◌, false, Bool, List, [], ◌∷◌, drop, map, sum_by, Option, Some, None, IfSome}
 use Rattle.mc_base.specs.declared.level.Level.{Level}
 use Rattle.flow_data.specs.declared.data.Flow.{Flow}
 use Rattle.flow_data.specs.declared.data.FlowsData.{FlowsData}
@@ -50,6 +50,7 @@ pub record IsLast (d : FlowsData) (f : Flow) (from k : ℕ) (e : Ending) : Type 
   pub fits : e.overflow ≡ false
   pub later : from < k
   pub across : IsAcross d f k e.cloned
+  pub unbounded : e.bound ≡ None
 
 -- what stands before item k leaves room for the rest of the flow
 pub record IsBefore (d : FlowsData) (f : Flow) (k : ℕ) (b : Before) : Type 0 where
@@ -89,3 +90,7 @@ is_all_of (Some available) height = height == available
 -- no height below this one fits a row
 abbrev pub NoneFitsBelow : FlowsData → ℕ → ℕ → Type 0
 NoneFitsBelow d r h = (k : ℕ) → k < h → height_fits d r k ≡ false
+
+-- a height is below a bound, where there is one
+abbrev pub IsBelow : ℕ → Option ℕ → Type 0
+IsBelow h bound = IfSome bound (λ b. h < b)

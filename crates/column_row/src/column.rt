@@ -1,18 +1,19 @@
 //! A column of a flow of atoms.
 
-ghost use Rattle.std.specs.Prelude.{◌≡◌, ◌<◌, ◌≤◌, ◌⊎◌, [], ◌∷◌, IfSome, IfNone, IsSomeAnd, Some, None, cond, true, length};
+ghost use Rattle.std.specs.Prelude.{ℕ, ◌≡◌, ◌<◌, ◌≤◌, ◌⊎◌, [], ◌∷◌, IfSome, IfNone, IsSomeAnd, Some, None, cond, true, length};
 ghost use Rattle.flow_list.specs.Atoms.{HoldsAtoms};
 ghost use Rattle.flow_list.specs.Column.{better_place, column, is_forced, place_in, rank};
 ghost use Rattle.flow_data.specs.Flows.{flow_of};
 ghost use Rattle.flow_list.specs.Rows.{all_rows};
-ghost use Rattle.column_row.specs.Ending.{IsAcross, considered, place_of, place_opt};
+ghost use Rattle.column_row.specs.Ending.{IsAcross, IsBelow, considered, place_of, place_opt};
 
 use crate::cloned::Cloned;
 use crate::passing::{Beginning, before_first, past_head, past_item};
 use flow_list::{Flows, flow_counts, item_count};
 use mc_base::{Level, Units};
 
-/// The seam where a column ends, before this item, with what the column then is.
+/// The seam where a column ends, before this item, with what the column then is, and the next height at which that may
+/// be another, if there is one.
 #[derive(Clone, Copy)]
 pub struct Ending {
     pub item: u32,
@@ -20,6 +21,7 @@ pub struct Ending {
     pub extent: Units,
     pub overflow: bool,
     pub cloned: Cloned,
+    pub bound: Option<Units>,
 }
 
 fn rank_of(level: Level) -> u8
@@ -99,6 +101,8 @@ pub fn column_at(flows: &Flows, flow: u32, begin: Beginning, height: Units) -> E
     requires item { begin.item < length (flow_of flows.now flow).items }
     requires cloned { IsAcross flows.now (flow_of flows.now flow) begin.item begin.cloned }
     ensures place { place_of result ≡ place_in (column (all_rows flows.now) flows.now (flow_of flows.now flow) (begin.item ∷ []) height) }
+    ensures stays { (h : ℕ) → height ≤ h → IsBelow h result.bound → place_of result ≡ place_in (column (all_rows flows.now) flows.now (flow_of flows.now flow) (begin.item ∷ []) h) }
+    ensures bound { IsBelow height result.bound }
     ensures later { begin.item < result.item }
     ensures within { result.item ≤ length (flow_of flows.now flow).items }
     ensures cloned { IsAcross flows.now (flow_of flows.now flow) result.item result.cloned }
@@ -118,9 +122,13 @@ pub fn column_at(flows: &Flows, flow: u32, begin: Beginning, height: Units) -> E
             extent: behind.strip.y + behind.cloned.bottoms,
             overflow: false,
             cloned: behind.cloned,
+            bound: None,
         };
         if here.extent > height {
-            return stopped(best, here, k + 1 == count, behind.level);
+            return Ending {
+                bound: Some(here.extent),
+                ..stopped(best, here, k + 1 == count, behind.level)
+            };
         }
         if is_forced_at(behind.level) {
             return here;

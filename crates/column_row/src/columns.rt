@@ -1,13 +1,13 @@
 //! Columns one after another, at one height.
 
-ghost use Rattle.std.specs.Prelude.{◌≡◌, ◌+◌, ◌<◌, ◌≤◌, [], ◌∷◌, IfOk, cond, false, length, nat_lt, not, ◌&&◌, ◌||◌};
+ghost use Rattle.std.specs.Prelude.{ℕ, ◌≡◌, ◌+◌, ◌<◌, ◌≤◌, [], ◌∷◌, IfOk, cond, false, length, nat_lt, not, ◌&&◌, ◌||◌};
 ghost use Rattle.std.specs.List.{list_any};
 ghost use Rattle.flow_list.specs.Atoms.{HoldsAtoms};
 ghost use Rattle.flow_data.specs.Flows.{flow_in, flow_of, row_of};
 ghost use Rattle.flow_list.specs.RowHeights.{before_items, ends_of, greatest_extent, is_unforced};
 ghost use Rattle.flow_list.specs.Rows.{all_rows, columns, most_columns as most_of, reach_end};
 ghost use Rattle.flow_list.specs.Tokens.{row_start};
-ghost use Rattle.column_row.specs.Ending.{IsAcross, any_unforced};
+ghost use Rattle.column_row.specs.Ending.{IsAcross, IsBelow, any_unforced};
 
 use crate::cloned::Cloned;
 use crate::column::{Ending, column_at, is_forced_at};
@@ -66,22 +66,45 @@ fn is_good(end: Ending) -> bool
     !end.overflow && end.level == 0
 }
 
-/// Whether columns of this height reach the end, at most `most` of them, and none breaks a rule.
-pub fn flow_fits(flows: &Flows, flow: u32, most: u64, height: Units) -> bool
+/// Whether a height fits, and the next height at which that may change, if there is one.
+#[derive(Clone, Copy)]
+pub struct Trial {
+    pub fits: bool,
+    pub next: Option<Units>,
+}
+
+/// The lesser of the two, or the one that there is.
+fn lesser(first: Option<Units>, second: Option<Units>) -> Option<Units>
+    ensures both { (h : ℕ) → IsBelow h result → IsBelow h first × IsBelow h second }
+    ensures each { (h : ℕ) → IsBelow h first → IsBelow h second → IsBelow h result }
+{
+    match (first, second) {
+        (Some(first), Some(second)) => Some(first.min(second)),
+        (None, second) => second,
+        (first, None) => first,
+    }
+}
+
+/// Whether columns of this height reach the end, at most `most` of them, and none breaks a rule. That stays so up to the
+/// next height at which one of them may end elsewhere.
+pub fn try_height(flows: &Flows, flow: u32, most: u64, height: Units) -> Trial
     requires flow { flow < length flows.now.flows }
     requires atoms { HoldsAtoms (flow_of flows.now flow) }
-    ensures { result ≡ reach_end (flow_of flows.now flow) row_start (columns (all_rows flows.now) flows.now (flow_of flows.now flow) most row_start height) }
+    ensures stays { (h : ℕ) → height ≤ h → IsBelow h result.next → result.fits ≡ reach_end (flow_of flows.now flow) row_start (columns (all_rows flows.now) flows.now (flow_of flows.now flow) most row_start h) }
+    ensures next { IsBelow height result.next }
 {
     let count = item_count(flows, flow);
     let mut begin = beginning(flows, flow);
     let mut allowed = most;
+    let mut next = None;
     while begin.item < count {
         if allowed == 0 {
-            return false;
+            return Trial { fits: false, next };
         }
         let end = column_at(flows, flow, begin, height);
+        next = lesser(next, end.bound);
         if !is_good(end) {
-            return false;
+            return Trial { fits: false, next };
         }
         allowed -= 1;
         begin = Beginning {
@@ -89,7 +112,7 @@ pub fn flow_fits(flows: &Flows, flow: u32, most: u64, height: Units) -> bool
             cloned: end.cloned,
         };
     }
-    true
+    Trial { fits: true, next }
 }
 
 /// Whether the seam before this item is a break that isn't forced.

@@ -8,7 +8,7 @@ ghost use Rattle.flow_list.specs.Tokens.{row_start};
 ghost use Rattle.column_row.specs.Ending.{any_unforced, filled_to, is_all_of, items_of, limit};
 
 use crate::bounds::first_height;
-use crate::columns::{Made, columns_at, flow_fits, most_columns};
+use crate::columns::{Made, columns_at, most_columns, try_height};
 use flow_list::{FlatRow, Flows, flow_counts, row_at};
 use mc_base::{List, NoMemory, Units};
 use std::alloc::Global;
@@ -86,8 +86,9 @@ fn at_most(available: Option<Units>, height: Units) -> Units
 
 /// The height of a balanced row: the least that fits, or what is available where that is less.
 ///
-/// The heights are tried one after another, since above one that fits there may be others that don't. The first is the
-/// least at which there is room for the tallest atom, and in all columns for the atoms together.
+/// Heights are tried from below, since above one that fits there may be others that don't. The first is the least at
+/// which there is room for the tallest atom, and in all columns for the atoms together; the next is always the least at
+/// which a column may end elsewhere.
 fn least_height(flows: &Flows, row: u32, available: Option<Units>) -> Units
     requires row { row < length flows.now.rows }
     requires atoms { HoldsAtoms (flow_in flows.now row) }
@@ -98,8 +99,15 @@ fn least_height(flows: &Flows, row: u32, available: Option<Units>) -> Units
     let most = most_columns(flows, row);
     let flow = row_at(flows, row).flow;
     let mut height = at_most(available, first_height(flows, row));
-    'heights: while !is_all(available, height) && !flow_fits(flows, flow, most, height) {
-        height += 1;
+    'heights: while !is_all(available, height) {
+        let trial = try_height(flows, flow, most, height);
+        if trial.fits {
+            return height;
+        }
+        match trial.next {
+            Some(next) => height = at_most(available, next),
+            None => unreachable!(),
+        }
     }
     height
 }

@@ -1,4 +1,4 @@
-use Rattle.std.proofs.Common.{◌≡◌, [], ◌∷◌}
+use Rattle.std.proofs.Common.{◌≡◌, ℕ, ◌≤◌, [], ◌∷◌}
 use Rattle.std.specs.Prelude.{IfSome, IfNone}
 use Rattle.flow_list.specs.Column.{avoids_at, column, place_in}
 use Rattle.flow_data.specs.Flows.{flow_of}
@@ -11,7 +11,7 @@ use Rattle.column_row.proofs.column.column_at.Given as goal
 
 abbrev pub invariant-loop-k : goal.invariant-loop-k
 invariant-loop-k l = record {
-  walked : place_in (column (all_rows l.flows) l.flows (flow_of l.flows l.flow) (l.fn.begin.item ∷ []) l.height) ≡ walk (all_rows l.flows) (avoids_at l.flows (flow_of l.flows l.flow)) l.height (place_opt l.best) (place_opt l.last) (steps_on (all_rows l.flows) l.flows (flow_of l.flows l.flow) (strip_of l.before.strip) l.k);
+  walked : (h : ℕ) → l.height ≤ h → place_in (column (all_rows l.flows) l.flows (flow_of l.flows l.flow) (l.fn.begin.item ∷ []) h) ≡ walk (all_rows l.flows) (avoids_at l.flows (flow_of l.flows l.flow)) h (place_opt l.best) (place_opt l.last) (steps_on (all_rows l.flows) l.flows (flow_of l.flows l.flow) (strip_of l.before.strip) l.k);
   before : IsBefore l.flows (flow_of l.flows l.flow) l.k l.before;
   best : IfSome l.best (IsEnding l.flows (flow_of l.flows l.flow) l.fn.begin.item l.k);
   last : IfSome l.last (IsLast l.flows (flow_of l.flows l.flow) l.fn.begin.item l.k);

@@ -1,35 +1,38 @@
-use Rattle.std.proofs.Common.{◌+◌, ◌-◌, ◌<◌, true, false, sym, arith}
-use Rattle.flow_data.specs.Flows.{row_of}
-use Rattle.flow_list.specs.RowHeights.{size_of}
-use Rattle.flow_list.specs.Tokens.{row_start}
-use Rattle.column_row.proofs.Passages.{bound}
-use Rattle.column_row.proofs.RowColumns.{made-fits, row-flow, size-below, tried-more, tried-next, tried-whole, tried-fits}
+use Rattle.std.proofs.Common.{◌≡◌, ℕ, ◌<◌, ◌≤◌, false, sym, subst, ◌∙◌, arith}
+use Rattle.flow_list.specs.RowHeights.{height_fits}
+use Rattle.column_row.specs.Ending.{IsBelow}
+use Rattle.column_row.proofs.RowColumns.{Tried, made-fits, some-fits, tried-fits, tried-first, tried-nearer, tried-next, tried-whole}
 use Rattle.column_row.proofs.rows.least_height.Goals as goal
 
-pub overflow_add-height : goal.overflow_add-height
-overflow_add-height c =
-    let d = c.args.flows.now in
-    let missed = sym (made-fits d c.args.row c.requires.atoms c.row_at.result.now c.row_at.ensures.same c.heights.height c.most_columns-most.result false c.most_columns-most.ensures (sym c.if-not-flow_fits.ensures)) in
-    let lt = tried-more d c.args.row c.args.available c.heights.height c.heights.invariant missed in
-    omega (arith, size-below d c.args.row, bound d (row_of d c.args.row).flow c.flow_counts-counts.ensures.sound (row-flow d c.args.row c.flow_counts-counts.ensures.sound c.requires.row) c.requires.atoms)
+pub heights-init : goal.heights-init
+heights-init c = subst (Tried c.args.flows.now c.args.row c.args.available) (sym c.at_most-height.ensures) (tried-first c.args.flows.now c.args.row c.args.available c.first_height.result c.first_height.ensures)
+
+pub returns-then-trial : goal.returns-then-trial
+returns-then-trial c =
+    let at = c.try_height-trial.ensures.stays c.heights.height (omega arith) c.try_height-trial.ensures.next in
+    let fits = made-fits c.args.flows.now c.args.row c.requires.atoms c.row_at.result.now c.row_at.ensures.same c.heights.height c.most_columns-most.result c.try_height-trial.result.fits c.most_columns-most.ensures (sym at) in
+    tried-fits c.args.flows.now c.args.row c.args.available c.heights.height c.heights.invariant (sym fits ∙ c.if-trial.true)
 
 pub heights-smaller : goal.heights-smaller
 heights-smaller c =
-    let d = c.args.flows.now in
-    let missed = sym (made-fits d c.args.row c.requires.atoms c.row_at.result.now c.row_at.ensures.same c.heights.height c.most_columns-most.result false c.most_columns-most.ensures (sym c.if-not-flow_fits.ensures)) in
-    let lt = tried-more d c.args.row c.args.available c.heights.height c.heights.invariant missed in
-    let less : size_of d c.args.row row_start - (c.heights.height + 1) < size_of d c.args.row row_start - c.heights.height = omega arith in
-    less
+    let missed : (k : ℕ) → c.heights.height ≤ k → k < c.in-Some.next → height_fits c.args.flows.now c.args.row k ≡ false = λ k le lt.
+    sym (made-fits c.args.flows.now c.args.row c.requires.atoms c.row_at.result.now c.row_at.ensures.same k c.most_columns-most.result c.try_height-trial.result.fits c.most_columns-most.ensures
+    (sym (c.try_height-trial.ensures.stays k le (subst (IsBelow k) (sym c.in-Some.is) lt)))) ∙ c.if-trial.false in
+    rw c.at_most-height-in-Some.ensures (tried-nearer c.args.flows.now c.args.row c.args.available c.heights.height c.heights.invariant c.in-Some.next missed c.heights-test.ensures (subst (IsBelow c.heights.height) c.in-Some.is c.try_height-trial.ensures.next))
 
 pub heights-preserved : goal.heights-preserved
 heights-preserved c =
-    tried-next c.args.flows.now c.args.row c.args.available c.heights.height c.heights.invariant
-    (sym (made-fits c.args.flows.now c.args.row c.requires.atoms c.row_at.result.now c.row_at.ensures.same c.heights.height c.most_columns-most.result false c.most_columns-most.ensures (sym c.if-not-flow_fits.ensures))) c.heights-test.ensures
+    let missed : (k : ℕ) → c.heights.height ≤ k → k < c.in-Some.next → height_fits c.args.flows.now c.args.row k ≡ false = λ k le lt.
+    sym (made-fits c.args.flows.now c.args.row c.requires.atoms c.row_at.result.now c.row_at.ensures.same k c.most_columns-most.result c.try_height-trial.result.fits c.most_columns-most.ensures
+    (sym (c.try_height-trial.ensures.stays k le (subst (IsBelow k) (sym c.in-Some.is) lt)))) ∙ c.if-trial.false in
+    subst (Tried c.args.flows.now c.args.row c.args.available) (sym c.at_most-height-in-Some.ensures) (tried-next c.args.flows.now c.args.row c.args.available c.heights.height c.heights.invariant c.in-Some.next missed)
 
-pub returns-else-not-flow_fits : goal.returns-else-not-flow_fits
-returns-else-not-flow_fits c =
-    tried-fits c.args.flows.now c.args.row c.args.available c.heights.height c.heights.invariant
-    (sym (made-fits c.args.flows.now c.args.row c.requires.atoms c.row_at.result.now c.row_at.ensures.same c.heights.height c.most_columns-most.result true c.most_columns-most.ensures (sym c.if-not-flow_fits.ensures)))
+pub unreachable-requires : goal.unreachable-requires
+unreachable-requires c =
+    some-fits c.args.flows.now c.args.row c.args.available c.heights.height c.heights.invariant
+    (λ k le.
+    sym (made-fits c.args.flows.now c.args.row c.requires.atoms c.row_at.result.now c.row_at.ensures.same k c.most_columns-most.result c.try_height-trial.result.fits c.most_columns-most.ensures
+    (sym (c.try_height-trial.ensures.stays k le (subst (IsBelow k) (sym c.in-None.is) tt)))) ∙ c.if-trial.false)
 
-pub returns-after-heights : goal.returns-after-heights
-returns-after-heights c = tried-whole c.args.flows.now c.args.row c.args.available c.heights.height c.heights.invariant c.heights-test.ensures
+pub returns : goal.returns
+returns c = tried-whole c.args.flows.now c.args.row c.args.available c.heights.height c.heights.invariant c.heights-test.ensures
