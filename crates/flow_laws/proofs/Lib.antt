@@ -9,6 +9,9 @@ pub mod LaidSums
 mod Laying
 pub mod Needs
 pub mod PlacedSums
+mod Rejecting
+mod RejectingBounds
+mod RejectingRanges
 mod Rejects
 pub mod RowHeightBounds
 mod RowsAdvance

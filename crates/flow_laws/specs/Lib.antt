@@ -4,4 +4,5 @@ pub mod Depth
 pub mod LeastHeight
 pub mod Progress
 pub mod Rectangles
+pub mod Rejecting
 pub mod Rejection

@@ -3,7 +3,7 @@
 //! It stands on flow_list and flow_data. Each function promises one law, does nothing, and takes no memory.
 #![tactic(auto)]
 
-ghost use Rattle.std.specs.Prelude.{ℕ, ◌<◌, length};
+ghost use Rattle.std.specs.Prelude.{ℕ, ◌<◌, length, Option};
 ghost use Rattle.flow_data.specs.declared.data.FlowsData.{FlowsData};
 ghost use Rattle.flow_list.specs.Column.{Inner};
 ghost use Rattle.flow_laws.specs.Bounds.{NeedsAndBounds};
@@ -12,6 +12,7 @@ ghost use Rattle.flow_laws.specs.Depth.{DepthChangesNothing};
 ghost use Rattle.flow_laws.specs.LeastHeight.{SizesAreLeast};
 ghost use Rattle.flow_laws.specs.Progress.{ColumnsAdvance, IsPlaceBefore};
 ghost use Rattle.flow_laws.specs.Rectangles.{RectanglesAreBounded};
+ghost use Rattle.flow_laws.specs.Rejecting.{RangesReject, RangesAccount};
 ghost use Rattle.flow_laws.specs.Rejection.{TallAndAreaReject};
 ghost use Rattle.flow_data.specs.Flows.{flow_in};
 ghost use Rattle.flow_list.specs.Tokens.{Token};
@@ -58,4 +59,18 @@ pub fn needs_and_bounds()
 /// columns, pieces of boxes and items, however deep they stand.
 pub fn rectangles_are_bounded()
     ensures { (d : FlowsData) → IsSound d → RectanglesAreBounded d }
+{}
+
+/// In sound flows no height of a range fits whose reason holds: the range ends no higher than what an atom needs after an unforced break, the
+/// atoms are more than the columns hold just below its end, or the columns at its start leave a place, end at a bad break or overflow, and
+/// none of their bounds is below its end.
+pub fn ranges_reject()
+    ensures { (d : FlowsData) → IsSound d → (r : ℕ) → r < length d.rows → (q : Token) → IsPlaceBefore d (flow_in d r) q → RangesReject d r q }
+{}
+
+/// In sound flows the ranges of a row from a place on tell of each lower height why it doesn't fit: the reason of each range holds, its lines
+/// are those of the columns that the reason speaks of, and one after another, none empty, they go from 0 up to the size, or up to one above
+/// what is available where that is less.
+pub fn ranges_account()
+    ensures { (d : FlowsData) → IsSound d → (r : ℕ) → r < length d.rows → (q : Token) → IsPlaceBefore d (flow_in d r) q → (available : Option ℕ) → RangesAccount d r q available }
 {}

@@ -1,0 +1,6 @@
+use Rattle.flow_laws.proofs.Rejects.{tall-and-area}
+use Rattle.flow_laws.proofs.Rejecting.{ranges-reject}
+use Rattle.flow_laws.proofs.ranges_reject.Goals as goal
+
+pub returns : goal.returns
+returns c = λ d sound r lt q place. ranges-reject d r q (tall-and-area d sound r lt q place)
