@@ -81,3 +81,21 @@ filled-lines = refl
 filled_lower-lines : certified (within 200 filled) ≡ codes "cert" ∷ codes "auto 0 200 120" ∷ codes "end" ∷ []
 unfolding certified
 filled_lower-lines = refl
+
+-- Rows three deep, the innermost of one item of 20, below padding of 30: a size stands behind the sizes that it uses, though
+-- it is used first.
+deep-lines : certified (flows (flow (Row 1 ∷ []) (seam [] L0 (Start 0 ∷ Solid 30 ∷ []) ∷ seam (End 0 ∷ []) L0 [] ∷ []) ∷ flow (Row 2 ∷ []) (bare L0 ∷ bare L0 ∷ [])
+    ∷ flow (atom 20 ∷ []) (bare L0 ∷ bare L0 ∷ []) ∷ []) (row 1 1 ∷ row 2 1 ∷ row 3 1 ∷ []) (box false 0 0 ∷ []))
+    ≡ codes "cert" ∷ codes "size 2 0 20" ∷ codes "range 0 20 tall 0" ∷ codes "size 1 0 20" ∷ codes "range 0 20 over 1" ∷ codes "col 0 ! 0 0" ∷ codes "col 1 ! 0"
+    ∷ codes "row 0 - 50 yes" ∷ codes "range 0 30 over 1" ∷ codes "col 0 ! 0 1" ∷ codes "range 30 50 over 1" ∷ codes "col 0 ! 0 1" ∷ codes "col 1 ! 0 0" ∷ codes "col 2 ! 0"
+    ∷ codes "end" ∷ []
+unfolding certified
+deep-lines = refl
+
+-- a row of an item of 50 and a row: the columns of a fill are told up to the first that overflows
+spilled-lines : certified (flows (flow (Row 1 ∷ []) (bare L0 ∷ bare L0 ∷ []) ∷ flow (atom 50 ∷ Row 2 ∷ []) (bare L0 ∷ bare L0 ∷ bare L0 ∷ [])
+    ∷ flow (atom 10 ∷ []) (bare L0 ∷ bare L0 ∷ []) ∷ []) (row 1 1 ∷ row 2 2 ∷ row 3 1 ∷ []) [])
+    ≡ codes "cert" ∷ codes "size 2 0 10" ∷ codes "range 0 10 tall 0" ∷ codes "size 1 0 50" ∷ codes "range 0 50 tall 0"
+    ∷ codes "row 0 - 50 yes" ∷ codes "range 0 50 over 1" ∷ codes "col 0 ! 0 1" ∷ codes "col 1 ! 0" ∷ codes "end" ∷ []
+unfolding certified
+spilled-lines = refl
