@@ -24,7 +24,10 @@ mod Worked
 mod WorkedCertificates
 mod WorkedCloned
 mod WorkedFiles
+mod WorkedFragments
 mod WorkedNested
 mod WorkedParts
 mod WorkedRanges
+mod WorkedReasons
+mod WorkedResults
 mod WorkedTrees

@@ -191,3 +191,42 @@ around-extent = refl
 around-fit : fit around (34 ∷ 35 ∷ []) ≡ false ∷ true ∷ []
 unfolding fit
 around-fit = refl
+
+-- A row of one row of one item, that begins too low in a column of 10: nothing of it is judged there, but the sizes of both
+-- rows are used.
+abbrev low_twice : FlowsData
+low_twice = flows (flow (Row 1 ∷ []) (seam [] L0 (Start 0 ∷ Solid 30 ∷ []) ∷ seam (End 0 ∷ []) L0 [] ∷ []) ∷ flow (Row 2 ∷ []) (bare L0 ∷ bare L0 ∷ [])
+    ∷ flow (atom 20 ∷ []) (bare L0 ∷ bare L0 ∷ []) ∷ []) (row 1 1 ∷ row 2 1 ∷ row 3 1 ∷ []) (box false 0 0 ∷ [])
+
+low_twice-uses : (column_from low_twice 0 (0 ∷ []) 10).uses ≡ (1, 0 ∷ []) ∷ (2, 0 ∷ []) ∷ []
+unfolding column_from
+low_twice-uses = refl
+
+low_twice-bounds : (column_from low_twice 0 (0 ∷ []) 10).bounds ≡ 50 ∷ 30 ∷ []
+unfolding column_from
+low_twice-bounds = refl
+
+low_twice-lines : (column_from low_twice 0 (0 ∷ []) 10).lines ≡ line 0 None (Some 0) ∷ []
+unfolding column_from
+low_twice-lines = refl
+
+low_twice-end : (column_from low_twice 0 (0 ∷ []) 10).end ≡ 1 ∷ []
+unfolding column_from
+low_twice-end = refl
+
+-- A row of two columns whose first one overflows: its lines and bounds go up to that column, the uses are those of both.
+abbrev spilled : FlowsData
+spilled = flows (flow (Row 1 ∷ []) (bare L0 ∷ bare L0 ∷ []) ∷ flow (atom 50 ∷ Row 2 ∷ []) (bare L0 ∷ bare L0 ∷ bare L0 ∷ []) ∷ flow (atom 10 ∷ []) (bare L0 ∷ bare L0 ∷ []) ∷ [])
+    (row 1 1 ∷ row 2 2 ∷ row 3 1 ∷ []) []
+
+spilled-uses : (column_from spilled 0 (0 ∷ []) 20).uses ≡ (1, 0 ∷ []) ∷ (2, 0 ∷ []) ∷ []
+unfolding column_from
+spilled-uses = refl
+
+spilled-lines : (column_from spilled 0 (0 ∷ []) 20).lines ≡ line 0 None (Some 0) ∷ line 1 None (Some 0) ∷ []
+unfolding column_from
+spilled-lines = refl
+
+spilled-bounds : (column_from spilled 0 (0 ∷ []) 20).bounds ≡ 50 ∷ 50 ∷ 50 ∷ []
+unfolding column_from
+spilled-bounds = refl

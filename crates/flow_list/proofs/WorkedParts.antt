@@ -3,7 +3,7 @@ use Rattle.std.specs.Prelude.{ℕ, Bool, false, List, [], ◌∷◌, Option, Som
 use Rattle.mc_base.specs.declared.level.Level.{Level}
 use Rattle.mc_base.specs.declared.level.Level.TheVariants.{L0}
 use Rattle.flow_data.specs.declared.data.AtomKind.TheVariants.{Plain}
-use Rattle.flow_data.specs.declared.data.Bound.TheVariants.{Free}
+use Rattle.flow_data.specs.declared.data.Bound.TheVariants.{Free, Each}
 use Rattle.flow_data.specs.declared.data.BoxInfo.{BoxInfo}
 use Rattle.flow_data.specs.declared.data.Edge.{Edge}
 use Rattle.flow_data.specs.declared.data.Flow.{Flow}
@@ -43,6 +43,10 @@ flows fs rows boxes = record {
   boxes = boxes;
   stacks = record { flow = 0; w = 320; bound = Free } ∷ [];
 }
+
+-- the same where this much is available to each row in the stack
+abbrev pub within : ℕ → FlowsData → FlowsData
+within available d = record d { stacks = record { flow = 0; w = 320; bound = Each available } ∷ [] }
 
 -- one row of n columns of a flow
 abbrev pub one_row : ℕ → List Item → List Seam → FlowsData

@@ -8,7 +8,7 @@ use Rattle.flow_list.specs.Tokens.{Token}
 use Rattle.flow_list.specs.Column.{ColumnLine, column, steps, endless_column}
 use Rattle.flow_list.specs.Ranges.{Range, Reason, tall, area, left, bad, over, judged, searched, ranges}
 use Rattle.flow_list.specs.Rows.{columns_by, fits, least, size_in, fill_in, rows_to, all_rows}
-use Rattle.flow_list.proofs.WorkedParts.{atom, seam, bare, flow, row, box, flows, one_row}
+use Rattle.flow_list.proofs.WorkedParts.{atom, seam, bare, flow, row, box, flows, one_row, fit}
 
 unfoldable found : FlowsData → ℕ → Token → Option ℕ → List Range
 unfolding column steps endless_column columns_by fits least size_in fill_in rows_to all_rows judged searched ranges
@@ -118,3 +118,44 @@ cloned-ranges : found (flows (flow (atom 20 ∷ atom 20 ∷ []) (seam [] L0 (Sta
     ≡ range 0 35 (tall 0) [] ∷ []
 unfolding found
 cloned-ranges = refl
+
+-- four lines with orphans and widows of 2, an empty block, and an item behind a forced break
+abbrev paragraph : FlowsData
+paragraph = one_row 2 (atom 1280 ∷ atom 1280 ∷ atom 1280 ∷ atom 1280 ∷ atom 0 ∷ atom 2253 ∷ []) (bare L0 ∷ bare L1 ∷ bare L1 ∷ bare L0 ∷ bare L0 ∷ bare Forced ∷ bare L0 ∷ [])
+
+paragraph-ranges : found paragraph 0 start None
+    ≡ range 0 2253 (tall 5) [] ∷ range 2253 3687 area [] ∷ range 3687 3840 (bad 1) (ends 2 2 ∷ [])
+    ∷ range 3840 5120 (left (5 ∷ [])) (ends 3 3 ∷ line 0 (Some (5 ∷ [])) None ∷ []) ∷ []
+unfolding found
+paragraph-ranges = refl
+
+paragraph-fit : fit paragraph (5119 ∷ 5120 ∷ []) ≡ false ∷ true ∷ []
+unfolding fit
+paragraph-fit = refl
+
+-- four lines that part in the middle
+pairs-ranges : found (one_row 2 (atom 1280 ∷ atom 1280 ∷ atom 1280 ∷ atom 1280 ∷ []) (bare L0 ∷ bare L1 ∷ bare L0 ∷ bare L1 ∷ bare L0 ∷ [])) 0 start None
+    ≡ range 0 1280 (tall 0) [] ∷ range 1280 2560 area [] ∷ []
+unfolding found
+pairs-ranges = refl
+
+-- one item is as high as it needs, however many columns there are
+one-ranges : found (one_row 3 (atom 50 ∷ []) (bare L0 ∷ bare L0 ∷ [])) 0 start None ≡ range 0 50 (tall 0) [] ∷ []
+unfolding found
+one-ranges = refl
+
+-- two items with margins and a forced break between them, whose margins stay
+kept-ranges : found (one_row 2 (atom 20 ∷ atom 20 ∷ []) (seam [] L0 (Margin 16 ∷ []) ∷ seam (Margin 16 ∷ []) Forced (Margin 16 ∷ []) ∷ seam (Margin 16 ∷ []) L0 [] ∷ [])) 0 start None
+    ≡ range 0 20 (tall 0) [] ∷ range 20 36 (over 1) (line 0 None (Some 0) ∷ []) ∷ []
+unfolding found
+kept-ranges = refl
+
+-- an item below a margin at the row's start
+below-ranges : found (one_row 2 (atom 10 ∷ []) (seam [] L0 (Margin 5 ∷ []) ∷ bare L0 ∷ [])) 0 start None
+    ≡ range 0 10 (tall 0) [] ∷ range 10 15 (over 1) (line 0 None (Some 0) ∷ []) ∷ []
+unfolding found
+below-ranges = refl
+
+below-fit : fit (one_row 2 (atom 10 ∷ []) (seam [] L0 (Margin 5 ∷ []) ∷ bare L0 ∷ [])) (14 ∷ 15 ∷ []) ≡ false ∷ true ∷ []
+unfolding fit
+below-fit = refl

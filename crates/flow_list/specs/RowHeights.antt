@@ -1,4 +1,4 @@
--- The heights and the columns of the rows that stand outside any columns (CSS Multi-column 1, sections 7 and 8.1).
+-- The heights and the columns of the rows that stand outside any columns (CSS Multi-column 1, sections 7 and 8.2).
 use Rattle.std.specs.Prelude.{ℕ, max, min, Bool, true, false, cond, not, ◌||◌, List, [], ◌∷◌, length, map, nat_lt, nat_le, fold, Option, Some, None}
 use Rattle.std.specs.List.{list_any}
 use Rattle.flow_data.specs.declared.data.Flow.{Flow}
