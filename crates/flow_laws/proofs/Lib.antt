@@ -1,4 +1,5 @@
 mod Advance
+mod BoundsAbove
 mod DepthSame
 mod Descent
 mod Exists

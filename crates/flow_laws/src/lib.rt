@@ -17,9 +17,9 @@ ghost use Rattle.flow_data.specs.Flows.{flow_in};
 ghost use Rattle.flow_list.specs.Tokens.{Token};
 ghost use Rattle.flow_data.specs.Soundness.{IsSound};
 
-/// Breaks are constant over a range of heights: up to the least bound of a column its lines and its overflow stay, and
-/// where it doesn't overflow its end and level too; so do those of a fill and of the columns that are judged, and a height
-/// fits just where the lower one does.
+/// Breaks are constant over a range of heights: each bound of a column is above its height, and up to the least its lines and
+/// its overflow stay, and where it doesn't overflow its end and level too; so do those of any number of columns together, of a
+/// fill and of the columns that are judged, and a height fits just where the lower one does.
 pub fn breaks_are_constant()
     ensures { (d : FlowsData) (depth : ℕ) → BreaksAreConstant d depth }
 {}
