@@ -10,11 +10,13 @@ pub mod LaidSums
 mod Laying
 pub mod Needs
 pub mod PlacedSums
+mod Places
 mod Rejects
 pub mod RowHeightBounds
 mod RowsAdvance
 mod RowsStay
 pub mod Small
+mod SoundRows
 mod StopStays
 mod Totals
 mod TreeBounds

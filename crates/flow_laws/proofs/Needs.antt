@@ -18,6 +18,7 @@ use Rattle.flow_list.specs.Column.{Inner, Step, height_of, row_from, strip_behin
 use Rattle.flow_list.proofs.OpenAcross.{across-sum, at-sum-next}
 use Rattle.flow_data.proofs.OpenBoxes.{at-sum-first}
 use Rattle.flow_laws.specs.Progress.{IsPlaceBefore}
+use Rattle.flow_laws.proofs.Places.{in-items}
 use Rattle.flow_laws.proofs.Laying.{put-rises, lay_all-rises, IsLower, put-lower, lay_all-lower, starts-lower, TopsFollow, head-lays, BottomsPrecede, tail-lays}
 
 atom-height-le : (inner : Inner) (item : Item) (q : Token) → atom_height item ≤ height_of inner item q
@@ -162,12 +163,7 @@ module _ (inner : Inner) (d : FlowsData) (f : Flow) (sound : IsSoundFlow d f) wh
       row-no-atom (Atom height kind) r is a = cc
       row-no-atom (Row s) r is a = a
 
-  pub in-items : (t : Token) → IsPlaceBefore d f t → item_number t < length f.items
-  in-items [] place = absurd place
-  in-items (i ∷ []) place = place
-  in-items (i ∷ (j ∷ rest)) place = place.0
-
   pub column-steps : (t : Token) → IsPlaceBefore d f t → AreGoodSteps (item_number t) 0 0 (steps_from inner d f t)
   column-steps t place =
-      let lt = in-items t place in
+      let lt = in-items d f t place in
       good-steps (start_strip d f t) (item_number t) (within t) (length f.items - item_number t) 0 0 (omega arith) (start-tops t place) (start-loose t place) (omega arith) (omega arith)

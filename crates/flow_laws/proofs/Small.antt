@@ -20,9 +20,10 @@ use Rattle.flow_laws.specs.Bounds.{NeedsRise, NeedsAreSmall, NeedsAndBounds}
 use Rattle.flow_list.proofs.StripBounds.{put_le, lay_all_le}
 use Rattle.flow_data.proofs.BoxSums.{open_at-le}
 use Rattle.flow_list.proofs.Fitting.{open_across-le, first-amounts, amounts-drop, first-height, size-reach}
-use Rattle.flow_laws.proofs.Needs.{AreGoodSteps, column-steps, in-items}
+use Rattle.flow_laws.proofs.Needs.{AreGoodSteps, column-steps}
+use Rattle.flow_laws.proofs.Places.{in-items}
 use Rattle.flow_laws.proofs.StopStays.{cut-room}
-use Rattle.flow_laws.proofs.RowsAdvance.{good-rows, nests-by-number}
+use Rattle.flow_laws.proofs.SoundRows.{good-rows, nests-by-number}
 use Rattle.flow_laws.proofs.Totals.{total_within, total-more, total-same, total-le}
 
 -- ---- the reach is no more than the total
@@ -287,10 +288,10 @@ needs-and-bounds d sound r lt =
     record {
       needs_never_fall = λ t place. needs-rise (all_rows d) d (flow_in d r) flow (item_number t) 0 0 (steps_from (all_rows d) d (flow_in d r) t) (column-steps (all_rows d) d (flow_in d r) flow t place);
       needs_are_small = λ t place. needs-small (all_rows d) d (flow_in d r) (reach (all_rows d) d (flow_in d r) t) (steps_from (all_rows d) d (flow_in d r) t) (reach-small d sound r lt t)
-          (within-reach (all_rows d) d (flow_in d r) (reach (all_rows d) d (flow_in d r) t) t (in-items (all_rows d) d (flow_in d r) flow t place) (omega arith));
+          (within-reach (all_rows d) d (flow_in d r) (reach (all_rows d) d (flow_in d r) t) t (in-items d (flow_in d r) t place) (omega arith));
       sizes_are_small = size-small d sound r lt;
       extents_are_small = λ t h place.
-          let a = column-reach (all_rows d) d (flow_in d r) (reach (all_rows d) d (flow_in d r) t) t h (in-items (all_rows d) d (flow_in d r) flow t place) (omega arith) in
+          let a = column-reach (all_rows d) d (flow_in d r) (reach (all_rows d) d (flow_in d r) t) t h (in-items d (flow_in d r) t place) (omega arith) in
           let b = reach-small d sound r lt t in
           omega arith;
     }

@@ -13,7 +13,7 @@ use Rattle.flow_data.specs.declared.data.Stack.{Stack}
 use Rattle.flow_data.specs.Flows.{row_of, flow_of, flow_in, rows_in, no_flow, no_row}
 use Rattle.flow_data.specs.Soundness.{IsSound, NestsAtMost, count_of, flow_owners, flow_height}
 use Rattle.flow_data.proofs.OpenBoxes.{sum-less}
-use Rattle.flow_laws.proofs.RowsAdvance.{good-rows, nests-by-number}
+use Rattle.flow_laws.proofs.SoundRows.{good-rows, nests-by-number}
 
 -- ---- sums
 

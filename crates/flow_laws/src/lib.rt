@@ -31,13 +31,14 @@ pub fn sizes_are_least()
 {}
 
 /// A deeper recursion than needed changes nothing: of a row of which at most n stand one inside another the same is told at each
-/// depth from n on.
+/// depth from n on. In sound flows the count of rows is such a depth for each of them.
 pub fn depth_changes_nothing()
     ensures { (d : FlowsData) → DepthChangesNothing d }
 {}
 
-/// In sound flows a column ends later than it begins, and what a row makes of a height leaves a later place. So columns over the
-/// whole content of a row end, and they hold each atom once, in order, also those in inner rows that are cut.
+/// In sound flows a column, at a height or without end, ends later than it begins, and what a row makes of a height leaves a later
+/// place. So as many columns as there are items left reach the row's end, and any number of columns hold each atom before the place
+/// where they end once, in order, also those in inner rows that are cut.
 pub fn columns_advance()
     ensures { (d : FlowsData) → IsSound d → (r : ℕ) → r < length d.rows → ColumnsAdvance d r }
 {}
