@@ -17,6 +17,7 @@ mod RowsAdvance
 mod RowsStay
 pub mod Small
 mod SoundRows
+mod StackSums
 mod StopStays
 mod Totals
 mod TreeBounds

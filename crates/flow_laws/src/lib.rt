@@ -49,14 +49,14 @@ pub fn tall_and_area_reject()
     ensures { (d : FlowsData) → IsSound d → (r : ℕ) → r < length d.rows → (q : Token) → IsPlaceBefore d (flow_in d r) q → TallAndAreaReject d r q }
 {}
 
-/// In sound flows what a column's items need never falls from one to the next, and needs, the places where items begin, sizes and
-/// extents are all below 2^60.
+/// In sound flows what a column's items need never falls from one to the next, and needs, also after an unforced break, the places
+/// where items begin, sizes and extents, also of columns without end, are all below 2^60.
 pub fn needs_and_bounds()
     ensures { (d : FlowsData) → IsSound d → (r : ℕ) → r < length d.rows → NeedsAndBounds d r }
 {}
 
 /// In sound flows every rectangle of a whole tree ends below 2^63, from the left and from the top of the document: those of stacks, rows,
-/// columns, pieces of boxes and items, however deep they stand.
+/// columns, pieces of boxes and items, however deep they stand. And each stack reaches less than 2^60.
 pub fn rectangles_are_bounded()
     ensures { (d : FlowsData) → IsSound d → RectanglesAreBounded d }
 {}

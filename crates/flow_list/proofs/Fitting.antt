@@ -89,9 +89,14 @@ no-stop h (s ∷ ss) a = rw (le-ltb h s.need a.0, no-stop h ss a.1) refl
 column_over-ends : (inner : Inner) (avoids : ℕ → Bool) (h : ℕ) (ss : List Step) → AllNeed h ss → column_over inner avoids h ss ≡ unstopped ss
 column_over-ends inner avoids h ss a = rw (no-stop h ss a) refl
 
-strip-start : (d : FlowsData) (f : Flow) (t : Token) → (start_strip d f t).y + (start_strip d f t).pending ≤ tops d (boxes_in f) + sum_by amount (seam_of f (item_number t)).head
+-- a column that begins at a seam has its first item behind the seam's head
+pub head-start : (d : FlowsData) (f : Flow) (drops : Bool) (i : ℕ) →
+    (lay_all (strip_at (tops d (open_across f i)) drops) (seam_of f i).head).y + (lay_all (strip_at (tops d (open_across f i)) drops) (seam_of f i).head).pending ≤ tops d (boxes_in f) + sum_by amount (seam_of f i).head
+head-start d f drops i = omega (arith, lay_all_le (strip_at (tops d (open_across f i)) drops) (seam_of f i).head, open_across-le (λ b. (box_of d b).top) f i)
+
+pub strip-start : (d : FlowsData) (f : Flow) (t : Token) → (start_strip d f t).y + (start_strip d f t).pending ≤ tops d (boxes_in f) + sum_by amount (seam_of f (item_number t)).head
 strip-start d f [] = omega arith
-strip-start d f (i ∷ []) = omega (arith, lay_all_le (strip_at (tops d (open_across f i)) (not (i == 0 || is_forced (seam_of f i).level))) (seam_of f i).head, open_across-le (λ b. (box_of d b).top) f i)
+strip-start d f (i ∷ []) = head-start d f (not (i == 0 || is_forced (seam_of f i).level)) i
 strip-start d f (i ∷ (j ∷ rest)) = omega (arith, open_at-le (λ b. (box_of d b).top) f i)
 
 pub all-need : (inner : Inner) (d : FlowsData) (f : Flow) (t : Token) (h : ℕ) → reach inner d f t ≤ h → AllNeed h (steps_from inner d f t)
