@@ -1,15 +1,11 @@
 -- A height that fits exists: at the reach only forced breaks remain.
-use Rattle.std.proofs.Common.{◌≡◌, ℕ, zero, suc, ◌+◌, ◌-◌, ◌<◌, ◌≤◌, Bool, true, false, List, [], ◌∷◌, length, None, refl, sym, subst, ap, arith, ◌⊎◌, inl, inr}
-use Rattle.std.proofs.lemmas.Bool.{cases_order}
-use Rattle.std.proofs.lemmas.Bool.Decides.{nat_tests}
+use Rattle.std.proofs.Common.{ℕ, ◌<◌, ◌≤◌, Bool, List, [], length, None, refl, sym, subst, arith}
 use Rattle.flow_list.specs.Column.{endless_column}
 use Rattle.flow_data.specs.declared.data.Flow.{Flow}
 use Rattle.flow_data.specs.declared.data.FlowsData.{FlowsData}
-use Rattle.flow_data.specs.Flows.{row_of, flow_in, seam_of}
-use Rattle.flow_list.specs.Tokens.{Token, row_start, item_number, within, is_end}
-use Rattle.flow_list.specs.Strip.{Strip, lay_all}
-use Rattle.flow_list.specs.Column.{Column, Inner, Step, Place, step_at, steps, strip_behind, steps_from, start_strip, is_forced, column, unstopped, column_to, last_place, no_place, rows_among}
-use Rattle.flow_list.specs.Rows.{fits, most_columns, reach, size_in}
+use Rattle.flow_list.specs.Tokens.{Token, item_number}
+use Rattle.flow_list.specs.Column.{Column, Inner, Step, Place, steps_from, column, unstopped, column_to, no_place, rows_among}
+use Rattle.flow_list.specs.Rows.{fits, reach, size_in}
 use Rattle.flow_laws.specs.LeastHeight.{IsLeast, EndsAtForced, SizesAreLeast}
 use Rattle.flow_list.proofs.Fitting.{EndBefore, steps_from-end, reach-endless, fits-past, size-least}
 use Rattle.flow_list.proofs.LeastHeight.{IsLeast as Least, least-unique}

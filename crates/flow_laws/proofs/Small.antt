@@ -8,13 +8,13 @@ use Rattle.flow_data.specs.declared.data.Flow.{Flow}
 use Rattle.flow_data.specs.declared.data.FlowsData.{FlowsData}
 use Rattle.flow_data.specs.declared.data.Item.{Item}
 use Rattle.flow_data.specs.declared.data.Item.TheVariants.{Atom, Row}
-use Rattle.flow_data.specs.Flows.{box_of, row_of, flow_in, item_of, seam_of, row_in, rows_in, no_row, no_flow, atom_height, boxes_in, open_at}
+use Rattle.flow_data.specs.Flows.{box_of, row_of, flow_of, flow_in, item_of, seam_of, row_in, rows_in, no_row, no_flow, atom_height, boxes_in, open_at}
 use Rattle.flow_list.specs.ClonedEdges.{open_across, bottoms}
-use Rattle.flow_data.specs.Soundness.{IsSound, IsSoundFlow, NestsAtMost, flow_height}
+use Rattle.flow_data.specs.Soundness.{IsSound, IsSoundFlow, flow_height}
 use Rattle.flow_list.specs.Tokens.{Token, row_start, item_number, within}
 use Rattle.flow_list.specs.Strip.{Strip, strip_at, put, lay_all}
 use Rattle.flow_list.specs.Column.{Filled, Inner, Step, Place, Cut, cut, longer, height_of, strip_behind, steps, steps_from, start_strip, is_forced, tail_from, inside, inside_place, alone_place, whole_place, is_cut, room, best, choose, seams_before, seams_between, last_place, no_place, fill_in_room, column, endless_column, column_up_to, avoids_at, unforced_start, loose_need}
-use Rattle.flow_list.specs.Rows.{heights_from, amounts_in, reach, size_in, rows_to, all_rows}
+use Rattle.flow_list.specs.Rows.{heights_from, amounts_in, reach, rows_to, all_rows}
 use Rattle.flow_list.specs.RowHeights.{size_of, column_within}
 use Rattle.flow_laws.specs.Bounds.{NeedsRise, NeedsAreSmall, NeedsAndBounds}
 use Rattle.flow_list.proofs.StripBounds.{put_le, lay_all_le}
@@ -23,8 +23,8 @@ use Rattle.flow_list.proofs.Fitting.{open_across-le, first-amounts, amounts-drop
 use Rattle.flow_laws.proofs.Needs.{AreGoodSteps, column-steps}
 use Rattle.flow_laws.proofs.Places.{in-items}
 use Rattle.flow_laws.proofs.StopStays.{cut-room}
-use Rattle.flow_laws.proofs.SoundRows.{good-rows, nests-by-number}
-use Rattle.flow_laws.proofs.Totals.{sum-both, total_within, total-more, total-same, total-le}
+use Rattle.flow_laws.proofs.SoundRows.{nests-by-number}
+use Rattle.flow_laws.proofs.Totals.{sum-both, total_within, row_total, total-more, total-same, total-le}
 
 -- ---- the reach is no more than the total
 
@@ -54,61 +54,38 @@ reach-total inner d f total q all =
     let b = sum-both (λ b. (box_of d b).top) (λ b. (box_of d b).bottom) (boxes_in f) in
     omega arith
 
-module _ (d : FlowsData) (sound : IsSound d) where
+module _ (d : FlowsData) where
   -- the size of a row is no more than all that stands in it
-  size-total : (n m r : ℕ) (q : Token) → NestsAtMost d n r → n ≤ suc m → size_in (rows_to d m) d r q ≤ total_within d sound n r
+  size-total : (m r : ℕ) (q : Token) → (rows_to d m).size r q ≤ row_total d m r
   unfolding rows_to
-  size-total zero m r q nests le = absurd nests
-  size-total (suc n) zero r q nests le =
-      let none : n ≡ 0 = omega arith in
-      let a = size-reach (rows_to d zero) d r q in
-      let b = reach-total (rows_to d zero) d (flow_in d r) (total_within d sound n) q (λ k e lt p. omega arith) in
-      let c = total-more d sound n r in
-      omega arith
-  size-total (suc n) (suc m) r q nests le =
-      let a = size-reach (rows_to d (suc m)) d r q in
-      let b = reach-total (rows_to d (suc m)) d (flow_in d r) (total_within d sound n) q (λ k e lt p. size-total n m (get_or (rows_in (flow_in d r)) k e) p (nests k e lt) (omega arith)) in
-      let c = total-more d sound n r in
+  size-total zero r q = omega arith
+  size-total (suc m) r q =
+      let a = size-reach (rows_to d m) d r q in
+      let b = reach-total (rows_to d m) d (flow_in d r) (row_total d m) q (λ k e lt p. size-total m (get_or (rows_in (flow_in d r)) k e) p) in
+      let c = total-more d m (row_of d r).flow in
       omega arith
 
-  module _ (r : ℕ) (lt : r < length d.rows) where
-    nests : NestsAtMost d (length d.rows - r) r
-    nests = nests-by-number d sound (length d.rows - r) r lt (omega arith)
+  -- and what a column of a flow may reach no more than all that stands in the flow
+  pub all-total : (m f : ℕ) (t : Token) → reach (rows_to d m) d (flow_of d f) t ≤ total_within d (suc m) f
+  all-total m f t =
+      let b = reach-total (rows_to d m) d (flow_of d f) (row_total d m) t (λ k e lt p. size-total m (get_or (rows_in (flow_of d f)) k e) p) in
+      let c = total-more d m f in
+      omega arith
 
-    total-small : (n : ℕ) → length d.rows - r ≤ n → total_within d sound n r < 2 ^ 60
-    total-small n le =
-        let same = total-same d sound (length d.rows - r) r n (length d.rows) nests le (omega arith) in
-        let whole = total-le d sound r lt in
-        let small = sound.heights in
-        omega arith
+module _ (d : FlowsData) (sound : IsSound d) (r : ℕ) (lt : r < length d.rows) where
+  reach-small : (t : Token) → reach (all_rows d) d (flow_in d r) t < 2 ^ 60
+  unfolding all_rows
+  reach-small t =
+      let nests = nests-by-number d sound (length d.rows - r) r lt (omega arith) in
+      let reached = all-total d (length d.rows) (row_of d r).flow t in
+      let same = total-same d sound (length d.rows - r) r (suc (length d.rows)) (length d.rows) nests (omega arith) (omega arith) in
+      let whole = total-le d sound r lt in
+      let small = sound.heights in
+      omega arith
 
-    size-small : (q : Token) → size_of d r q < 2 ^ 60
-    unfolding size_of all_rows
-    size-small q =
-        let a = size-total (length d.rows - r) (length d.rows) r q nests (omega arith) in
-        let b = total-small (length d.rows - r) (omega arith) in
-        omega arith
-
-    -- what is told of the size of a row within
-    told-size : (n s : ℕ) (p : Token) → 0 < n → length d.rows - s ≤ n → s < length d.rows → (rows_to d n).size s p ≤ total_within d sound n s
-    unfolding rows_to
-    told-size zero s p some le in_rows = absurd (omega arith)
-    told-size (suc n) s p some le in_rows =
-        let a = size-total (length d.rows - s) n s p (nests-by-number d sound (length d.rows - s) s in_rows (omega arith)) le in
-        let b = total-same d sound (length d.rows - s) s (length d.rows - s) (suc n) (nests-by-number d sound (length d.rows - s) s in_rows (omega arith)) (omega arith) le in
-        omega arith
-
-    rows-told : All (λ s. (p : Token) → (rows_to d (length d.rows)).size s p ≤ total_within d sound (length d.rows) s) (rows_in (flow_in d r))
-    rows-told k e l p = told-size (length d.rows) (get_or (rows_in (flow_in d r)) k e) p (omega arith) (omega arith) (good-rows d sound r lt k e l).0
-
-    -- all that a column in the row may reach
-    reach-small : (t : Token) → reach (all_rows d) d (flow_in d r) t < 2 ^ 60
-    unfolding all_rows
-    reach-small t =
-        let a = reach-total (rows_to d (length d.rows)) d (flow_in d r) (total_within d sound (length d.rows)) t rows-told in
-        let c = total-more d sound (length d.rows) r in
-        let b = total-small (suc (length d.rows)) (omega arith) in
-        omega arith
+  size-small : (q : Token) → size_of d r q < 2 ^ 60
+  unfolding size_of
+  size-small q = let a = size-reach (all_rows d) d r q in let b = reach-small q in omega arith
 
 -- ---- needs, places and extents are no more than the reach
 

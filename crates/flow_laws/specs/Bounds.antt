@@ -24,7 +24,7 @@ pub record NeedsAndBounds (d : FlowsData) (r : ℕ) : Type 0 where
   -- what the items of a column need never falls from one to the next
   pub needs_never_fall : (t : Token) → IsPlaceBefore d (flow_in d r) t → NeedsRise 0 (steps_from (all_rows d) d (flow_in d r) t)
   pub needs_are_small : (t : Token) → IsPlaceBefore d (flow_in d r) t → NeedsAreSmall (steps_from (all_rows d) d (flow_in d r) t)
-  -- so does each item after an unforced break
+  -- nor is what an item needs after an unforced break 2^60 or more
   pub loose_needs_are_small : (k : ℕ) → k < length (flow_in d r).items → loose_need (all_rows d) d (flow_in d r) k < 2 ^ 60
   pub sizes_are_small : (q : Token) → size_of d r q < 2 ^ 60
   -- how far a column reaches, at a height or without end

@@ -19,7 +19,6 @@ use Rattle.flow_list.specs.Column.{is_forced, Column, Inner, Step, Place, cut, s
 use Rattle.flow_list.specs.Rows.{columns_by, columns, fails, reach_end, forced_above, most_columns, fits, heights_from, amounts_in, least, reach, size_in}
 use Rattle.flow_data.proofs.BoxSums.{filter-le, open_at-le}
 use Rattle.flow_list.proofs.StripBounds.{put_le, lay_all_le}
-use Rattle.flow_list.proofs.Walk.{behind}
 use Rattle.flow_list.proofs.LeastHeight.{IsLeast, least-is}
 
 -- ---- what is open in a flow has no more cloned edges than all its boxes
