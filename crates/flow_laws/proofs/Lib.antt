@@ -1,4 +1,5 @@
 mod Advance
+mod BoundsAbove
 mod DepthSame
 mod Descent
 mod Exists
@@ -9,6 +10,7 @@ pub mod LaidSums
 mod Laying
 pub mod Needs
 pub mod PlacedSums
+mod Places
 mod Rejecting
 mod RejectingBounds
 mod RejectingRanges
@@ -17,6 +19,8 @@ pub mod RowHeightBounds
 mod RowsAdvance
 mod RowsStay
 pub mod Small
+mod SoundRows
+mod StackSums
 mod StopStays
 mod Totals
 mod TreeBounds
