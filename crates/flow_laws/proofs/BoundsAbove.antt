@@ -1,17 +1,17 @@
 -- The heights at which a column may change are all above its own.
-use Rattle.std.proofs.Common.{◌≡◌, ℕ, zero, suc, ◌+◌, ◌<◌, ◌≤◌, Bool, true, false, cond, ◌&&◌, List, [], ◌∷◌, ◌++◌, map, Option, Some, None, refl, arith}
+use Rattle.std.proofs.Common.{◌≡◌, ℕ, zero, suc, ◌+◌, ◌<◌, ◌≤◌, Bool, true, false, cond, ◌&&◌, List, [], ◌∷◌, ◌++◌, map, length, Option, Some, None, refl, arith}
 use Rattle.std.specs.Prelude.{nat_lt}
-use Rattle.std.specs.List.{flat_map}
 use Rattle.std.proofs.lemmas.Bool.Decides.{nat_tests}
 use Rattle.flow_data.specs.declared.data.Flow.{Flow}
 use Rattle.flow_data.specs.declared.data.FlowsData.{FlowsData}
 use Rattle.flow_data.specs.Flows.{row_of, flow_in}
 use Rattle.flow_list.specs.Tokens.{Token, is_end}
 use Rattle.flow_list.specs.Column.{Column, Inner, Step, bounds_at, cut, longer, fill_in_room, room, is_cut, column, column_up_to, steps_from, avoids_at}
-use Rattle.flow_list.specs.Rows.{columns, columns_by, to_overflow, fill_in, rows_to}
+use Rattle.flow_list.specs.Rows.{columns, columns_by, fails, most_columns, up_to, fill_in, rows_to, all_rows}
+use Rattle.flow_list.specs.Ranges.{judged, bounds_of}
 use Rattle.flow_laws.specs.Constant.{IsBelowEach}
 use Rattle.flow_laws.proofs.FillEnds.{OfStop}
-use Rattle.flow_laws.proofs.StopStays.{above-place, cut-from, cut-room}
+use Rattle.flow_laws.proofs.StopStays.{IsBelowEach-append, above-place, cut-from, cut-room}
 
 below-append : (h : ℕ) (xs ys : List ℕ) → IsBelowEach h xs → IsBelowEach h ys → IsBelowEach h (xs ++ ys)
 below-append h [] ys a b = b
@@ -62,22 +62,38 @@ module _ (inner : Inner) (above : FillsAbove inner) where
   unfolding column
   column-above d f t h = up_to-above (avoids_at d f) h (cut h (steps_from inner d f t)).before (cut h (steps_from inner d f t)).stop (stop-high h (steps_from inner d f t))
 
-  columns-above : (d : FlowsData) (f : Flow) (h n : ℕ) (t : Token) → IsBelowEach h (flat_map (λ (c : Column). c.bounds) (to_overflow (columns inner d f n t h)))
+  -- so are those of columns one after another
+  pub columns-above : (d : FlowsData) (f : Flow) (n : ℕ) (t : Token) (h : ℕ) → IsBelowEach h (bounds_of (columns inner d f n t h))
   unfolding columns_by
-  columns-above d f h zero t = tt
-  columns-above d f h (suc n) t = go (is_end f t) (columns-above d f h n (column inner d f t h).end)
+  columns-above d f zero t h = tt
+  columns-above d f (suc n) t h = go (is_end f t) (columns-above d f n (column inner d f t h).end h)
     where
-      go : (b : Bool) → IsBelowEach h (flat_map (λ (c : Column). c.bounds) (to_overflow (columns inner d f n (column inner d f t h).end h))) →
-          IsBelowEach h (flat_map (λ (c : Column). c.bounds) (to_overflow (elim b [ true ↦ [] | false ↦ column inner d f t h ∷ columns inner d f n (column inner d f t h).end h ])))
+      go : (b : Bool) → IsBelowEach h (bounds_of (columns inner d f n (column inner d f t h).end h)) →
+          IsBelowEach h (bounds_of (elim b [ true ↦ [] | false ↦ column inner d f t h ∷ columns inner d f n (column inner d f t h).end h ]))
       go true rest = tt
-      go false rest = below-append h (column inner d f t h).bounds _ (column-above d f t h) (last (column inner d f t h).overflow)
-        where
-          last : (o : Bool) → IsBelowEach h (flat_map (λ (c : Column). c.bounds) (cond o [] (to_overflow (columns inner d f n (column inner d f t h).end h))))
-          last true = tt
-          last false = rest
+      go false rest = below-append h (column inner d f t h).bounds _ (column-above d f t h) rest
+
+-- and those of the first of them
+front-above : (stops : Column → Bool) (h : ℕ) (cs : List Column) → IsBelowEach h (bounds_of cs) → IsBelowEach h (bounds_of (up_to stops cs))
+front-above stops h [] b = tt
+front-above stops h (c ∷ cs) b =
+    let parts = IsBelowEach-append h c.bounds (bounds_of cs) b in
+    below-append h c.bounds _ parts.0 (go (stops c) (front-above stops h cs parts.1))
+  where
+    go : (x : Bool) → IsBelowEach h (bounds_of (up_to stops cs)) → IsBelowEach h (bounds_of (cond x [] (up_to stops cs)))
+    go true rest = tt
+    go false rest = rest
 
 -- so at each depth
 pub rows_to-above : (d : FlowsData) (depth : ℕ) → FillsAbove (rows_to d depth)
 unfolding rows_to fill_in
 rows_to-above d zero = λ r q h. tt
-rows_to-above d (suc depth) = λ r q h. columns-above (rows_to d depth) (rows_to-above d depth) d (flow_in d r) h (row_of d r).n q
+rows_to-above d (suc depth) = λ r q h.
+    front-above (λ c. c.overflow) h (columns (rows_to d depth) d (flow_in d r) (row_of d r).n q h) (columns-above (rows_to d depth) (rows_to-above d depth) d (flow_in d r) (row_of d r).n q h)
+
+-- and so of the columns that are judged
+pub judged-above : (d : FlowsData) (r : ℕ) (q : Token) (h : ℕ) → IsBelowEach h (bounds_of (judged (all_rows d) d r q h))
+unfolding judged all_rows
+judged-above d r q h =
+    let n = most_columns (row_of d r).n (flow_in d r) q in
+    front-above fails h (columns (rows_to d (length d.rows)) d (flow_in d r) n q h) (columns-above (rows_to d (length d.rows)) (rows_to-above d (length d.rows)) d (flow_in d r) n q h)

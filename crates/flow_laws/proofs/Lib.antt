@@ -12,7 +12,6 @@ pub mod Needs
 pub mod PlacedSums
 mod Places
 mod Rejecting
-mod RejectingBounds
 mod RejectingRanges
 mod Rejects
 pub mod RowHeightBounds

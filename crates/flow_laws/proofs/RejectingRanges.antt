@@ -22,7 +22,7 @@ use Rattle.flow_laws.specs.Constant.{IsBelowEach}
 use Rattle.flow_laws.specs.Rejection.{TallAndAreaReject}
 use Rattle.flow_laws.specs.Rejecting.{FollowOn, told_of, ranged_to, RangesAccount}
 use Rattle.flow_laws.proofs.Rejecting.{fails-unfit, leaves-unfit, judged-fits, range-rejects, unfit-to}
-use Rattle.flow_laws.proofs.RejectingBounds.{judged-rise}
+use Rattle.flow_laws.proofs.BoundsAbove.{judged-above}
 
 -- ---- the reason of columns
 
@@ -314,7 +314,7 @@ module _ (d : FlowsData) (r : ℕ) (q : Token) (law : TallAndAreaReject d r q) w
   step-accounts top low reason past le j high is rest lines told again =
       let bs = bounds_of (judged (all_rows d) d r q low) in
       let none = reason-unfit low reason j in
-      let above : low < least_bound top bs = least-above top bs low past (judged-rise d r q low) (some-bound low none le bs refl) in
+      let above : low < least_bound top bs = least-above top bs low past (judged-above d r q low) (some-bound low none le bs refl) in
       let lt : low < high = omega arith in
       let bounds : All (λ b. high ≤ b) bs = rw is (least-of-each top bs) in
       let rejects = reason-rejects low high reason j bounds in
