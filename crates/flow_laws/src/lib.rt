@@ -9,6 +9,7 @@ ghost use Rattle.flow_list.specs.Column.{Inner};
 ghost use Rattle.flow_laws.specs.Bounds.{NeedsAndBounds};
 ghost use Rattle.flow_laws.specs.Constant.{BreaksAreConstant};
 ghost use Rattle.flow_laws.specs.Depth.{DepthChangesNothing};
+ghost use Rattle.flow_laws.specs.Holding.{FragmentsHoldEachItem};
 ghost use Rattle.flow_laws.specs.LeastHeight.{SizesAreLeast};
 ghost use Rattle.flow_laws.specs.Progress.{ColumnsAdvance, IsPlaceBefore};
 ghost use Rattle.flow_laws.specs.Rectangles.{RectanglesAreBounded};
@@ -40,6 +41,13 @@ pub fn depth_changes_nothing()
 /// whole content of a row end, and they hold each atom once, in order, also those in inner rows that are cut.
 pub fn columns_advance()
     ensures { (d : FlowsData) → IsSound d → (r : ℕ) → r < length d.rows → ColumnsAdvance d r }
+{}
+
+/// In sound flows the tree of a column holds just the atoms from the column's place to its end, each once and in order, also those in inner
+/// rows that are cut. So all columns of a row hold each of its atoms once. The items in such a tree are those from the place to the end, a
+/// row that is cut with them, and no row stands in it twice.
+pub fn fragments_hold_each_item()
+    ensures { (d : FlowsData) → IsSound d → (r : ℕ) → r < length d.rows → FragmentsHoldEachItem d r }
 {}
 
 /// In sound flows no height fits that is below what an atom needs after an unforced break, nor one at which the heights of the
