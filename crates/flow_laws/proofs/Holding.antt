@@ -1,5 +1,5 @@
 -- What stands in the trees of columns, of all columns of a row, and of a row that stands whole.
-use Rattle.std.proofs.Common.{◌≡◌, ℕ, zero, suc, ◌+◌, ◌-◌, ◌<◌, ◌≤◌, true, false, List, [], ◌∷◌, ◌++◌, length, take, drop, Option, Some, None, refl, sym, subst, ◌∙◌, ap, arith, ◌⊎◌, inl, inr, length-append}
+use Rattle.std.proofs.Common.{◌≡◌, ℕ, suc, ◌-◌, ◌<◌, ◌≤◌, false, List, [], ◌∷◌, ◌++◌, length, take, Option, Some, None, refl, sym, subst, ◌∙◌, ap, arith, ◌⊎◌, inl, inr, length-append}
 use Rattle.std.specs.Prelude.{AllPairs, ◌≢◌, flat_map}
 use Rattle.std.proofs.lemmas.Bool.{cases_lt}
 use Rattle.std.proofs.lemmas.Bool.Decides.{nat_tests}
@@ -11,16 +11,16 @@ use Rattle.flow_data.specs.declared.data.Item.{Item}
 use Rattle.flow_data.specs.declared.data.Item.TheVariants.{Row}
 use Rattle.flow_data.specs.Flows.{row_of, flow_in, item_of}
 use Rattle.flow_data.specs.Soundness.{IsSound}
-use Rattle.flow_list.specs.Tokens.{Token, row_start, item_number, within, is_end}
+use Rattle.flow_list.specs.Tokens.{Token, row_start, item_number, within}
 use Rattle.flow_list.specs.Column.{Column}
-use Rattle.flow_list.specs.Rows.{columns_by, left_in, rows_to, all_rows}
+use Rattle.flow_list.specs.Rows.{columns_by, end_of, rows_to, all_rows}
 use Rattle.flow_list.specs.RowHeights.{column_within, row_columns}
 use Rattle.flow_list.specs.Fragments.{column_made, column_fragment, fragments_from, row_fragments}
 use Rattle.flow_laws.specs.Progress.{IsPlaceBefore, AtomAt, contents_to, atoms_from, atoms_between}
 use Rattle.flow_laws.specs.Holding.{atoms_in_tree, atoms_in_trees, Part, parts_in_tree, items_before, parts_between, row_of_part, FragmentsHoldEachItem}
 use Rattle.flow_laws.proofs.HoldingEnds.{taken}
 use Rattle.flow_laws.proofs.HoldingColumns.{in-items, RowHolds, ItemHolds, holds-at, place-at, column-holds}
-use Rattle.flow_laws.proofs.HoldingRows.{IsReached, RowsHold, rows-hold, all-hold}
+use Rattle.flow_laws.proofs.HoldingRows.{IsReached, RowsHold, rows-hold, columns-hold, all-hold}
 use Rattle.flow_laws.proofs.HoldingParts.{column-parts, rows-apart}
 
 made-within : (d : FlowsData) (f : Flow) (h : Option ℕ) (t : Token) → column_made (all_rows d) d f h t ≡ column_within d f h t
@@ -51,6 +51,13 @@ module _ (d : FlowsData) (sound : IsSound d) (r : ℕ) (lt : r < length d.rows) 
       go held u e =
           let n : length (atoms_from d r t) - length (atoms_from d r u) ≡ length held = omega (arith, ap length e, length-append held (atoms_from d r u)) in
           sym (ap (λ k. take k (atoms_from d r t)) n ∙ ap (take (length held)) (sym e) ∙ take-append_seam held (atoms_from d r u))
+
+  columns-atoms : (n : ℕ) (t : Token) (h : Option ℕ) → IsPlaceBefore d (flow_in d r) t →
+      atoms_in_trees r (plain_trees (fragments_from (column_fragment d r h) t (columns_by (column_within d (flow_in d r) h) (flow_in d r) n t)))
+      ++ atoms_from d r (end_of t (columns_by (column_within d (flow_in d r) h) (flow_in d r) n t)) ≡ atoms_from d r t
+  unfolding column_fragment all_rows atoms_from contents_to
+  columns-atoms n t None place = columns-hold d (rows_to d (length d.rows)) (contents_to d (length d.rows)) (row_fragments d (length d.rows)) r (flow_in d r) rows-here None (row_of d r).flow n t (inr place)
+  columns-atoms n t (Some h) place = columns-hold d (rows_to d (length d.rows)) (contents_to d (length d.rows)) (row_fragments d (length d.rows)) r (flow_in d r) rows-here (Some h) (row_of d r).flow n t (inr place)
 
   all-atoms : (h : Option ℕ) → atoms_in_trees r (plain_trees (fragments_from (column_fragment d r h) row_start (row_columns d r h))) ≡ atoms_from d r row_start
   unfolding column_fragment row_columns all_rows atoms_from contents_to
@@ -93,6 +100,7 @@ pub fragments-hold : (d : FlowsData) → IsSound d → (r : ℕ) → r < length 
 fragments-hold d sound r lt = record {
   column_atoms = column-atoms d sound r lt;
   atoms_to_end = atoms-to-end d sound r lt;
+  columns_atoms = columns-atoms d sound r lt;
   all_atoms = all-atoms d sound r lt;
   row_atoms = row-atoms d sound r lt;
   column_parts = parts-are d sound r lt;

@@ -11,19 +11,15 @@ use Rattle.flow_data.specs.declared.data.Item.{Item}
 use Rattle.flow_data.specs.declared.data.Item.TheVariants.{Atom, Row}
 use Rattle.flow_data.specs.Flows.{flow_in, item_of, no_item}
 use Rattle.flow_list.specs.Tokens.{Token, row_start, item_number, within, is_end}
-use Rattle.flow_list.specs.Column.{Column, Inner, Step, room}
-use Rattle.flow_list.specs.Rows.{columns_by, end_of, item_left, items_left, left_in}
-use Rattle.flow_list.specs.Placing.{RowLaid, Laid}
-use Rattle.flow_list.specs.Fragments.{laid_start, laid_to, stop_of, column_made, fragment_of, fragments_from}
+use Rattle.flow_list.specs.Column.{Inner, Step, room}
+use Rattle.flow_list.specs.Rows.{item_left, items_left, left_in}
+use Rattle.flow_list.specs.Placing.{RowLaid}
+use Rattle.flow_list.specs.Fragments.{laid_start, laid_to, stop_of, column_made, fragment_of}
 use Rattle.flow_laws.specs.Progress.{IsPlaceBefore, AtomAt, Contents, item_atoms, atoms_of_items, atoms_in}
 use Rattle.flow_laws.specs.Holding.{atoms_in_tree, atoms_in_trees}
 use Rattle.flow_laws.proofs.HoldingTrees.{Reads, column-reads}
-use Rattle.flow_laws.proofs.HoldingEnds.{taken_at, taken, EndsAtSeam, EndsInRow, EndsFor, column-ends}
-use Rattle.flow_laws.proofs.HoldingLaid.{of_item, of_items, counted, items_to, filled_at, seam-laid, row-laid}
-
-pub taken-start : (n : ℕ) → taken_at n row_start ≡ row_start
-taken-start zero = refl
-taken-start (suc n) = refl
+use Rattle.flow_laws.proofs.HoldingEnds.{taken_at, taken-start, taken, EndsAtSeam, EndsInRow, EndsFor, column-ends}
+use Rattle.flow_laws.proofs.HoldingLaid.{of_item, of_items, counted, items_to, seam-laid, row-laid}
 
 pub in-items : (d : FlowsData) (f : Flow) (t : Token) → IsPlaceBefore d f t → item_number t < length f.items
 in-items d f [] place = absurd place

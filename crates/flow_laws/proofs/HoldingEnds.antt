@@ -1,5 +1,5 @@
 -- Where a column ends, and what that says of the row at its stop: at a seam where no row is filled, or in or behind a row that is filled.
-use Rattle.std.proofs.Common.{◌≡◌, ℕ, zero, suc, ◌+◌, ◌-◌, ◌<◌, ◌≤◌, ◌==◌, Bool, true, false, cond, not, ◌&&◌, List, [], ◌∷◌, ◌++◌, length, Option, Some, None, refl, sym, subst, ◌∙◌, ap, arith, ◌⊎◌, inl, inr}
+use Rattle.std.proofs.Common.{◌≡◌, ℕ, zero, suc, ◌+◌, ◌-◌, ◌<◌, ◌≤◌, ◌==◌, Bool, true, false, cond, not, ◌&&◌, List, [], ◌∷◌, ◌++◌, length, Option, Some, None, refl, sym, subst, ap, arith, ◌⊎◌, inl, inr}
 use Rattle.std.specs.Prelude.{nat_lt, nat_le, is_some}
 use Rattle.std.proofs.lemmas.Bool.Decides.{nat_tests}
 use Rattle.std.specs.List.{AllByRecursion as Each}
@@ -10,7 +10,7 @@ use Rattle.flow_data.specs.declared.data.Item.TheVariants.{Atom, Row}
 use Rattle.flow_data.specs.Flows.{item_of, seam_of}
 use Rattle.flow_list.specs.Tokens.{Token, row_start, item_number, within}
 use Rattle.flow_list.specs.Strip.{Strip, lay_all}
-use Rattle.flow_list.specs.Column.{Filled, Inner, Step, Place, Cut, cut, longer, row_from, strip_behind, steps, steps_from, start_strip, is_forced, inside, inside_place, alone_place, whole_place, is_cut, room, best, choose, seams_before, seams_between, last_place, no_place, fill_in_room, column, endless_column, unstopped, column_up_to, column_over, avoids_at}
+use Rattle.flow_list.specs.Column.{Inner, Step, Place, cut, longer, row_from, strip_behind, steps, steps_from, start_strip, is_forced, inside, inside_place, alone_place, whole_place, is_cut, room, best, choose, seams_before, seams_between, last_place, fill_in_room, column, endless_column, unstopped, column_up_to, column_over, avoids_at}
 use Rattle.flow_list.specs.Fragments.{fills_item, stop_of, column_made}
 use Rattle.flow_list.proofs.PlaceBounds.{Each-append}
 use Rattle.flow_laws.proofs.StopStays.{cut-room}
@@ -19,6 +19,10 @@ use Rattle.flow_laws.proofs.StopStays.{cut-room}
 abbrev pub taken_at : ℕ → Token → Token
 taken_at zero q = q
 taken_at (suc n) q = row_start
+
+pub taken-start : (n : ℕ) → taken_at n row_start ≡ row_start
+taken-start zero = refl
+taken-start (suc n) = refl
 
 none-and : (a b c : Bool) → b ≡ false → ((a && b) && c) ≡ false
 none-and true true c e = cc

@@ -1,5 +1,5 @@
 -- The items in the tree of a column are those from its place to its end, and no row stands there twice.
-use Rattle.std.proofs.Common.{◌≡◌, ℕ, zero, suc, ◌+◌, ◌-◌, ◌<◌, ◌≤◌, ◌==◌, Bool, true, false, cond, List, [], ◌∷◌, ◌++◌, length, take, drop, get_or, Option, Some, None, refl, sym, subst, ◌∙◌, ap, arith, sum_by, ◌⊎◌, inl, inr}
+use Rattle.std.proofs.Common.{◌≡◌, ℕ, zero, suc, ◌+◌, ◌-◌, ◌<◌, ◌≤◌, ◌==◌, Bool, true, false, cond, List, [], ◌∷◌, ◌++◌, length, take, drop, get_or, Option, Some, None, refl, sym, subst, ◌∙◌, ap, arith, sum_by, inl, inr}
 use Rattle.std.specs.Prelude.{All, AllPairs, ◌≢◌}
 use Rattle.std.specs.List.{flat_map}
 use Rattle.std.proofs.lemmas.Bool.Decides.{nat_tests}
@@ -8,23 +8,22 @@ use Rattle.std.proofs.lemmas.List.Elements.{All-take, All-drop}
 use Rattle.std.proofs.lemmas.List.Kept.{AllPairs-cons}
 use Rattle.std.proofs.lemmas.List.Concat.{flat_map-append}
 use Rattle.std.proofs.lemmas.List.Sums.{sum_by-append, get_or-le-sum_by}
-use Rattle.mc_base.specs.PlainTree.{PlainTree, plain_trees}
+use Rattle.mc_base.specs.PlainTree.{PlainTree}
 use Rattle.flow_data.specs.declared.data.Flow.{Flow}
 use Rattle.flow_data.specs.declared.data.FlowsData.{FlowsData}
 use Rattle.flow_data.specs.declared.data.Item.{Item}
 use Rattle.flow_data.specs.declared.data.Item.TheVariants.{Atom, Row}
-use Rattle.flow_data.specs.Flows.{row_of, flow_of, flow_in, item_of, no_item, no_row, no_flow, row_in, rows_in}
+use Rattle.flow_data.specs.Flows.{row_of, flow_in, item_of, no_item, no_row, no_flow, row_in, rows_in}
 use Rattle.flow_data.specs.Soundness.{IsSound, IsSoundRow, IsSoundFlow, IsSoundItem, count_of}
 use Rattle.flow_list.specs.Tokens.{Token, row_start, item_number, within}
 use Rattle.flow_list.specs.Column.{Inner, Step, room}
 use Rattle.flow_list.specs.Placing.{RowLaid}
 use Rattle.flow_list.specs.Fragments.{laid_start, laid_to, stop_of, column_made, fragment_of}
-use Rattle.flow_laws.specs.Progress.{IsPlaceBefore}
 use Rattle.flow_laws.specs.Holding.{Part, atom_part, row_part, parts_in_tree, parts_in_trees, part_of, parts_of, items_before, parts_between, row_of_part}
 use Rattle.flow_laws.proofs.RowsAdvance.{rows-in-range}
 use Rattle.flow_laws.proofs.Totals.{sum-flat, count-cons}
 use Rattle.flow_laws.proofs.HoldingTrees.{Reads, column-reads}
-use Rattle.flow_laws.proofs.HoldingEnds.{taken_at, taken, EndsAtSeam, EndsInRow, EndsFor, column-ends}
+use Rattle.flow_laws.proofs.HoldingEnds.{taken_at, taken-start, taken, EndsAtSeam, EndsInRow, EndsFor, column-ends}
 use Rattle.flow_laws.proofs.HoldingLaid.{of_items, counted, items_to, seam-laid, row-laid}
 
 abbrev own_atom : ℕ → List Part
@@ -46,10 +45,6 @@ items-are : (x : Inner) (k : ℕ) (q : Token) (items : List Item) → of_items P
 items-are x k q [] = refl
 items-are x k q (Atom height kind ∷ items) = ap (λ us. atom_part k ∷ us) (items-are x (suc k) row_start items)
 items-are x k q (Row r ∷ items) = ap (λ us. row_part r q ∷ us) (items-are x (suc k) row_start items)
-
-taken-start : (n : ℕ) → taken_at n row_start ≡ row_start
-taken-start zero = refl
-taken-start (suc n) = refl
 
 -- one item more
 one-more : (n k : ℕ) (q : Token) (items : List Item) → n < length items →

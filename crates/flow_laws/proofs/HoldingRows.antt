@@ -1,9 +1,9 @@
 -- Columns one after another hold the atoms between them, and so do the columns of rows, by how many rows stand one inside another.
-use Rattle.std.proofs.Common.{◌≡◌, ℕ, zero, suc, ◌+◌, ◌<◌, ◌≤◌, Bool, true, false, List, [], ◌∷◌, ◌++◌, length, get_or, Option, Some, None, refl, sym, subst, ◌∙◌, ap, arith, append_assoc, ◌⊎◌, inl, inr}
+use Rattle.std.proofs.Common.{◌≡◌, ℕ, zero, suc, ◌+◌, ◌<◌, ◌≤◌, Bool, true, false, List, [], ◌∷◌, ◌++◌, length, get_or, Option, Some, refl, sym, subst, ◌∙◌, ap, arith, append_assoc, ◌⊎◌, inl, inr}
 use Rattle.std.specs.Prelude.{All}
 use Rattle.std.specs.List.{AllByRecursion as Each, flat_map}
 use Rattle.std.proofs.lemmas.Bool.Decides.{nat_tests}
-use Rattle.std.proofs.lemmas.List.{append-nil, drop_all, drop_more}
+use Rattle.std.proofs.lemmas.List.{append-nil, drop_more}
 use Rattle.mc_base.specs.PlainTree.{PlainTree, plain_trees}
 use Rattle.flow_data.specs.declared.data.Flow.{Flow}
 use Rattle.flow_data.specs.declared.data.FlowsData.{FlowsData}
@@ -11,7 +11,7 @@ use Rattle.flow_data.specs.declared.data.Item.{Item}
 use Rattle.flow_data.specs.declared.data.Item.TheVariants.{Atom, Row}
 use Rattle.flow_data.specs.Flows.{row_of, flow_in, row_in, rows_in, no_item, no_row}
 use Rattle.flow_data.specs.Soundness.{IsSound}
-use Rattle.flow_list.specs.Tokens.{Token, row_start, item_number, within, is_end}
+use Rattle.flow_list.specs.Tokens.{Token, item_number, within, is_end}
 use Rattle.flow_list.specs.Column.{Column, Inner}
 use Rattle.flow_list.specs.Rows.{columns_by, end_of, items_left, left_in, fill_in, rows_to}
 use Rattle.flow_list.specs.Placing.{RowLaid}
