@@ -14,7 +14,7 @@ use Rattle.flow_list.specs.Tokens.{Token, row_start, item_number, within, is_end
 use Rattle.flow_list.specs.Column.{Inner, Step, room}
 use Rattle.flow_list.specs.Rows.{item_left, items_left, left_in}
 use Rattle.flow_list.specs.Placing.{RowLaid}
-use Rattle.flow_list.specs.Fragments.{laid_start, laid_to, stop_of, column_made, fragment_of}
+use Rattle.flow_list.specs.Fragments.{continuing, laid_start, laid_to, stop_of, column_made, fragment_of}
 use Rattle.flow_laws.specs.Progress.{IsPlaceBefore, AtomAt, Contents, item_atoms, atoms_of_items, atoms_in}
 use Rattle.flow_laws.specs.Holding.{atoms_in_tree, atoms_in_trees}
 use Rattle.flow_laws.proofs.HoldingTrees.{Reads, column-reads}
@@ -339,7 +339,7 @@ module _ (d : FlowsData) (x : Inner) (c : Contents) (columns : RowLaid → List 
       unfolding atoms_in_tree atoms_in_trees
       column-holds number h =
           ap (λ us. us ++ atoms_in c r f (column_made x d f h t).end)
-          (column-reads AtomAt own_atom own_row (atoms_in_trees r) columns reads d f t (laid_start d f t ++ laid_to x d f t h (stop_of x d f t h) (column_made x d f h t).end))
+          (column-reads AtomAt own_atom own_row (atoms_in_trees r) columns reads d (continuing f t) (laid_start d f t ++ laid_to x d f t h (stop_of x d f t h) (column_made x d f h t).end))
           ∙ ends-hold h (stop_of x d f t h) (column_made x d f h t).end (column-ends x f t d h inside)
 
       pub column-reached : (h : Option ℕ) → (is_end f (column_made x d f h t).end ≡ true) ⊎ IsPlaceBefore d f (column_made x d f h t).end

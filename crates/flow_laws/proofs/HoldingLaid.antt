@@ -16,7 +16,7 @@ use Rattle.flow_list.specs.Strip.{Strip, put, lay_all}
 use Rattle.flow_list.specs.Column.{Inner, Step, height_of, strip_behind, start_strip, room}
 use Rattle.flow_list.specs.Placing.{RowLaid, Laid, laid_edges}
 use Rattle.flow_list.specs.Fragments.{laid_item, laid_items, laid_start, laid_before, laid_filled, filled_row, strip_after, strip_filled, fills_item, laid_to}
-use Rattle.flow_laws.proofs.HoldingTrees.{of_laid, edges-none}
+use Rattle.flow_laws.proofs.HoldingTrees.{of_laid, edges-none, skip-edges}
 use Rattle.flow_laws.proofs.HoldingEnds.{EndsAtSeam, EndsInRow}
 
 module _ (X : Type 0) (of_atom : ℕ → List X) (of_row : RowLaid → List X) (x : Inner) where
@@ -33,9 +33,6 @@ module _ (X : Type 0) (of_atom : ℕ → List X) (of_row : RowLaid → List X) (
   -- what is laid counts
   abbrev pub counted : List Laid → List X
   counted xs = flat_map (of_laid X of_atom of_row) xs
-
-  skip-edges : (s : Strip) (es : List Edge) (later : List Laid) → counted (laid_edges s es ++ later) ≡ counted later
-  skip-edges s es later = flat_map-append (of_laid X of_atom of_row) (laid_edges s es) later ∙ ap (λ us. us ++ counted later) (edges-none X of_atom of_row s es)
 
   edges-last : (xs : List Laid) (s : Strip) (es : List Edge) → counted (xs ++ laid_edges s es) ≡ counted xs
   edges-last xs s es = flat_map-append (of_laid X of_atom of_row) xs (laid_edges s es) ∙ ap (λ us. counted xs ++ us) (edges-none X of_atom of_row s es) ∙ append-nil (counted xs)
@@ -57,11 +54,11 @@ module _ (X : Type 0) (of_atom : ℕ → List X) (of_row : RowLaid → List X) (
     items-laid : (s : Strip) (k : ℕ) (q : Token) (n : ℕ) → k + n ≤ length f.items → counted (laid_items x f s k q n) ≡ of_items k q (take n (drop k f.items))
     unfolding laid_items
     items-laid s k q zero le = refl
-    items-laid s k q (suc zero) le = one-laid k q (laid_edges (put s (height_of x (item_of f k) q)) (seam_of f (k + 1)).tail ++ []) zero (omega arith) (skip-edges (put s (height_of x (item_of f k) q)) (seam_of f (k + 1)).tail [])
+    items-laid s k q (suc zero) le = one-laid k q (laid_edges (put s (height_of x (item_of f k) q)) (seam_of f (k + 1)).tail ++ []) zero (omega arith) (skip-edges X of_atom of_row (put s (height_of x (item_of f k) q)) (seam_of f (k + 1)).tail [])
     items-laid s k q (suc (suc n)) le =
         let next = lay_all (strip_behind x f s k q) (seam_of f (k + 1)).head in
         one-laid k q (laid_edges (put s (height_of x (item_of f k) q)) (seam_of f (k + 1)).tail ++ (laid_edges (strip_behind x f s k q) (seam_of f (k + 1)).head ++ laid_items x f next (k + 1) row_start (suc n))) (suc n) (omega arith)
-        (skip-edges (put s (height_of x (item_of f k) q)) (seam_of f (k + 1)).tail _ ∙ skip-edges (strip_behind x f s k q) (seam_of f (k + 1)).head _ ∙ items-laid next (k + 1) row_start (suc n) (omega arith))
+        (skip-edges X of_atom of_row (put s (height_of x (item_of f k) q)) (seam_of f (k + 1)).tail _ ∙ skip-edges X of_atom of_row (strip_behind x f s k q) (seam_of f (k + 1)).head _ ∙ items-laid next (k + 1) row_start (suc n) (omega arith))
 
     before-laid : (s : Strip) (k : ℕ) (q : Token) (n : ℕ) → k + n ≤ length f.items → counted (laid_before x f s k q n) ≡ of_items k q (take n (drop k f.items))
     before-laid s k q zero le = refl
@@ -69,7 +66,7 @@ module _ (X : Type 0) (of_atom : ℕ → List X) (of_row : RowLaid → List X) (
 
     start-laid : (d : FlowsData) (t : Token) (later : List Laid) → counted (laid_start d f t ++ later) ≡ counted later
     start-laid d [] later = refl
-    start-laid d (i ∷ []) later = skip-edges _ (seam_of f i).head later
+    start-laid d (i ∷ []) later = skip-edges X of_atom of_row _ (seam_of f i).head later
     start-laid d (i ∷ (j ∷ rest)) later = refl
 
     -- the items of the column that begins at t, up to item k

@@ -18,7 +18,7 @@ use Rattle.flow_data.specs.Soundness.{IsSound, IsSoundRow, IsSoundFlow, IsSoundI
 use Rattle.flow_list.specs.Tokens.{Token, row_start, item_number, within}
 use Rattle.flow_list.specs.Column.{Inner, Step, room}
 use Rattle.flow_list.specs.Placing.{RowLaid}
-use Rattle.flow_list.specs.Fragments.{laid_start, laid_to, stop_of, column_made, fragment_of}
+use Rattle.flow_list.specs.Fragments.{continuing, laid_start, laid_to, stop_of, column_made, fragment_of}
 use Rattle.flow_laws.specs.Holding.{Part, atom_part, row_part, parts_in_tree, parts_in_trees, part_of, parts_of, items_before, parts_between, row_of_part}
 use Rattle.flow_laws.proofs.RowsAdvance.{rows-in-range}
 use Rattle.flow_laws.proofs.Totals.{sum-flat, count-cons}
@@ -26,13 +26,13 @@ use Rattle.flow_laws.proofs.HoldingTrees.{Reads, column-reads}
 use Rattle.flow_laws.proofs.HoldingEnds.{taken_at, taken-start, taken, EndsAtSeam, EndsInRow, EndsFor, column-ends}
 use Rattle.flow_laws.proofs.HoldingLaid.{of_items, counted, items_to, seam-laid, row-laid}
 
-abbrev own_atom : ℕ → List Part
+abbrev pub own_atom : ℕ → List Part
 own_atom k = atom_part k ∷ []
 
-abbrev own_row : RowLaid → List Part
+abbrev pub own_row : RowLaid → List Part
 own_row rl = row_part rl.row rl.from ∷ []
 
-part-reads : (columns : RowLaid → List PlainTree) → Reads Part own_atom own_row parts_in_trees columns
+pub part-reads : (columns : RowLaid → List PlainTree) → Reads Part own_atom own_row parts_in_trees columns
 unfolding parts_in_trees parts_in_tree
 part-reads columns = record {
   none = refl;
@@ -113,7 +113,7 @@ module _ (d : FlowsData) (x : Inner) (columns : RowLaid → List PlainTree) (f :
   pub column-parts : Leaves → (number : ℕ) (h : Option ℕ) → parts_in_tree (fragment_of columns x d number f h t) ≡ parts_between f t (column_made x d f h t).end
   unfolding parts_in_tree parts_in_trees
   column-parts leaves number h =
-      column-reads Part own_atom own_row parts_in_trees columns (part-reads columns) d f t (laid_start d f t ++ laid_to x d f t h (stop_of x d f t h) (column_made x d f h t).end)
+      column-reads Part own_atom own_row parts_in_trees columns (part-reads columns) d (continuing f t) (laid_start d f t ++ laid_to x d f t h (stop_of x d f t h) (column_made x d f h t).end)
       ∙ ends-parts leaves h (stop_of x d f t h) (column_made x d f h t).end (column-ends x f t d h inside)
 
 -- ---- rows

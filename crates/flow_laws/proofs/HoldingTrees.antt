@@ -6,14 +6,12 @@ use Rattle.std.specs.List.{flat_map}
 use Rattle.mc_base.specs.PlainTree.{PlainTree, PlainTrees, no_trees, more_trees, plain_trees, atom as atom_tree, piece, row_piece}
 use Rattle.flow_data.specs.declared.data.Edge.{Edge}
 use Rattle.flow_data.specs.declared.data.Edge.TheVariants.{Margin, Solid, Wall, Start, End}
-use Rattle.flow_data.specs.declared.data.Flow.{Flow}
 use Rattle.flow_data.specs.declared.data.FlowsData.{FlowsData}
 use Rattle.flow_data.specs.Flows.{box_of}
 use Rattle.flow_list.specs.ClonedEdges.{tops}
-use Rattle.flow_list.specs.Tokens.{Token}
 use Rattle.flow_list.specs.Strip.{Strip, lay}
 use Rattle.flow_list.specs.Placing.{RowLaid, Laid, margin, solid, wall, opens, closes, atom, row, laid_edge, laid_edges, ends_gap, gap_of, behind_gap, gap_height, Placed, opens_at, closes_at, atom_at, row_at, placed_in_gap, gap_places, placed_item, laid_height, places_from}
-use Rattle.flow_list.specs.Fragments.{closes_here, inside_box, behind_box, bottom_of, trees_of, all_trees, continuing, continued_from, places_in}
+use Rattle.flow_list.specs.Fragments.{closes_here, inside_box, behind_box, bottom_of, trees_of, all_trees, continued_from}
 
 -- With what each atom counts and each row.
 module _ (X : Type 0) (of_atom : ℕ → List X) (of_row : RowLaid → List X) where
@@ -76,7 +74,7 @@ module _ (X : Type 0) (of_atom : ℕ → List X) (of_row : RowLaid → List X) w
       go true le = omega arith
       go false le = omega arith
 
-  pub places-keep : (n y : ℕ) (xs : List Laid) → length xs < n → flat_map of_placed (places_from n y xs) ≡ flat_map of_laid xs
+  places-keep : (n y : ℕ) (xs : List Laid) → length xs < n → flat_map of_placed (places_from n y xs) ≡ flat_map of_laid xs
   unfolding places_from
   places-keep zero y xs lt = absurd (omega arith)
   places-keep (suc n) y xs lt =
@@ -98,11 +96,12 @@ module _ (X : Type 0) (of_atom : ℕ → List X) (of_row : RowLaid → List X) w
   continued-none d y [] = refl
   continued-none d y (b ∷ boxes) = continued-none d (y + (box_of d b).top) boxes
 
-  pub column-keeps : (d : FlowsData) (f : Flow) (t : Token) (xs : List Laid) → flat_map of_placed (places_in d f t xs) ≡ flat_map of_laid xs
-  column-keeps d f t xs =
-      flat_map-append of_placed (continued_from d 0 (continuing f t)) (places_from (length xs + 1) (tops d (continuing f t)) xs)
-      ∙ ap (λ us. us ++ flat_map of_placed (places_from (length xs + 1) (tops d (continuing f t)) xs)) (continued-none d 0 (continuing f t))
-      ∙ places-keep (length xs + 1) (tops d (continuing f t)) xs (omega arith)
+  -- with the boxes that continue in the column
+  all-keep : (d : FlowsData) (boxes : List ℕ) (xs : List Laid) → flat_map of_placed (continued_from d 0 boxes ++ places_from (length xs + 1) (tops d boxes) xs) ≡ flat_map of_laid xs
+  all-keep d boxes xs =
+      flat_map-append of_placed (continued_from d 0 boxes) (places_from (length xs + 1) (tops d boxes) xs)
+      ∙ ap (λ us. us ++ flat_map of_placed (places_from (length xs + 1) (tops d boxes) xs)) (continued-none d 0 boxes)
+      ∙ places-keep (length xs + 1) (tops d boxes) xs (omega arith)
 
   -- ---- from what is placed to trees
 
@@ -141,7 +140,7 @@ module _ (X : Type 0) (of_atom : ℕ → List X) (of_row : RowLaid → List X) w
       go true le = omega arith
       go false le = omega arith
 
-  pub trees-keep : (read : PlainTrees → List X) (columns : RowLaid → List PlainTree) → Reads read columns → (n : ℕ) (ps : List Placed) → length ps ≤ n → read (plain_trees (trees_of columns n ps)) ≡ flat_map of_placed ps
+  trees-keep : (read : PlainTrees → List X) (columns : RowLaid → List PlainTree) → Reads read columns → (n : ℕ) (ps : List Placed) → length ps ≤ n → read (plain_trees (trees_of columns n ps)) ≡ flat_map of_placed ps
   unfolding trees_of
   trees-keep read columns reads zero [] le = reads.none
   trees-keep read columns reads zero (p ∷ ps) le = absurd (omega arith)
@@ -158,9 +157,11 @@ module _ (X : Type 0) (of_atom : ℕ → List X) (of_row : RowLaid → List X) w
   trees-keep read columns reads (suc n) (row_at r y ∷ ps) le =
       reads.a_row r y (cond r.filled None (Some r.height)) (plain_trees (trees_of columns n ps)) ∙ ap (λ us. of_row r ++ us) (trees-keep read columns reads n ps (omega arith))
 
-  pub column-reads : (read : PlainTrees → List X) (columns : RowLaid → List PlainTree) → Reads read columns → (d : FlowsData) (f : Flow) (t : Token) (xs : List Laid) →
-      read (plain_trees (all_trees columns (places_in d f t xs))) ≡ flat_map of_laid xs
-  column-reads read columns reads d f t xs = trees-keep read columns reads (length (places_in d f t xs)) (places_in d f t xs) (omega arith) ∙ column-keeps d f t xs
+  pub column-reads : (read : PlainTrees → List X) (columns : RowLaid → List PlainTree) → Reads read columns → (d : FlowsData) (boxes : List ℕ) (xs : List Laid) →
+      read (plain_trees (all_trees columns (continued_from d 0 boxes ++ places_from (length xs + 1) (tops d boxes) xs))) ≡ flat_map of_laid xs
+  column-reads read columns reads d boxes xs =
+      let ps = continued_from d 0 boxes ++ places_from (length xs + 1) (tops d boxes) xs in
+      trees-keep read columns reads (length ps) ps (omega arith) ∙ all-keep d boxes xs
 
   -- ---- edges count nothing
 
@@ -184,3 +185,6 @@ module _ (X : Type 0) (of_atom : ℕ → List X) (of_row : RowLaid → List X) w
   edges-none s (e ∷ es) =
       flat_map-append of_laid (laid_edge s e) (laid_edges (lay s e) es)
       ∙ ap (λ us. us ++ flat_map of_laid (laid_edges (lay s e) es)) (edge-none s e) ∙ edges-none (lay s e) es
+
+  pub skip-edges : (s : Strip) (es : List Edge) (later : List Laid) → flat_map of_laid (laid_edges s es ++ later) ≡ flat_map of_laid later
+  skip-edges s es later = flat_map-append of_laid (laid_edges s es) later ∙ ap (λ us. us ++ flat_map of_laid later) (edges-none s es)

@@ -11,6 +11,7 @@ mod HoldingEnds
 mod HoldingLaid
 mod HoldingParts
 mod HoldingRows
+mod HoldingStacks
 mod HoldingTrees
 pub mod LaidSums
 mod Laying

@@ -6,11 +6,11 @@ use Rattle.flow_data.specs.declared.data.Flow.{Flow}
 use Rattle.flow_data.specs.declared.data.FlowsData.{FlowsData}
 use Rattle.flow_data.specs.declared.data.Item.{Item}
 use Rattle.flow_data.specs.declared.data.Item.TheVariants.{Atom, Row}
-use Rattle.flow_data.specs.Flows.{flow_in}
+use Rattle.flow_data.specs.Flows.{flow_of, flow_in, stack_of}
 use Rattle.flow_list.specs.Tokens.{Token, row_start, item_number, within}
 use Rattle.flow_list.specs.Rows.{columns_by, end_of}
 use Rattle.flow_list.specs.RowHeights.{column_within, row_columns}
-use Rattle.flow_list.specs.Fragments.{column_fragment, fragments_from, row_fragments}
+use Rattle.flow_list.specs.Fragments.{column_fragment, fragments_from, row_fragments, stack_fragment}
 use Rattle.flow_laws.specs.Progress.{IsPlaceBefore, AtomAt, atoms_from, atoms_between}
 
 -- ---- atoms, with those in rows within rows
@@ -93,3 +93,7 @@ pub record FragmentsHoldEachItem (d : FlowsData) (r : ℕ) : Type 0 where
       parts_in_tree (column_fragment d r h t) ≡ parts_between (flow_in d r) t (column_within d (flow_in d r) h t).end
   -- no row stands in a column's tree twice
   pub rows_once : (t : Token) (h : Option ℕ) → IsPlaceBefore d (flow_in d r) t → AllPairs (λ a b. a ≢ b) (flat_map row_of_part (parts_in_tree (column_fragment d r h t)))
+
+-- The tree of a stack holds each item of its flow once, in order, each row whole.
+abbrev pub StackHoldsEachItem : FlowsData → ℕ → Type 0
+StackHoldsEachItem d s = parts_in_tree (stack_fragment d s) ≡ parts_of 0 row_start (flow_of d (stack_of d s).flow).items
