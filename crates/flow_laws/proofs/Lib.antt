@@ -6,6 +6,14 @@ mod Exists
 mod FillEnds
 mod Held
 pub mod HeldSums
+mod Holding
+mod HoldingColumns
+mod HoldingEnds
+mod HoldingLaid
+mod HoldingParts
+mod HoldingRows
+mod HoldingStacks
+mod HoldingTrees
 pub mod LaidSums
 mod Laying
 pub mod Needs

@@ -9,6 +9,7 @@ ghost use Rattle.flow_list.specs.Column.{Inner};
 ghost use Rattle.flow_laws.specs.Bounds.{NeedsAndBounds};
 ghost use Rattle.flow_laws.specs.Constant.{BreaksAreConstant};
 ghost use Rattle.flow_laws.specs.Depth.{DepthChangesNothing};
+ghost use Rattle.flow_laws.specs.Holding.{FragmentsHoldEachItem, StackHoldsEachItem};
 ghost use Rattle.flow_laws.specs.LeastHeight.{SizesAreLeast};
 ghost use Rattle.flow_laws.specs.Progress.{ColumnsAdvance, IsPlaceBefore};
 ghost use Rattle.flow_laws.specs.Rectangles.{RectanglesAreBounded};
@@ -42,6 +43,15 @@ pub fn depth_changes_nothing()
 /// where they end once, in order, also those in inner rows that are cut.
 pub fn columns_advance()
     ensures { (d : FlowsData) → IsSound d → (r : ℕ) → r < length d.rows → ColumnsAdvance d r }
+{}
+
+/// In sound flows the tree of a column holds just the atoms from the column's place to its end, each once and in order, also those in inner
+/// rows that are cut. So the trees of columns hold the atoms up to the place where the last one ends, and those of all columns of a row all
+/// of its atoms. The items in the tree of a column are those from its place to its end, a row that is cut with them, and no row stands in
+/// it twice; those in the tree of a stack are all items of its flow.
+pub fn fragments_hold_each_item()
+    ensures columns { (d : FlowsData) → IsSound d → (r : ℕ) → r < length d.rows → FragmentsHoldEachItem d r }
+    ensures stacks { (d : FlowsData) (s : ℕ) → StackHoldsEachItem d s }
 {}
 
 /// In sound flows no height fits that is below what an atom needs after an unforced break, nor one at which the heights of the
