@@ -128,10 +128,10 @@ fn answer(alloc: Global, text: &[u8]) -> Result<List<Line>, Refusal>
     }
 }
 
-/// The lines of a flow file, of at most 2^28 bytes.
+/// The lines of a flow file, whatever its size.
 ///
-/// `Grammar` comes off the grammar, with the first fault, and `Limit` on it where a limit is passed, the first of
-/// `length`, `columns`, `nest`, `items` and `inner-items`.
+/// `Grammar` comes off the grammar, with the first fault and its byte, and `Limit` on it where a limit is passed, the first
+/// of `length`, `columns`, `nest`, `items` and `inner-items`. `NoMemory` is want of memory.
 pub fn read(alloc: Global, text: &[u8]) -> Result<List<Line>, Refusal>
     // What is read is the text's lines, and they are a flow file within its limits.
     ensures found { IfOk result (λ lines. IsRead text.now lines) }
