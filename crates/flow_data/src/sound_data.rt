@@ -30,7 +30,7 @@ const TOO_MANY: usize = 1 << 32;
 /// - Where `top` of a box isn't 0, a solid edge of this amount stands at once behind its start, and where `bottom` isn't 0,
 ///   one of that amount at once before its end.
 /// - Each flow belongs to one row or one stack, and each row to one item. The first stack is named by no atom, each
-///   other one by one atom, in a stack before it, and that atom's height is what is left of it (`Bound::Left`).
+///   other one by one atom, in a stack before it, whose height is the stack's own (`Bound::Left`).
 /// - A row has from 1 to 32 columns, and at most 2^25 units from one to the next.
 /// - A row that stands directly in another has the greater number, from 1 to 2,000 items, and is balanced. At most three
 ///   rows stand one inside another.
