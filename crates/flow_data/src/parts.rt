@@ -2,9 +2,10 @@
 
 ghost use Rattle.std.specs.Prelude.{◌≡◌};
 ghost use Rattle.flow_data.specs.Flows as parts_by_number;
-ghost use Rattle.flow_data.specs.Flows.{flow_of};
+ghost use Rattle.std.specs.Option.{option_map_or};
+ghost use Rattle.flow_data.specs.Flows.{flow_of, no_flow};
 
-use crate::data::{Bound, BoxInfo, FlowsData, Item, RowInfo, Seam, Stack};
+use crate::data::{Bound, BoxInfo, Flow, FlowsData, Item, RowInfo, Seam, Stack};
 use mc_base::Units;
 
 /// Places, widths, and all heights together are below this, in units.
@@ -12,11 +13,18 @@ pub const LENGTH_LIMIT: Units = 1 << 60;
 /// The most rows that stand one inside another.
 pub const MOST_NESTED: u32 = 3;
 
+/// The flow of a number.
+fn flow_at(parts: &FlowsData, flow: u32) -> Option<&Flow>
+    ensures { option_map_or (λ found. found.now) result no_flow ≡ flow_of parts.now flow }
+{
+    parts.flows.as_slice().get(flow as usize)
+}
+
 /// The items of a flow.
 pub fn items_of(parts: &FlowsData, flow: u32) -> &[Item]
     ensures { result.now ≡ (flow_of parts.now flow).items }
 {
-    match parts.flows.as_slice().get(flow as usize) {
+    match flow_at(parts, flow) {
         Some(flow) => flow.items.as_slice(),
         None => &[],
     }
@@ -26,7 +34,7 @@ pub fn items_of(parts: &FlowsData, flow: u32) -> &[Item]
 pub fn opened_of(parts: &FlowsData, flow: u32) -> &[u32]
     ensures { result.now ≡ (flow_of parts.now flow).opened }
 {
-    match parts.flows.as_slice().get(flow as usize) {
+    match flow_at(parts, flow) {
         Some(flow) => flow.opened.as_slice(),
         None => &[],
     }
@@ -36,7 +44,7 @@ pub fn opened_of(parts: &FlowsData, flow: u32) -> &[u32]
 pub fn seams_of(parts: &FlowsData, flow: u32) -> &[Seam]
     ensures { result.now ≡ (flow_of parts.now flow).seams }
 {
-    match parts.flows.as_slice().get(flow as usize) {
+    match flow_at(parts, flow) {
         Some(flow) => flow.seams.as_slice(),
         None => &[],
     }

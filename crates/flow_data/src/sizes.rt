@@ -81,14 +81,21 @@ fn edges_height(edges: &[Edge]) -> Units
     sum
 }
 
+/// The cloned edges of a box together.
+fn box_height(parts: &FlowsData, number: u32) -> Units
+    ensures { result ≡ min (cloned_height parts.now number) (2 ^ 64 - 1) }
+{
+    let info = box_of(parts, number);
+    info.top.saturating_add(info.bottom)
+}
+
 /// The cloned edges of boxes together.
 fn boxes_height(parts: &FlowsData, boxes: &[u32]) -> Units
     ensures { result ≡ min (sum_by (cloned_height parts.now) boxes.now) (2 ^ 64 - 1) }
 {
     let mut sum: Units = 0;
     for number in boxes {
-        let info = box_of(parts, *number);
-        sum = sum.saturating_add(info.top).saturating_add(info.bottom);
+        sum = sum.saturating_add(box_height(parts, *number));
     }
     sum
 }
@@ -100,8 +107,7 @@ fn started_height(parts: &FlowsData, edges: &[Edge]) -> Units
     let mut sum: Units = 0;
     for edge in edges {
         if let Edge::Start(number) = edge {
-            let info = box_of(parts, *number);
-            sum = sum.saturating_add(info.top).saturating_add(info.bottom);
+            sum = sum.saturating_add(box_height(parts, *number));
         }
     }
     sum

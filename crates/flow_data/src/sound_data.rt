@@ -23,13 +23,21 @@ const TOO_MANY: usize = 1 << 32;
 ///
 /// Data is sound where all of this is so:
 ///
-/// - Each number names a flow, row, box or stack that is there.
-/// - In each flow the boxes are well nested, and none of them is empty there.
+/// - There are fewer than 2^32 flows, rows, boxes and stacks. Each number names one that is there.
+/// - A flow has fewer than 2^32 items, and one seam more than items. Boxes start in heads and end in tails.
+/// - No box stands twice in one flow: boxes that are open at its start, and those that start in it, are all different.
+///   They are well nested, and none of them is empty there.
+/// - Where `top` of a box isn't 0, a solid edge of this amount stands at once behind its start, and where `bottom` isn't 0,
+///   one of that amount at once before its end.
 /// - Each flow belongs to one row or one stack, and each row to one item. The first stack is named by no atom, each
-///   other one by one atom, of its height, in a stack before it.
-/// - A row that stands in another has from 1 to 2,000 items and is balanced. At most three rows stand one inside another.
-/// - There are fewer than 2^32 flows, rows, boxes and stacks, and at most 100,000 items of rows and atoms of stacks.
-///   All heights together, and all places from the left of the first stack, are below 2^60 units.
+///   other one by one atom, in a stack before it, whose height is the stack's own (`Bound::Left`).
+/// - A row has from 1 to 32 columns, and at most 2^25 units from one to the next.
+/// - A row that stands directly in another has the greater number, from 1 to 2,000 items, and is balanced. At most three
+///   rows stand one inside another.
+/// - There are at most 100,000 items of rows and atoms of stacks together.
+/// - An atom is at most 2^24 units high. All heights together are below 2^60 units: those of atoms, margins and solid
+///   edges, and in each flow `top` and `bottom` of each box that stands there, once more.
+/// - Each `x` and each `w` is below 2^60 units, and so is each `x` from the left of the first stack.
 ///
 /// The one other answer is that memory ran out.
 pub fn sound(alloc: Global, parts: &FlowsData) -> Result<bool, NoMemory>

@@ -5,6 +5,7 @@ ghost use Rattle.flow_data.specs.Soundness.{IsSoundAtom, IsSoundItem, IsSoundFlo
 ghost use Rattle.flow_data.specs.Flows.{stack_of};
 
 use crate::data::{AtomKind, Bound, Flow, FlowsData, Item, Seam};
+use crate::parts::LENGTH_LIMIT;
 use crate::sound_boxes::{are_filled, are_sound_boxes};
 use crate::sound_seams::is_sound_seam;
 use mc_base::{NoMemory, Units};
@@ -12,8 +13,6 @@ use std::alloc::Global;
 
 /// The greatest height of an atom.
 const MOST_HEIGHT: Units = 1 << 24;
-/// Places and widths are below this.
-const PLACE_LIMIT: Units = 1 << 60;
 /// A flow has fewer items than this.
 const ITEM_LIMIT: usize = 1 << 32;
 
@@ -47,8 +46,8 @@ fn is_placed(kind: &AtomKind) -> bool
     match kind {
         AtomKind::Plain => true,
         AtomKind::Line { x, w, .. } | AtomKind::Void { x, w, .. } | AtomKind::Image { x, w, .. } =>
-            { *x < PLACE_LIMIT && *w < PLACE_LIMIT }
-        AtomKind::Bounded { x, .. } => *x < PLACE_LIMIT,
+            { *x < LENGTH_LIMIT && *w < LENGTH_LIMIT }
+        AtomKind::Bounded { x, .. } => *x < LENGTH_LIMIT,
     }
 }
 

@@ -6,6 +6,7 @@ ghost use Rattle.flow_data.specs.Flows.{box_of, ended, started};
 ghost use Rattle.flow_data.specs.Soundness.{IsSoundSeam};
 
 use crate::data::{Edge, FlowsData, Seam};
+use crate::parts::box_of;
 use mc_base::Units;
 
 /// Whether an edge starts no box.
@@ -36,16 +37,6 @@ pub fn has_no_end(edges: &[Edge]) -> bool
     edges.iter().all(is_no_end)
 }
 
-/// The border and padding that a box has again above at each break, and below.
-fn cloned_edges(parts: &FlowsData, number: u32) -> (Units, Units)
-    ensures { result ≡ ((box_of parts.now number).top, (box_of parts.now number).bottom) }
-{
-    match parts.boxes.as_slice().get(number as usize) {
-        Some(info) => (info.top, info.bottom),
-        None => (0, 0),
-    }
-}
-
 /// The edge of this number.
 fn edge_at(edges: &[Edge], k: usize) -> Option<Edge>
     ensures { result ≡ slice_get edges.now k }
@@ -65,7 +56,7 @@ fn has_cloned_top(parts: &FlowsData, edge: &Edge, next: Option<Edge>) -> bool
     ensures { IsTrue result ↔ ((b : ℕ) → edge.now ≡ Edge.Start b → 0 < (box_of parts.now b).top → next ≡ Some (Edge.Solid (box_of parts.now b).top)) }
 {
     match edge {
-        Edge::Start(number) => is_cloned(cloned_edges(parts, *number).0, next),
+        Edge::Start(number) => is_cloned(box_of(parts, *number).top, next),
         _ => true,
     }
 }
@@ -75,7 +66,7 @@ fn has_cloned_bottom(parts: &FlowsData, edge: &Edge, before: Option<Edge>) -> bo
     ensures { IsTrue result ↔ ((b : ℕ) → edge.now ≡ Edge.End b → 0 < (box_of parts.now b).bottom → before ≡ Some (Edge.Solid (box_of parts.now b).bottom)) }
 {
     match edge {
-        Edge::End(number) => is_cloned(cloned_edges(parts, *number).1, before),
+        Edge::End(number) => is_cloned(box_of(parts, *number).bottom, before),
         _ => true,
     }
 }

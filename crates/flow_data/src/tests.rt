@@ -1,72 +1,203 @@
 //! Data that is sound or not.
 
 use super::*;
-use mc_base::{Level, List, NoMemory};
+use mc_base::{Level, List, NoMemory, Units};
 use std::alloc::Global;
 use std::test::Fail;
 
-/// A flow that holds the row of this number alone, or nothing.
-fn flow_with(alloc: Global, row: Option<u32>) -> Result<Flow, NoMemory> {
-    let mut items = List::new(alloc);
-    let mut seams = List::new(alloc);
-    if let Some(row) = row {
-        items.push(Item::Row(row))?;
-        seams.push(no_edges(alloc))?;
-    }
-    seams.push(no_edges(alloc))?;
-    Ok(Flow {
-        opened: List::new(alloc),
-        items,
-        seams,
-    })
+/// What can differ in a layout of two rows: the columns of the outer row, the number of the row that stands in it and
+/// whether that is `auto`, the boxes that start and end there, the amount behind the second start, and the height of the
+/// stack that an atom names.
+#[derive(Clone, Copy)]
+struct Layout {
+    columns: u32,
+    inner: u32,
+    auto: bool,
+    starts: (u32, u32),
+    cloned: Units,
+    ends: (u32, u32),
+    height: Units,
 }
 
-fn no_edges(alloc: Global) -> Seam {
+const SOUND: Layout = Layout {
+    columns: 3,
+    inner: 1,
+    auto: false,
+    starts: (1, 0),
+    cloned: 5,
+    ends: (0, 1),
+    height: 200,
+};
+
+fn seam(tail: Vec<Edge>, head: Vec<Edge>) -> Seam {
     Seam {
-        tail: List::new(alloc),
-        head: List::new(alloc),
+        tail: List::of(tail),
+        head: List::of(head),
         level: Level::L0,
     }
 }
 
-/// A stack whose one item is a row, of this number; the row has so many columns, and its flow this number.
-fn row_in_stack(alloc: Global, row: u32, n: u32, flow: u32) -> Result<FlowsData, NoMemory> {
-    let mut flows = List::new(alloc);
-    flows.push(flow_with(alloc, Some(row))?)?;
-    flows.push(flow_with(alloc, None)?)?;
-    let mut rows = List::new(alloc);
-    rows.push(RowInfo {
-        flow,
-        n,
-        w: 100,
-        step: 110,
-        x: 0,
-        auto: false,
-    })?;
-    let mut stacks = List::new(alloc);
-    stacks.push(Stack {
-        flow: 0,
-        w: 320,
-        bound: Bound::Free,
-    })?;
-    Ok(FlowsData {
-        flows,
-        rows,
-        boxes: List::new(alloc),
-        stacks,
+fn no_edges(alloc: Global) -> Seam {
+    seam(Vec::new(alloc), Vec::new(alloc))
+}
+
+/// A flow of this item alone, without edges.
+fn flow_of_one(alloc: Global, item: Item) -> Result<Flow, NoMemory> {
+    Ok(Flow {
+        opened: List::new(alloc),
+        items: List::of(vec![in alloc; item]?),
+        seams: List::of(vec![in alloc; no_edges(alloc), no_edges(alloc)]?),
     })
 }
 
-/// A row in a stack is sound, but not with 33 columns, nor with a number that names nothing, nor as a row in itself.
+/// The flow of the outer row: a row and an atom that names stack 1, both in two boxes.
+fn outer_flow(alloc: Global, layout: Layout) -> Result<Flow, NoMemory> {
+    let Layout {
+        inner,
+        starts,
+        cloned,
+        ends,
+        ..
+    } = layout;
+    let stack = AtomKind::Bounded {
+        owner: 0,
+        stack: 1,
+        x: 0,
+    };
+    let atom = Item::Atom {
+        height: 200,
+        kind: stack,
+    };
+    let head = vec![in alloc;
+        Edge::Start(starts.0),
+        Edge::Start(starts.1),
+        Edge::Solid(cloned),
+    ]?;
+    let tail = vec![in alloc; Edge::End(ends.0), Edge::End(ends.1)]?;
+    let first = seam(Vec::new(alloc), head);
+    let last = seam(tail, Vec::new(alloc));
+    Ok(Flow {
+        opened: List::new(alloc),
+        items: List::of(vec![in alloc; Item::Row(inner), atom]?),
+        seams: List::of(vec![in alloc; first, no_edges(alloc), last]?),
+    })
+}
+
+fn row(flow: u32, n: u32, auto: bool) -> RowInfo {
+    RowInfo {
+        flow,
+        n,
+        w: 40,
+        step: 50,
+        x: 0,
+        auto,
+    }
+}
+
+/// A box whose upper amount this is.
+fn box_with(top: Units) -> BoxInfo {
+    BoxInfo {
+        x: 0,
+        w: 90,
+        avoid: false,
+        top,
+        bottom: 0,
+    }
+}
+
+fn stack(flow: u32, bound: Bound) -> Stack {
+    Stack {
+        flow,
+        w: 320,
+        bound,
+    }
+}
+
+fn layout_data(alloc: Global, layout: Layout) -> Result<FlowsData, NoMemory> {
+    let plain = Item::Atom {
+        height: 10,
+        kind: AtomKind::Plain,
+    };
+    let mut flows = List::new(alloc);
+    flows.push(flow_of_one(alloc, Item::Row(0))?)?;
+    flows.push(outer_flow(alloc, layout)?)?;
+    flows.push(flow_of_one(alloc, plain)?)?;
+    flows.push(flow_of_one(alloc, plain)?)?;
+    let rows = vec![in alloc; row(1, layout.columns, false), row(2, 2, layout.auto)]?;
+    let boxes = vec![in alloc; box_with(5), box_with(0)]?;
+    let own = Bound::Left(layout.height);
+    let stacks = vec![in alloc; stack(0, Bound::Free), stack(3, own)]?;
+    Ok(FlowsData {
+        flows,
+        rows: List::of(rows),
+        boxes: List::of(boxes),
+        stacks: List::of(stacks),
+    })
+}
+
+/// Two rows one in the other are sound, but not where the outer one has 33 columns or none, names no row or itself, or the
+/// inner one is `auto`; nor where boxes cross or one stands there twice, where a cloned edge is missing, or where an atom
+/// is less high than its stack.
 #[test]
 fn sound_data_is_told_from_other_data(rt: HostRuntime) -> Result<(), Fail> {
-    for (row, n, flow, expected) in [
-        (0, 3, 1, true),
-        (0, 33, 1, false),
-        (1, 3, 1, false),
-        (0, 3, 0, false),
-    ] {
-        let parts = row_in_stack(rt.alloc(), row, n, flow)
+    let cases = [
+        (SOUND, true),
+        (
+            Layout {
+                columns: 32,
+                ..SOUND
+            },
+            true,
+        ),
+        (
+            Layout {
+                columns: 33,
+                ..SOUND
+            },
+            false,
+        ),
+        (
+            Layout {
+                columns: 0,
+                ..SOUND
+            },
+            false,
+        ),
+        (Layout { inner: 2, ..SOUND }, false),
+        (Layout { inner: 0, ..SOUND }, false),
+        (
+            Layout {
+                auto: true,
+                ..SOUND
+            },
+            false,
+        ),
+        (
+            Layout {
+                ends: (1, 0),
+                ..SOUND
+            },
+            false,
+        ),
+        (
+            Layout {
+                starts: (1, 1),
+                ends: (1, 1),
+                ..SOUND
+            },
+            false,
+        ),
+        (Layout { cloned: 4, ..SOUND }, false),
+        (
+            Layout {
+                height: 201,
+                ..SOUND
+            },
+            false,
+        ),
+    ];
+    for (layout, expected) in cases {
+        let parts = layout_data(rt.alloc(), layout)
             .ok()
             .ok_or("memory is ample")?;
         let found = sound(rt.alloc(), &parts).ok().ok_or("memory is ample")?;

@@ -1,19 +1,15 @@
 -- What was read of the lines of a text, and what a refusal says of it.
-use Rattle.std.proofs.Common.{◌≡◌, ℕ, ◌≤◌, ◌^◌, List, [], ◌∷◌, length, Some, None, Result, Ok, Err, refl, sym, ap, ◌∙◌, subst, inl, inr, All}
+use Rattle.std.proofs.Common.{◌≡◌, ℕ, ◌≤◌, ◌^◌, List, [], ◌∷◌, length, Some, None, Result, refl, sym, ap, ◌∙◌, subst, inl, inr, All}
 use Rattle.std.specs.Prelude.{◌⊎◌}
 use Rattle.std.proofs.lemmas.List.Elements.{All-nil, All-cons}
 use Rattle.mc_base.specs.declared.refusal.Refusal.{Refusal}
 use Rattle.mc_base.specs.declared.refusal.Refusal.TheVariants as refusals
-use Rattle.flow_text.specs.declared.fault.Fault.{Fault}
 use Rattle.flow_text.specs.declared.line.Line.{Line}
-use Rattle.flow_text.specs.Answer.{IsAnswer, IsRead, answer_of, answered, refusal_of, within_limits}
+use Rattle.flow_text.specs.Answer.{IsAnswer, IsRead, IsRefused, within_limits}
 use Rattle.flow_text.specs.Grammar.{FlowFile, IsFlowFile}
 use Rattle.flow_text.specs.Limits.{limit_passed}
-use Rattle.flow_text.specs.Text.{IsText, lines_of}
-use Rattle.flow_text.proofs.AnswerLaws.{denied, denied_is, given, limits_ok, lines_denied, passed_limit}
-use Rattle.flow_text.proofs.FaultLaws.{first_fault}
-use Rattle.flow_text.proofs.Sound.{read_is_file}
-use Rattle.flow_text.proofs.TextLaws.{text_takes}
+use Rattle.flow_text.specs.Text.{IsText}
+use Rattle.flow_text.proofs.AnswerLaws.{denied, given, limits_ok, lines_denied}
 use Rattle.flow_data.specs.declared.data.FlowsData.{FlowsData}
 use Rattle.flow_list.specs.Building.{IsLow}
 use Rattle.flow_list.specs.FileFlows.{IsFile, RefusesText, flows_of, limit_of}
@@ -73,35 +69,10 @@ pub refused_only : (text : List ℕ) (r : Refusal) → ReadsOnly text (denied r)
 refused_only text r only file is =
     subst (λ (lines : List Line). (r ≡ refusals.NoMemory) ⊎ (limit_passed lines ≡ Some r)) is.on_grammar.whole (denies r is.lines (only is.lines file is.spelled is.on_grammar))
 
-abbrev given_lines : List Line → Result (List Line) Fault
-given_lines lines = Ok lines
-
-abbrev failed_lines : Fault → Result (List Line) Fault
-failed_lines fault = Err fault
-
--- why a text has no answer
-data Reason (text : List ℕ) (r : Refusal) : Type 0 where
-  by_limit : (lines : List Line) → lines_of text ≡ given_lines lines → limit_passed lines ≡ Some r → Reason text r
-  by_fault : (fault : Fault) → lines_of text ≡ failed_lines fault → refusal_of fault ≡ r → Reason text r
-
-reason : (text : List ℕ) (r : Refusal) (read : Result (List Line) Fault) → lines_of text ≡ read → answered read ≡ denied r → Reason text r
-reason text r (Ok lines) is h = by_limit lines is (lines_denied (limit_passed lines) lines r h)
-reason text r (Err fault) is h = by_fault fault is (denied_is (refusal_of fault) r h)
-
-refuses_by : (text : List ℕ) (r : Refusal) → Reason text r → RefusesText text r
-refuses_by text (refusals.Grammar input offset rule) (by_limit lines is limit) = absurd (passed_limit lines (refusals.Grammar input offset rule) limit)
-refuses_by text (refusals.Grammar input offset rule) (by_fault fault is same) = (fault, first_fault text fault is, same)
-refuses_by text (refusals.Construct input offset name) (by_limit lines is limit) = passed_limit lines (refusals.Construct input offset name) limit
-refuses_by text (refusals.Construct input offset name) (by_fault fault is same) = absurd cc
-refuses_by text (refusals.Limit name reached limit) (by_limit lines is passed) =
-    let takes = text_takes text lines is in
-    let file = read_is_file lines takes.1 in
-    (file.0, record { lines = lines; spelled = takes.0; on_grammar = file.1 }, ap limit_passed (sym file.1.whole) ∙ passed)
-refuses_by text (refusals.Limit name reached limit) (by_fault fault is same) = absurd cc
-refuses_by text refusals.NoMemory h = tt
-
-pub refuses : (text : List ℕ) (r : Refusal) → IsAnswer (denied r) (answer_of text) → RefusesText text r
+-- the lines' reader gives the reason of the file
+pub refuses : (text : List ℕ) (r : Refusal) → IsRefused text r → RefusesText text r
+refuses text (refusals.Grammar input offset rule) h = h
+refuses text (refusals.Construct input offset name) h = h
+refuses text (refusals.Limit name reached limit) h =
+    (h.file, record { lines = h.lines; spelled = h.spelled; on_grammar = h.on_grammar }, ap limit_passed (sym h.on_grammar.whole) ∙ h.passed)
 refuses text refusals.NoMemory h = tt
-refuses text (refusals.Grammar input offset rule) h = refuses_by text (refusals.Grammar input offset rule) (reason text (refusals.Grammar input offset rule) (lines_of text) refl h)
-refuses text (refusals.Construct input offset name) h = refuses_by text (refusals.Construct input offset name) (reason text (refusals.Construct input offset name) (lines_of text) refl h)
-refuses text (refusals.Limit name reached limit) h = refuses_by text (refusals.Limit name reached limit) (reason text (refusals.Limit name reached limit) (lines_of text) refl h)

@@ -7,8 +7,8 @@ ghost use Rattle.flow_list.specs.Building as building;
 ghost use Rattle.flow_list.specs.FileFlows.{bound_of, flows_of, outer_flow};
 ghost use Rattle.flow_data.specs.Flows.{no_flow, no_seam};
 
-use flow_data::{AtomKind, Bound, BoxInfo, Edge, Flow, FlowsData, Item, RowInfo, Seam};
-use flow_text::{Form, Line, Stack};
+use flow_data::{AtomKind, Bound, BoxInfo, Edge, Flow, FlowsData, Item, RowInfo, Seam, Stack};
+use flow_text::{Form, Line, Pile};
 use mc_base::{Level, List, NoMemory, Units};
 use std::alloc::Global;
 
@@ -28,11 +28,11 @@ pub struct OpenRow {
 #[derive(Drop)]
 pub struct Parts {
     pub row: OpenRow,
-    pub outer: Stack<OpenRow>,
+    pub outer: Pile<OpenRow>,
     pub flows: List<Flow>,
     pub rows: List<RowInfo>,
     pub boxes: List<BoxInfo>,
-    pub stacks: List<flow_data::Stack>,
+    pub stacks: List<Stack>,
 }
 
 /// A seam without edges, at a place that breaks no rule.
@@ -152,7 +152,7 @@ fn with_flow(flows: List<Flow>, number: u32, flow: Flow) -> List<Flow>
 }
 
 /// The nearest of the rows around one that ends.
-fn nearest(alloc: Global, outer: &mut Stack<OpenRow>) -> OpenRow
+fn nearest(alloc: Global, outer: &mut Pile<OpenRow>) -> OpenRow
     ensures row { result ≡ building.nearest outer.old }
     ensures left { outer.new ≡ building.farther outer.old }
 {
@@ -182,6 +182,44 @@ fn width_of(n: u64, w: Units, step: Units) -> Units
     n.saturating_sub(1) * step + w
 }
 
+/// A row of so many columns.
+fn row_info(flow: u32, n: u64, w: Units, step: Units, x: Units, auto: bool) -> RowInfo
+    requires { n ≤ 2 ^ 24 }
+    ensures { result ≡ record { flow = flow; n = n; w = w; step = step; x = x; auto = auto } }
+{
+    RowInfo {
+        flow,
+        n: n as u32,
+        w,
+        step,
+        x,
+        auto,
+    }
+}
+
+/// A box with the amounts that it has again at each break.
+fn box_info(x: Units, w: Units, avoid: bool, top: Units, bottom: Units) -> BoxInfo
+    ensures { result ≡ record { x = x; w = w; avoid = avoid; top = top; bottom = bottom } }
+{
+    BoxInfo {
+        x,
+        w,
+        avoid,
+        top,
+        bottom,
+    }
+}
+
+/// An atom of a flow file.
+fn plain_atom(height: Units) -> Item
+    ensures { result ≡ Item.Atom height AtomKind.Plain }
+{
+    Item::Atom {
+        height,
+        kind: AtomKind::Plain,
+    }
+}
+
 /// The flow of stack 0: row 0 alone.
 fn outer_flow(alloc: Global) -> Result<Flow, NoMemory>
     ensures { IfOk result (λ flow. flow ≡ outer_flow) }
@@ -207,7 +245,7 @@ fn begun(alloc: Global) -> Result<Parts, NoMemory>
     flows.push(empty_flow(alloc))?;
     Ok(Parts {
         row: open_row(alloc, 1),
-        outer: Stack::new(alloc),
+        outer: Pile::new(alloc),
         flows,
         rows: List::new(alloc),
         boxes: List::new(alloc),
@@ -234,15 +272,8 @@ impl Parts {
         ensures { IfOk result (λ parts. parts ≡ building.first self n w step available auto) }
     {
         let mut parts = self;
-        parts.rows.push(RowInfo {
-            flow: 1,
-            n: n as u32,
-            w,
-            step,
-            x: 0,
-            auto,
-        })?;
-        parts.stacks.push(flow_data::Stack {
+        parts.rows.push(row_info(1, n, w, step, 0, auto))?;
+        parts.stacks.push(Stack {
             flow: 0,
             w: width_of(n, w, step),
             bound: bound_of(available),
@@ -305,14 +336,7 @@ impl Parts {
         let flow = flows.len() as u32;
         outer.push(row.with_item(alloc, Item::Row(number))?)?;
         flows.push(empty_flow(alloc))?;
-        rows.push(RowInfo {
-            flow,
-            n: n as u32,
-            w,
-            step,
-            x,
-            auto: false,
-        })?;
+        rows.push(row_info(flow, n, w, step, x, false))?;
         Ok(Parts {
             row: open_row(alloc, flow),
             outer,
@@ -382,24 +406,9 @@ impl Parts {
                 avoid,
                 top,
                 bottom,
-            } => self.start(
-                number,
-                BoxInfo {
-                    x,
-                    w,
-                    avoid,
-                    top,
-                    bottom,
-                },
-            ),
+            } => self.start(number, box_info(x, w, avoid, top, bottom)),
             Form::End(number) => self.edge(Edge::End(number as u32)),
-            Form::Atom(height) => self.item(
-                alloc,
-                Item::Atom {
-                    height,
-                    kind: AtomKind::Plain,
-                },
-            ),
+            Form::Atom(height) => self.item(alloc, plain_atom(height)),
             Form::Row { n, w, step, x } => self.inner_row(alloc, n, w, step, x),
             Form::Break(level) => Ok(self.place(level)),
             Form::Close => self.close(alloc),

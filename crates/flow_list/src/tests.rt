@@ -1,11 +1,12 @@
 //! Flow files and the flows that they say.
 
 use super::*;
-use mc_base::Level;
+use mc_base::{Level, List, NoMemory};
+use std::alloc::Global;
 use std::test::Fail;
 
 const NESTED: &[u8] =
-    b"flow 1\nrow 2 100 110 64 auto\n( 0 5 90 avoid\nm 4\na 10\n| 1\nrow 2 40 50 3\nrow 3 9 9 1\na 1\nend\nend\nm 6\n| F\ns 2\nrow 1 30 30 7\na 2\n| 0\na 3\nend\n) 0\nend\n";
+    b"flow 1\nrow 2 100 110 64 auto\n( 0 5 90 avoid 7 9\ns 7\nm 4\na 10\n| 1\nrow 2 40 50 3\nrow 3 9 9 1\na 1\nend\nend\nm 6\n| F\ns 2\nrow 1 30 30 7\na 2\n| 0\na 3\nend\ns 9\n) 0\nend\n";
 
 /// Each file with the numbers of its flows, rows and boxes, and of the items in its first row.
 #[test]
@@ -70,6 +71,83 @@ fn seams_have_edges_and_levels(rt: HostRuntime) -> Result<(), Fail> {
     assert_eq!(rt; seam.level, Level::Forced);
     assert!(rt; matches!(seam.tail.as_slice(), [Edge::Margin(6)]));
     assert!(rt; matches!(seam.head.as_slice(), [Edge::Solid(2)]));
-    assert!(rt; matches!(seam_at(&flows, 1, 3).tail.as_slice(), [Edge::End(0)]));
+    assert!(rt;
+        matches!(
+            seam_at(&flows, 1, 3).tail.as_slice(),
+            [Edge::Solid(9), Edge::End(0)]
+        )
+    );
+    Ok(())
+}
+
+/// The first row, its box and its stack.
+#[test]
+fn the_first_row_has_its_box_and_stack(rt: HostRuntime) -> Result<(), Fail> {
+    let flows = read_flow(rt.alloc(), NESTED).ok().ok_or("a flow file")?;
+    let counts = flow_counts(&flows);
+    assert_eq!(rt; (counts.flows, counts.rows), (5, 4));
+    assert_eq!(rt; (counts.boxes, counts.stacks), (1, 1));
+    let row = row_at(&flows, 0);
+    assert_eq!(rt; (row.flow, row.n, row.w), (1, 2, 100));
+    assert_eq!(rt; (row.step, row.x, row.auto), (110, 0, true));
+    let info = box_at(&flows, 0);
+    assert_eq!(rt; (info.x, info.w, info.avoid), (5, 90, true));
+    assert_eq!(rt; (info.top, info.bottom), (7, 9));
+    let stack = stack_at(&flows, 0);
+    assert_eq!(rt; (stack.flow, stack.w), (0, 210));
+    assert!(rt; matches!(stack.bound, Bound::Each(64)));
+    assert!(rt; opened_in(&flows, 1).is_empty());
+    Ok(())
+}
+
+/// A stack of an atom that stands in a box from the flow's start on.
+fn opened_data(alloc: Global) -> Result<FlowsData, NoMemory> {
+    let atom = Item::Atom {
+        height: 10,
+        kind: AtomKind::Plain,
+    };
+    let info = BoxInfo {
+        x: 0,
+        w: 90,
+        avoid: false,
+        top: 0,
+        bottom: 0,
+    };
+    let first = Seam {
+        tail: List::new(alloc),
+        head: List::new(alloc),
+        level: Level::L0,
+    };
+    let last = Seam {
+        tail: List::of(vec![in alloc; Edge::End(0)]?),
+        head: List::new(alloc),
+        level: Level::L0,
+    };
+    let flow = Flow {
+        opened: List::of(vec![in alloc; 0u32]?),
+        items: List::of(vec![in alloc; atom]?),
+        seams: List::of(vec![in alloc; first, last]?),
+    };
+    let stack = Stack {
+        flow: 0,
+        w: 90,
+        bound: Bound::Free,
+    };
+    Ok(FlowsData {
+        flows: List::of(vec![in alloc; flow]?),
+        rows: List::new(alloc),
+        boxes: List::of(vec![in alloc; info]?),
+        stacks: List::of(vec![in alloc; stack]?),
+    })
+}
+
+#[test]
+fn sound_data_is_sealed_with_its_open_boxes(rt: HostRuntime) -> Result<(), Fail> {
+    let parts = opened_data(rt.alloc()).ok().ok_or("memory is ample")?;
+    let found = sound(rt.alloc(), &parts).ok().ok_or("memory is ample")?;
+    assert!(rt; found);
+    let flows = Flows::seal(parts);
+    assert_eq!(rt; flow_counts(&flows).flows, 1);
+    assert_eq!(rt; opened_in(&flows, 0).as_slice(), [0].as_slice());
     Ok(())
 }

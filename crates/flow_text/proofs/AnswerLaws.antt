@@ -1,6 +1,6 @@
 -- What an answer says of the text.
 use Rattle.std.proofs.Common.{◌≡◌, ℕ, List, Bool, true, false, cond, ltb, Option, Some, None, Result, Ok, Err, refl, ap, ◌∙◌, subst}
-use Rattle.std.specs.Prelude.{IfOk, IsErrOf}
+use Rattle.std.specs.Prelude.{IfErr, IfOk, IsErrOf}
 use Rattle.mc_base.specs.declared.refusal.Refusal.{Refusal}
 use Rattle.mc_base.specs.declared.refusal.Refusal.TheVariants as refusals
 use Rattle.flow_text.specs.declared.line.Line.{Line}
@@ -11,7 +11,7 @@ use Rattle.mc_base.specs.declared.refusal.LimitName.TheVariants.{Items}
 use Rattle.flow_text.specs.Faults.{IsFirstFault}
 use Rattle.flow_text.specs.Limits.{limit_passed, first_long, first_wide, is_deep, items, has_crowded_row, no_counts, or_crowded, or_many, or_deep, or_wide, or_long}
 use Rattle.flow_text.proofs.FaultLaws.{first_fault}
-use Rattle.flow_text.specs.Answer.{IsAnswer, refusal_of, or_lines, within_limits, answered, answer_of, IsRead}
+use Rattle.flow_text.specs.Answer.{IsAnswer, refusal_of, or_lines, within_limits, answered, answer_of, IsRead, IsRefused}
 use Rattle.flow_text.proofs.Complete.{file_is_read}
 use Rattle.flow_text.proofs.Sound.{read_is_file}
 use Rattle.flow_text.proofs.TextLaws.{text_again, text_takes}
@@ -125,3 +125,42 @@ first text (Err refusals.NoMemory) h g e = absurd cc
 first text (Err (refusals.Grammar input offset rule)) h g e = fault_answered text g (h ∙ e)
 first text (Err (refusals.Construct input offset name)) h g e = absurd cc
 first text (Err (refusals.Limit name reached limit)) h g e = absurd cc
+
+-- ---- the reason of a refusal
+
+abbrev given_lines : List Line → Result (List Line) Fault
+given_lines lines = Ok lines
+
+abbrev failed_lines : Fault → Result (List Line) Fault
+failed_lines fault = Err fault
+
+-- why a text has no answer
+data Reason (text : List ℕ) (r : Refusal) : Type 0 where
+  by_limit : (lines : List Line) → lines_of text ≡ given_lines lines → limit_passed lines ≡ Some r → Reason text r
+  by_fault : (fault : Fault) → lines_of text ≡ failed_lines fault → refusal_of fault ≡ r → Reason text r
+
+reason : (text : List ℕ) (r : Refusal) (read : Result (List Line) Fault) → lines_of text ≡ read → answered read ≡ denied r → Reason text r
+reason text r (Ok lines) is h = by_limit lines is (lines_denied (limit_passed lines) lines r h)
+reason text r (Err fault) is h = by_fault fault is (denied_is (refusal_of fault) r h)
+
+refused_by : (text : List ℕ) (r : Refusal) → Reason text r → IsRefused text r
+refused_by text (refusals.Grammar input offset rule) (by_limit lines is limit) = absurd (passed_limit lines (refusals.Grammar input offset rule) limit)
+refused_by text (refusals.Grammar input offset rule) (by_fault fault is same) = (fault, first_fault text fault is, same)
+refused_by text (refusals.Construct input offset name) (by_limit lines is limit) = passed_limit lines (refusals.Construct input offset name) limit
+refused_by text (refusals.Construct input offset name) (by_fault fault is same) = absurd cc
+refused_by text (refusals.Limit name reached limit) (by_limit lines is passed) =
+    let takes = text_takes text lines is in
+    let file = read_is_file lines takes.1 in
+    record { lines = lines; file = file.0; spelled = takes.0; on_grammar = file.1; passed = passed }
+refused_by text (refusals.Limit name reached limit) (by_fault fault is same) = absurd cc
+refused_by text refusals.NoMemory h = tt
+
+pub refused_for : (text : List ℕ) (r : Result (List Line) Refusal) → IsAnswer r (answer_of text) → IfErr r (IsRefused text)
+refused_for text (Ok lines) h = tt
+refused_for text (Err refusals.NoMemory) h = tt
+refused_for text (Err (refusals.Grammar input offset rule)) h =
+    let r = refusals.Grammar input offset rule in refused_by text r (reason text r (lines_of text) refl h)
+refused_for text (Err (refusals.Construct input offset name)) h =
+    let r = refusals.Construct input offset name in refused_by text r (reason text r (lines_of text) refl h)
+refused_for text (Err (refusals.Limit name reached limit)) h =
+    let r = refusals.Limit name reached limit in refused_by text r (reason text r (lines_of text) refl h)

@@ -14,7 +14,8 @@ use Rattle.flow_text.specs.declared.structure.Reading.TheVariants as readings
 use Rattle.flow_text.specs.Forms.{IsForm, form_of}
 use Rattle.flow_text.specs.Structure as structure
 use Rattle.flow_text.specs.Structure.{◌>>=◌, fault, unless, fault_of_due, fault_of_rows, what_is_due, fault_of_ending, is_solid}
-use Rattle.flow_text.specs.Text.{line_len, first_bad, bad_byte, sound_len, cuts, or_fault, no_byte_bad, line_of, line_at, read_on, ended_at, lines_in, lines_of}
+use Rattle.mc_base.specs.SoundText.{sound_len}
+use Rattle.flow_text.specs.Text.{line_len, first_bad, bad_byte, cuts, or_fault, no_byte_bad, line_of, line_at, read_on, ended_at, lines_in, lines_of}
 use Rattle.flow_text.specs.Run.{run}
 use Rattle.flow_text.specs.Faults.{fault_at, IsFront, seen, Begins, ending_fault, byte_fault, ShapeFault, NoLine, IsCutShort, IsMisshapen, IsMisplaced, IsFaultOfLines, IsFirstFault}
 use Rattle.flow_text.proofs.Complete.{passed, file_is_read}

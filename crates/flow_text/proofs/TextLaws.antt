@@ -1,15 +1,14 @@
 -- What is read in a text is its lines, and its lines are read.
-use Rattle.std.proofs.Common.{◌≡◌, ℕ, zero, suc, ◌+◌, ◌^◌, ◌<◌, ◌≤◌, List, [], ◌∷◌, ◌++◌, length, take, drop, get_or, Bool, true, false, eqb, ltb, leb, cond, not, ◌&&◌, ◌||◌, Option, Some, None, Result, Ok, Err, refl, sym, ap, ◌∙◌, subst, arith, length-drop, append_assoc, inl, inr}
-use Rattle.std.specs.Prelude.{codes, min, IfSome}
+use Rattle.std.proofs.Common.{◌≡◌, ℕ, zero, suc, ◌+◌, ◌^◌, ◌<◌, ◌≤◌, List, [], ◌∷◌, ◌++◌, length, take, drop, Bool, true, false, eqb, ltb, leb, cond, not, ◌&&◌, ◌||◌, Option, Some, None, Result, Ok, Err, refl, sym, ap, ◌∙◌, subst, arith, length-drop, append_assoc, inl, inr}
+use Rattle.std.specs.Prelude.{codes, IfSome}
 use Rattle.std.specs.Fmt.{decimal}
 use Rattle.std.specs.Int.{IsInRange}
 use Rattle.std.specs.Str.Parse.{AllDigits}
-use Rattle.std.specs.Str.Lossy.{utf8_valid_len}
-use Rattle.std.proofs.lemmas.Bool.{eqb-true, ne_eqb, and_parts, leb-true, le-ltb}
+use Rattle.std.specs.List.{AllByRecursion}
+use Rattle.std.proofs.lemmas.Bool.{eqb-true, and_parts, leb-true, le-ltb}
 use Rattle.std.proofs.lemmas.Bool.Decides.{nat_tests}
 use Rattle.std.proofs.lemmas.List.{append-nil, length-take-le}
 use Rattle.std.proofs.lemmas.Fmt.{digits_decimal}
-use Rattle.std.proofs.lemmas.Str.{utf8_valid_len-IsUtf8, IsUtf8-from_ascii}
 use Rattle.std.proofs.lemmas.Str.Parse.{digit_from_value}
 use Rattle.mc_base.specs.declared.level.Level.{Level}
 use Rattle.mc_base.specs.declared.level.Level.TheVariants.{Forced, L0, L1, L2}
@@ -24,7 +23,9 @@ use Rattle.flow_text.specs.Numbers.{IsNumber, field}
 use Rattle.flow_text.specs.Forms.{level_text, available_text, fill_text, inside_text, IsAmounts, IsForm, form_of}
 use Rattle.flow_text.specs.Structure as structure
 use Rattle.flow_text.specs.Structure.{◌>>=◌, fault, unless, fault_of_due, fault_of_rows, what_is_due, fault_of_ending}
-use Rattle.flow_text.specs.Text.{IsText, len_before, line_len, sound_len, cuts, line_of, line_at, Read, read_on, ended_at, lines_of}
+use Rattle.mc_base.specs.SoundText.{sound_len}
+use Rattle.mc_base.proofs.SoundBytes.{IsSafe, sound_text}
+use Rattle.flow_text.specs.Text.{IsText, line_len, cuts, line_of, line_at, Read, read_on, ended_at, lines_of}
 use Rattle.flow_text.specs.Run.{run}
 use Rattle.flow_text.proofs.FormLemmas.{own, form_takes, form_again}
 use Rattle.flow_text.proofs.TextLemmas.{first_line}
@@ -157,23 +158,12 @@ plain_text : (lines : List Line) (at : ℕ) (bytes : List ℕ) → IsText at lin
 plain_text [] at bytes h = rw h tt
 plain_text (line ∷ lines) at bytes h = rw h.4 (plain_line h.1 h.2 (printable_form line.form h.1 h.3) (plain_text lines (at + length h.1 + 1) h.2 h.5))
 
-no_nul : (bytes : List ℕ) → AllPlain bytes → len_before 0 bytes ≡ length bytes
-no_nul [] h = refl
-no_nul (b ∷ bytes) h =
-    let some = h.0 in
-    let other : eqb b 0 ≡ false = ne_eqb b 0 (λ e. omega arith) in
-    rw (other, no_nul bytes h.2) refl
-
-plain_ascii : (bytes : List ℕ) → AllPlain bytes → (i : ℕ) → get_or bytes i 0 < 128
-plain_ascii [] h i = omega arith
-plain_ascii (b ∷ bytes) h zero = h.1
-plain_ascii (b ∷ bytes) h (suc i) = plain_ascii bytes h.2 i
-
-min_same : (a b n : ℕ) → a ≡ n → b ≡ n → ltb (min a b) n ≡ false
-min_same a b n e f = le-ltb (min a b) n (omega arith)
+safe_bytes : (bytes : List ℕ) → AllPlain bytes → AllByRecursion IsSafe bytes
+safe_bytes [] h = tt
+safe_bytes (b ∷ bytes) h = ((omega (arith, h.0), h.1), safe_bytes bytes h.2)
 
 sound : (bytes : List ℕ) → AllPlain bytes → ltb (sound_len bytes) (length bytes) ≡ false
-sound bytes h = min_same (len_before 0 bytes) (utf8_valid_len bytes) (length bytes) (no_nul bytes h) (utf8_valid_len-IsUtf8 bytes (IsUtf8-from_ascii bytes (plain_ascii bytes h)))
+sound bytes h = le-ltb (sound_len bytes) (length bytes) (omega (arith, sound_text bytes (safe_bytes bytes h)))
 
 pub text_again : (text : List ℕ) (lines : List Line) → IsText 0 lines text → run readings.Opening lines ≡ answer readings.Ended → lines_of text ≡ lines_are lines
 unfolding lines_of

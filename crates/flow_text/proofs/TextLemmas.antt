@@ -4,8 +4,8 @@ use Rattle.std.proofs.Math.Dec.{eqb-suc-zero}
 use Rattle.std.proofs.lemmas.List.{drop-drop, drop_all}
 use Rattle.flow_text.specs.declared.line.Line.{Line}
 use Rattle.flow_text.specs.declared.fault.Fault.{Fault}
-use Rattle.flow_text.specs.declared.fault.ReadError.{ReadError}
-use Rattle.flow_text.specs.declared.fault.ReadError.TheVariants as errors
+use Rattle.mc_base.specs.declared.read_error.ReadError.{ReadError}
+use Rattle.mc_base.specs.declared.read_error.ReadError.TheVariants as errors
 use Rattle.flow_text.specs.declared.structure.Reading.{Reading}
 use Rattle.flow_text.specs.declared.structure.Reading.TheVariants as readings
 use Rattle.flow_text.specs.Structure as structure
@@ -69,7 +69,7 @@ goes_on r next lines line text front rest at k after total lt is_k is_front is_r
     rw (behind, place) (sym (rw (l, is_next) at one) ∙ so_far)
 
 -- nothing more is read behind a fault
-pub bad_line : (e : ReadError) (r : Reading) (lines : List Line) (text front rest : List ℕ) (at k : ℕ) → at < length text
+pub bad_line : (e : ReadError Fault) (r : Reading) (lines : List Line) (text front rest : List ℕ) (at k : ℕ) → at < length text
     → k ≡ line_len (drop at text) → front ≡ take k (drop at text) → rest ≡ drop k (drop at text) → Fails e (line_at r at front (not (eqb (length rest) 0)))
     → read_on r lines (cuts at (drop at text)) ≡ read_on readings.Opening [] (cuts 0 text) → Fails e (lines_in text)
 bad_line errors.Memory r lines text front rest at k lt is_k is_front is_rest fails so_far = tt
@@ -78,7 +78,7 @@ bad_line (errors.Fault f) r lines text front rest at k lt is_k is_front is_rest 
     let l : line_at r at (take (line_len (drop at text)) (drop at text)) (not (eqb (length (drop (line_len (drop at text)) (drop at text))) 0)) ≡ Err f = rw (← is_k, ← is_front, ← is_rest) fails in
     rw (sym so_far ∙ rw l at one) refl
 
-pub bad_place : (e : ReadError) (r : Reading) (lines : List Line) (line : Line) (text front rest : List ℕ) (at k : ℕ) → at < length text
+pub bad_place : (e : ReadError Fault) (r : Reading) (lines : List Line) (line : Line) (text front rest : List ℕ) (at k : ℕ) → at < length text
     → k ≡ line_len (drop at text) → front ≡ take k (drop at text) → rest ≡ drop k (drop at text) → line_at r at front (not (eqb (length rest) 0)) ≡ Ok line → Fails e (structure.take r line)
     → read_on r lines (cuts at (drop at text)) ≡ read_on readings.Opening [] (cuts 0 text) → Fails e (lines_in text)
 bad_place errors.Memory r lines line text front rest at k lt is_k is_front is_rest is_line fails so_far = tt

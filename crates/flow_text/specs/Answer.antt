@@ -1,11 +1,12 @@
 -- What a text of a flow file is answered.
-use Rattle.std.specs.Prelude.{◌≡◌, ℕ, List, Option, Some, None, Result, Ok, Err}
+use Rattle.std.specs.Prelude.{◌≡◌, ℕ, List, Option, Some, None, Result, Ok, Err, ⊤}
 use Rattle.mc_base.specs.declared.refusal.Refusal.{Refusal}
 use Rattle.mc_base.specs.declared.refusal.Refusal.TheVariants as refusals
 use Rattle.mc_base.specs.declared.refusal.Input.TheVariants as inputs
 use Rattle.flow_text.specs.declared.line.Line.{Line}
 use Rattle.flow_text.specs.declared.fault.Fault.{Fault}
 use Rattle.flow_text.specs.Text.{IsText, lines_of}
+use Rattle.flow_text.specs.Faults.{IsFirstFault}
 use Rattle.flow_text.specs.Grammar.{FlowFile, IsFlowFile}
 use Rattle.flow_text.specs.Limits.{limit_passed}
 
@@ -42,3 +43,19 @@ pub record IsRead (text : List ℕ) (lines : List Line) : Type 0 where
   pub spelled : IsText 0 lines text
   pub on_grammar : IsFlowFile lines file
   pub within : limit_passed lines ≡ None
+
+-- The lines of the text are a flow file, and this is the first limit that they pass.
+pub record IsPastLimit (text : List ℕ) (refusal : Refusal) : Type 0 where
+  pub lines : List Line
+  pub file : FlowFile
+  pub spelled : IsText 0 lines text
+  pub on_grammar : IsFlowFile lines file
+  pub passed : limit_passed lines ≡ Some refusal
+
+-- The text is refused for this reason: its first fault, or the first limit that a flow file passes; or memory ran out.
+abbrev pub IsRefused : List ℕ → Refusal → Type 0
+IsRefused text (refusals.Grammar input offset rule) =
+    (fault : Fault) × IsFirstFault text fault × (refusal_of fault ≡ refusals.Grammar input offset rule)
+IsRefused text (refusals.Construct input offset name) = ⊥
+IsRefused text (refusals.Limit name reached limit) = IsPastLimit text (refusals.Limit name reached limit)
+IsRefused text refusals.NoMemory = ⊤

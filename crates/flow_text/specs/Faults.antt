@@ -8,7 +8,8 @@ use Rattle.flow_text.specs.declared.fault.Fault.{Fault}
 use Rattle.flow_text.specs.declared.structure.Due.{Due}
 use Rattle.flow_text.specs.Forms.{IsForm}
 use Rattle.flow_text.specs.Grammar.{FlowFile, IsFlowFile, line, bottoms_behind}
-use Rattle.flow_text.specs.Text.{line_len, bad_byte, sound_len}
+use Rattle.mc_base.specs.SoundText.{sound_len}
+use Rattle.flow_text.specs.Text.{line_len, bad_byte}
 
 abbrev pub fault_at : ℕ → ℕ → Fault
 fault_at at rule = record { at = at; rule = rule }

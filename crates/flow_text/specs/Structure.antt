@@ -5,8 +5,8 @@ use Rattle.flow_text.specs.declared.line.Line.{Line}
 use Rattle.flow_text.specs.declared.line.Form.{Form}
 use Rattle.flow_text.specs.declared.line.Form.TheVariants as forms
 use Rattle.flow_text.specs.declared.fault.Fault.{Fault}
-use Rattle.flow_text.specs.declared.fault.ReadError.{ReadError}
-use Rattle.flow_text.specs.declared.fault.ReadError.TheVariants as errors
+use Rattle.mc_base.specs.declared.read_error.ReadError.{ReadError}
+use Rattle.mc_base.specs.declared.read_error.ReadError.TheVariants as errors
 use Rattle.flow_text.specs.declared.structure.Phase.{Phase}
 use Rattle.flow_text.specs.declared.structure.Phase.TheVariants as phases
 use Rattle.flow_text.specs.declared.structure.OpenRow.{OpenRow}
@@ -29,11 +29,11 @@ unless None r = r
 unless (Some f) r = Err f
 
 -- What a call answered is what reading gives, unless memory ran out.
-abbrev pub Fails : {A : Type 0} → ReadError → Result A Fault → Type 0
+abbrev pub Fails : {A : Type 0} → ReadError Fault → Result A Fault → Type 0
 Fails errors.Memory read = Unit {0}
 Fails (errors.Fault f) read = read ≡ Err f
 
-abbrev pub Gives : {A : Type 0} → Result A ReadError → Result A Fault → Type 0
+abbrev pub Gives : {A : Type 0} → Result A (ReadError Fault) → Result A Fault → Type 0
 Gives (Ok x) read = read ≡ Ok x
 Gives (Err e) read = Fails e read
 

@@ -1,6 +1,6 @@
 -- The text of a flow file: its lines with their offsets, and what is read in it.
-use Rattle.std.specs.Prelude.{◌≡◌, ℕ, suc, ◌+◌, ◌==◌, nat_lt, min, List, [], ◌∷◌, ◌++◌, length, Bool, true, false, ◌||◌, if◌then◌else◌, Option, Some, None, Result, Ok, Err}
-use Rattle.std.specs.Str.Lossy.{utf8_valid_len}
+use Rattle.std.specs.Prelude.{◌≡◌, ℕ, suc, ◌+◌, ◌==◌, nat_lt, List, [], ◌∷◌, ◌++◌, length, Bool, true, false, ◌||◌, if◌then◌else◌, Option, Some, None, Result, Ok, Err}
+use Rattle.mc_base.specs.SoundText.{sound_len}
 use Rattle.flow_text.specs.declared.line.Line.{Line}
 use Rattle.flow_text.specs.declared.line.Form.{Form}
 use Rattle.flow_text.specs.declared.fault.Fault.{Fault}
@@ -22,10 +22,6 @@ len_before stop (b ∷ bytes) = if b == stop then 0 else suc (len_before stop by
 
 abbrev pub line_len : List ℕ → ℕ
 line_len bytes = len_before 10 bytes
-
--- how many bytes stand before the first U+0000 and the first sequence that is no UTF-8
-abbrev pub sound_len : List ℕ → ℕ
-sound_len bytes = min (len_before 0 bytes) (utf8_valid_len bytes)
 
 -- where the first byte stands that isn't from space to `~`
 abbrev pub first_bad : ℕ → List ℕ → Option ℕ

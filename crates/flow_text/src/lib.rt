@@ -14,8 +14,8 @@ mod laws;
 mod limit;
 mod line;
 mod number;
+mod pile;
 mod reading;
-mod stack;
 mod structure;
 
 pub use laws::{
@@ -25,8 +25,8 @@ pub use laws::{
     what_is_read_is_the_text_of_a_flow_file, what_is_read_so_far_begins_a_flow_file,
 };
 pub use line::{Form, Line};
+pub use pile::Pile;
 pub use reading::read;
-pub use stack::Stack;
 
 #[cfg(test)]
 mod tests;

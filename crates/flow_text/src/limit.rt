@@ -4,7 +4,7 @@ ghost use Rattle.std.specs.Prelude.{◌≡◌, ◌<◌, ◌^◌, IfOk};
 ghost use Rattle.flow_text.specs.Limits as limits;
 
 use crate::line::{Form, Line};
-use crate::stack::Stack;
+use crate::pile::Pile;
 use mc_base::{LimitName, NoMemory, Refusal};
 use std::alloc::Global;
 
@@ -143,7 +143,7 @@ fn one_more(count: u64) -> u64
 #[derive(Drop)]
 pub struct Counts {
     inner: u64,
-    outer: Stack<u64>,
+    outer: Pile<u64>,
 }
 
 impl Counts {
@@ -189,7 +189,7 @@ fn has_crowded_row(alloc: Global, lines: &[Line]) -> Result<bool, NoMemory>
 {
     let mut counts = Counts {
         inner: 0,
-        outer: Stack::new(alloc),
+        outer: Pile::new(alloc),
     };
     for line in lines {
         counts = counts.behind(line.form)?;

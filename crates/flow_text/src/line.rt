@@ -3,7 +3,7 @@
 use mc_base::{Level, Units};
 
 /// A line: the byte at which it begins, and what it says.
-#[derive(Clone, Copy)]
+#[derive(Clone, Copy, Debug, PartialEq, Eq)]
 pub struct Line {
     pub at: u64,
     pub form: Form,
@@ -14,7 +14,7 @@ pub struct Line {
 /// `Flow` is `flow 1`, `First` the second line (`row N W STEP A FILL`), `Start` is `( B X W I` with or without the two
 /// amounts that its box has again at each break, `End` is `) B`, `Row` begins a row inside a row, `Break` is `| L`, and
 /// `Close` is `end`.
-#[derive(Clone, Copy)]
+#[derive(Clone, Copy, Debug, PartialEq, Eq)]
 pub enum Form {
     Flow,
     First {

@@ -1,23 +1,23 @@
 //! Reading a text line by line.
 
-ghost use Rattle.std.specs.Prelude.{◌≡◌, ◌+◌, ◌<◌, ◌^◌, List, length, IfOk, IsErrOf};
+ghost use Rattle.std.specs.Prelude.{◌≡◌, ◌+◌, ◌<◌, ◌^◌, List, length, IfOk, IfErr, IsErrOf};
 ghost use Rattle.flow_text.specs.declared.fault.Fault.{Fault};
 ghost use Rattle.flow_text.specs.declared.line.Line.{Line};
 ghost use Rattle.flow_text.specs.Answer as answers;
-ghost use Rattle.flow_text.specs.Answer.{IsAnswer, answer_of, IsRead};
+ghost use Rattle.flow_text.specs.Answer.{IsAnswer, answer_of, IsRead, IsRefused};
 ghost use Rattle.flow_text.specs.Faults.{IsFirstFault};
 ghost use Rattle.flow_text.specs.Grammar.{FlowFile, IsFlowFile};
 ghost use Rattle.flow_text.specs.Structure.{Gives};
 ghost use Rattle.flow_text.specs.Text as texts;
 ghost use Rattle.flow_text.specs.Text.{IsText};
 
-use crate::cut::{bad_byte, len_before, sound_len};
+use crate::cut::{bad_byte, len_before};
 use crate::fault::{Fault, ReadError, fault_at};
 use crate::form::form_of;
 use crate::limit::limit_passed;
 use crate::line::{Form, Line};
 use crate::structure::{Reading, fault_of_due, fault_of_ending, take, what_is_due};
-use mc_base::{Input, List, Refusal, Rule};
+use mc_base::{Input, List, Refusal, Rule, sound_len};
 use std::alloc::Global;
 
 /// What a line breaks that is of no form.
@@ -128,10 +128,10 @@ fn answer(alloc: Global, text: &[u8]) -> Result<List<Line>, Refusal>
     }
 }
 
-/// The lines of a flow file, of at most 2^28 bytes.
+/// The lines of a flow file, whatever its size.
 ///
-/// `Grammar` comes off the grammar, with the first fault, and `Limit` on it where a limit is passed, the first of
-/// `length`, `columns`, `nest`, `items` and `inner-items`.
+/// `Grammar` comes off the grammar, with the first fault and its byte, and `Limit` on it where a limit is passed, the first
+/// of `length`, `columns`, `nest`, `items` and `inner-items`. `NoMemory` is want of memory.
 pub fn read(alloc: Global, text: &[u8]) -> Result<List<Line>, Refusal>
     // What is read is the text's lines, and they are a flow file within its limits.
     ensures found { IfOk result (λ lines. IsRead text.now lines) }
@@ -139,6 +139,8 @@ pub fn read(alloc: Global, text: &[u8]) -> Result<List<Line>, Refusal>
     ensures only { (lines : List Line) (file : FlowFile) → IsText 0 lines text.now → IsFlowFile lines file → IsAnswer result (answers.within_limits lines) }
     // The fault that is answered is the first, by the grammar.
     ensures first { (fault : Fault) → IsErrOf result (answers.refusal_of fault) → IsFirstFault text.now fault }
+    // Each refusal has its cause: the first fault, or the first limit that a flow file passes.
+    ensures refused { IfErr result (IsRefused text.now) }
     // Which answer it is, line by line from the front.
     ensures exact { IsAnswer result (answer_of text.now) }
 {

@@ -2,7 +2,7 @@
 
 use crate::fault::{Fault, ReadError, fault_at};
 use crate::line::{Form, Line};
-use crate::stack::Stack;
+use crate::pile::Pile;
 use mc_base::List;
 use std::alloc::Global;
 
@@ -23,7 +23,7 @@ pub enum Phase {
 pub struct OpenRow {
     pub at: u64,
     pub phase: Phase,
-    pub boxes: Stack<u64>,
+    pub boxes: Pile<u64>,
 }
 
 /// A start, at this byte, whose amount at the top must follow at once.
@@ -38,7 +38,7 @@ pub struct Due {
 #[derive(Drop)]
 pub struct Rows {
     pub row: OpenRow,
-    pub outer: Stack<OpenRow>,
+    pub outer: Pile<OpenRow>,
     pub bottoms: List<u64>,
     pub due: Option<Due>,
     pub solid: Option<u64>,
@@ -112,7 +112,7 @@ fn open_row(alloc: Global, at: u64) -> OpenRow
     OpenRow {
         at,
         phase: Phase::Empty,
-        boxes: Stack::new(alloc),
+        boxes: Pile::new(alloc),
     }
 }
 
@@ -122,7 +122,7 @@ fn begun(alloc: Global, at: u64) -> Rows
 {
     Rows {
         row: open_row(alloc, at),
-        outer: Stack::new(alloc),
+        outer: Pile::new(alloc),
         bottoms: List::new(alloc),
         due: None,
         solid: None,

@@ -9,11 +9,13 @@ use Rattle.std.proofs.lemmas.List.Elements.{All-from_recursion}
 use Rattle.std.proofs.lemmas.Slice.Eq.{bytes_eq-Decides}
 use Rattle.std.proofs.lemmas.Str.{utf8_valid_len-IsUtf8, utf8_valid_len_le, IsUtf8-from_ascii}
 use Rattle.std.proofs.lemmas.Str.Ascii.{IsAscii-from_all}
+use Rattle.mc_base.specs.SoundText.{sound_len}
+use Rattle.mc_base.proofs.SoundBytes.{IsSafe, sound_text}
 use Rattle.font_table.specs.declared.fonts.Advance.{Advance}
 use Rattle.font_table.specs.declared.fonts.Face.{Face}
 use Rattle.font_table.specs.declared.reading.Building.{Building}
 use Rattle.font_table.specs.Sound.{AreSound, IsSoundFace, IsSound}
-use Rattle.font_table.specs.Table.{is_plain, IsLine, text_of, sound_len, AreCharacters, AreFaces, IsTable, IsMetrics, IsFaceLine, IsCharacterLine, Begins, HasLine, IsFaultBehind, bad_byte, cut_short, no_header, no_form, out_of_order, no_face, IsFaultOfLines, IsFirstFault}
+use Rattle.font_table.specs.Table.{is_plain, IsLine, text_of, AreCharacters, AreFaces, IsTable, IsMetrics, IsFaceLine, IsCharacterLine, Begins, HasLine, IsFaultBehind, bad_byte, cut_short, no_header, no_form, out_of_order, no_face, IsFaultOfLines, IsFirstFault}
 use Rattle.font_table.specs.Forms.{face_at, character_at}
 use Rattle.font_table.specs.Reading.{Fault, fault, ◌>>=◌, faces_of, nothing_yet, face_begun, character_taken, form_taken, line_taken, read_from, ended, all_of}
 use Rattle.font_table.proofs.Forms.{both, face_again, character_found, character_again}
@@ -262,9 +264,6 @@ is_found text faces e = by_sound (ltb (sound_len text) (length text)) e
 
 -- ---- a table is read
 
-abbrev IsSafe : ℕ → Type 0
-IsSafe b = (0 < b) × (b < 128)
-
 line_safe : (line rest : List ℕ) → IsLine line → AllByRecursion IsSafe rest → AllByRecursion IsSafe (line ++ 10 ∷ rest)
 line_safe [] rest is safe = ((omega arith, omega arith), safe)
 line_safe (b ∷ line) rest is safe =
@@ -275,25 +274,6 @@ line_safe (b ∷ line) rest is safe =
 text_safe : (lines : Lines) → AllByRecursion IsLine lines → AllByRecursion IsSafe (text_of lines)
 text_safe [] are = tt
 text_safe (line ∷ lines) are = line_safe line (text_of lines) are.0 (text_safe lines are.1)
-
-low_bytes : (bytes : List ℕ) → AllByRecursion IsSafe bytes → AllByRecursion (λ b. b < 128) bytes
-low_bytes [] safe = tt
-low_bytes (b ∷ bytes) safe = (safe.0.1, low_bytes bytes safe.1)
-
-no_nul : (bytes : List ℕ) → AllByRecursion IsSafe bytes → position_or_len (λ b. eqb b 0) bytes ≡ length bytes
-no_nul [] safe = refl
-no_nul (b ∷ bytes) safe =
-    let other : eqb b 0 ≡ false = ne_eqb b 0 (λ same. omega (arith, same, safe.0.0)) in
-    let one : position_or_len (λ b. eqb b 0) (b ∷ bytes) ≡ 1 + position_or_len (λ b. eqb b 0) bytes = rw other refl in
-    omega (arith, one, no_nul bytes safe.1)
-
-pub sound_text : (bytes : List ℕ) → AllByRecursion IsSafe bytes → sound_len bytes ≡ length bytes
-sound_text bytes safe =
-    let valid = utf8_valid_len-IsUtf8 bytes (IsUtf8-from_ascii bytes (IsAscii-from_all bytes (All-from_recursion (λ b. b < 128) bytes (low_bytes bytes safe)))) in
-    let whole = no_nul bytes safe in
-    let none : ltb (position_or_len (λ b. eqb b 0) bytes) (length bytes) ≡ false = le-ltb _ _ (omega (arith, whole)) in
-    let first : unwrap_or (position (λ b. eqb b 0) bytes) (length bytes) ≡ length bytes = rw none refl in
-    omega (arith, valid, first)
 
 pub is_read : (text : List ℕ) (faces : List Face) → IsMetrics text faces → all_of text ≡ Ok faces
 unfolding all_of

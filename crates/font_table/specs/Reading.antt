@@ -7,7 +7,8 @@ use Rattle.mc_base.specs.declared.refusal.Input.TheVariants as inputs
 use Rattle.font_table.specs.declared.fonts.Advance.{Advance}
 use Rattle.font_table.specs.declared.fonts.Face.{Face}
 use Rattle.font_table.specs.declared.reading.Building.{Building}
-use Rattle.font_table.specs.Table.{is_plain, sound_len, IsFirstFault}
+use Rattle.mc_base.specs.SoundText.{sound_len}
+use Rattle.font_table.specs.Table.{is_plain, IsFirstFault}
 use Rattle.font_table.specs.Forms.{face_at, character_at}
 
 pub record Fault : Type 0 where

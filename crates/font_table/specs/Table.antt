@@ -3,7 +3,7 @@
 use Rattle.std.specs.Prelude.{◌≡◌, ◌≢◌, ℕ, ◌+◌, ◌<◌, ◌≤◌, Bool, true, false, IsTrue, ◌⊎◌, ◌&&◌, ◌||◌, nat_le, ◌==◌, min, List, [], ◌∷◌, ◌++◌, length, slice_index, codes, unwrap_or}
 use Rattle.std.specs.List.{AllByRecursion, list_all, position}
 use Rattle.std.specs.Char.{IsScalar}
-use Rattle.std.specs.Str.Lossy.{utf8_valid_len}
+use Rattle.mc_base.specs.SoundText.{sound_len}
 use Rattle.std.specs.Str.Parse.{digits_value}
 use Rattle.font_table.specs.declared.fonts.Advance.{Advance}
 use Rattle.font_table.specs.declared.fonts.Face.{Face}
@@ -115,10 +115,6 @@ pub record IsMetrics (text : List ℕ) (faces : List Face) : Type 0 where
   pub is_table : IsTable lines faces
 
 -- ---- the first fault
-
--- where the first U+0000 or the first bad sequence of UTF-8 begins, or the text's length
-abbrev pub sound_len : List ℕ → ℕ
-sound_len text = min (unwrap_or (position (λ b. b == 0) text) (length text)) (utf8_valid_len text)
 
 -- some table begins with these lines
 abbrev pub Begins : List (List ℕ) → Type 0

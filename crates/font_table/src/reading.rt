@@ -2,8 +2,7 @@
 
 ghost use Rattle.std.specs.Prelude.{◌≡◌, ◌==◌, ◌≤◌, ◌<◌, ◌^◌, List as Items, [], length, min, Ok, IfOk, IfErr};
 ghost use Rattle.std.specs.List.{position};
-ghost use Rattle.std.specs.Str.Lossy.{utf8_valid_len};
-ghost use Rattle.font_table.specs.Table.{is_plain as is_plain_byte, sound_len as sound_len_of, IsMetrics};
+ghost use Rattle.font_table.specs.Table.{is_plain as is_plain_byte, IsMetrics};
 ghost use Rattle.font_table.specs.declared.fonts.Face.{Face as OneFace};
 ghost use Rattle.font_table.specs.Views.{face_of};
 ghost use Rattle.font_table.specs.Reading as reading;
@@ -11,7 +10,7 @@ ghost use Rattle.font_table.specs.Reading.{Gives, IsRefusalOf};
 
 use crate::fonts::{Advance, Face, Fonts};
 use crate::line::{FaceLine, character_line, face_line};
-use mc_base::{Input, List, Refusal, Rule, Text};
+use mc_base::{Input, List, Refusal, Rule, Text, sound_len};
 use std::alloc::Global;
 
 /// A table that is being read: the faces before the last one, the last one, and the least code that its next character
@@ -146,29 +145,6 @@ fn lines(alloc: Global, text: &[u8]) -> Result<Building, Refusal>
         return Err(fault(start, 2));
     }
     Ok(building)
-}
-
-/// Where the first U+0000 stands.
-fn first_nul(text: &[u8]) -> Option<usize>
-    ensures { result ≡ position (λ b. b == 0) text.now }
-{
-    text.iter().position(|byte| *byte == 0)
-}
-
-/// How many bytes stand before the first bad sequence of UTF-8.
-fn valid_len(text: &[u8]) -> usize
-    ensures { result ≡ utf8_valid_len text.now }
-{
-    match str::from_utf8(text) {
-        Ok(_) => text.len(),
-        Err(error) => error.valid_up_to(),
-    }
-}
-
-fn sound_len(text: &[u8]) -> usize
-    ensures { result ≡ sound_len_of text.now }
-{
-    first_nul(text).unwrap_or(text.len()).min(valid_len(text))
 }
 
 #[tactic(auto, unfolding(crate::specs::Reading::all_of))]

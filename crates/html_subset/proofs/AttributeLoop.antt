@@ -6,8 +6,8 @@ use Rattle.html_grammar.specs.declared.token.ReadAttribute.{ReadAttribute}
 use Rattle.html_grammar.specs.declared.token.ReadAttributes.{ReadAttributes}
 use Rattle.html_grammar.specs.Tokens.{fault}
 use Rattle.html_grammar.specs.Lexing.{piece_at, attributes_from, with_attribute}
-use Rattle.html_subset.specs.declared.fault.ReadError.{ReadError}
-use Rattle.html_subset.specs.declared.fault.ReadError.TheVariants as errors
+use Rattle.mc_base.specs.declared.read_error.ReadError.{ReadError}
+use Rattle.mc_base.specs.declared.read_error.ReadError.TheVariants as errors
 use Rattle.html_subset.specs.Gives.{Fails}
 
 abbrev Read : Type 0
@@ -20,7 +20,7 @@ attributes_go n i tag x y ps after a total lt h grown so_far =
     let one : attributes_from (n - i) n tag x ps ≡ attributes_from (n - (i + 1)) n tag (with_attribute x a) after = rw (k, h) refl in
     rw grown (sym one ∙ so_far)
 
-pub attributes_fail : (e : ReadError) (n i tag : ℕ) (x : ReadAttributes) (ps : List Place) (total : Read) → i < n → Fails e (piece_at n tag ps) → attributes_from (n - i) n tag x ps ≡ total → Fails e total
+pub attributes_fail : (e : ReadError Fault) (n i tag : ℕ) (x : ReadAttributes) (ps : List Place) (total : Read) → i < n → Fails e (piece_at n tag ps) → attributes_from (n - i) n tag x ps ≡ total → Fails e total
 unfolding attributes_from
 attributes_fail errors.Memory n i tag x ps total lt h so_far = tt
 attributes_fail (errors.Fault f) n i tag x ps total lt h so_far =

@@ -9,8 +9,8 @@ use Rattle.html_grammar.specs.Tokens.{◌>>=◌, late_of, construct_of}
 use Rattle.html_grammar.specs.Machine.{State, take_token}
 use Rattle.html_grammar.specs.Lexing.{token_at}
 use Rattle.html_grammar.specs.Whole.{Reading, or_found, not_late, concluded, read_from}
-use Rattle.html_subset.specs.declared.fault.ReadError.{ReadError}
-use Rattle.html_subset.specs.declared.fault.ReadError.TheVariants as errors
+use Rattle.mc_base.specs.declared.read_error.ReadError.{ReadError}
+use Rattle.mc_base.specs.declared.read_error.ReadError.TheVariants as errors
 use Rattle.html_subset.specs.Gives.{Fails}
 use Rattle.html_subset.specs.Turn.{turn}
 
@@ -62,7 +62,7 @@ goes_on n i size seen then found s next ps after p total lt h took is so_far =
     let one = turned n i size seen s ps p lt h in
     rw is (sym (rw took at one) ∙ so_far)
 
-pub turn_fails : (e : ReadError) (n i size : ℕ) (seen : Option Found) (s : State) (ps : List Place) (p : Place) (total : Total) → i < n → first ps ≡ Some p
+pub turn_fails : (e : ReadError Fault) (n i size : ℕ) (seen : Option Found) (s : State) (ps : List Place) (p : Place) (total : Total) → i < n → first ps ≡ Some p
     → Fails e (turn size s p (behind_first ps)) → read_from (n - i) size seen s ps ≡ total → Fails e total
 turn_fails errors.Memory n i size seen s ps p total lt h fails so_far = tt
 turn_fails (errors.Fault f) n i size seen s ps p total lt h fails so_far = let one = turned n i size seen s ps p lt h in sym so_far ∙ rw fails at one

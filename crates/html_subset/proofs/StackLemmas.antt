@@ -5,7 +5,7 @@ use Rattle.std.specs.Option.{option_to_list}
 use Rattle.std.proofs.lemmas.List.{take_more, take_all, reverse-append, length-reverse}
 use Rattle.html_grammar.specs.declared.stage.Open.{Open}
 use Rattle.html_grammar.specs.declared.token.Fault.{Fault}
-use Rattle.html_subset.specs.declared.fault.ReadError.{ReadError}
+use Rattle.mc_base.specs.declared.read_error.ReadError.{ReadError}
 use Rattle.html_subset.specs.Gives.{Gives}
 use Rattle.html_grammar.specs.Names.{same, omits, closes}
 use Rattle.html_grammar.specs.Tokens.{fault}
@@ -42,7 +42,7 @@ pub passed_on_top : (at : ℕ) (m : List ℕ) (html : Bool) (xs ys : List Open) 
 passed_on_top at m html xs ys o top is may = rw (top, is, may) refl
 
 -- at the bottom stands html
-pub at_bottom_gives : (r : Result Bool ReadError) (at : ℕ) (m : List ℕ) (html : Bool) (xs ys : List Open) (total : Result (List Open × Bool) Fault) → length xs ≡ 0 → length ys ≡ 0
+pub at_bottom_gives : (r : Result Bool (ReadError Fault)) (at : ℕ) (m : List ℕ) (html : Bool) (xs ys : List Open) (total : Result (List Open × Bool) Fault) → length xs ≡ 0 → length ys ≡ 0
     → without at m html (stack_of xs) ≡ total → Gives (λ left. ([], left)) r (without at m html []) → Gives (λ left. (stack_of ys, left)) r total
 at_bottom_gives r at m html xs ys total h k so_far gives =
     let e : without at m html [] ≡ total = ap (without at m html) (sym (stack_none xs h)) ∙ so_far in

@@ -3,15 +3,15 @@ use Rattle.std.specs.Prelude.{◌≡◌, ◌⊎◌, Result, Ok, Err}
 use Rattle.mc_base.specs.declared.refusal.Refusal.{Refusal}
 use Rattle.mc_base.specs.declared.refusal.Refusal.TheVariants as refusals
 use Rattle.html_grammar.specs.declared.token.Fault.{Fault}
-use Rattle.html_subset.specs.declared.fault.ReadError.{ReadError}
-use Rattle.html_subset.specs.declared.fault.ReadError.TheVariants as errors
+use Rattle.mc_base.specs.declared.read_error.ReadError.{ReadError}
+use Rattle.mc_base.specs.declared.read_error.ReadError.TheVariants as errors
 
-abbrev pub Fails : {Y : Type 0} → ReadError → Result Y Fault → Type 0
+abbrev pub Fails : {Y : Type 0} → ReadError Fault → Result Y Fault → Type 0
 Fails errors.Memory read = Unit {0}
 Fails (errors.Fault f) read = read ≡ Err f
 
 -- What a function returned, seen by view, is what reading gives, unless memory ran out.
-abbrev pub Gives : {X Y : Type 0} → (X → Y) → Result X ReadError → Result Y Fault → Type 0
+abbrev pub Gives : {X Y : Type 0} → (X → Y) → Result X (ReadError Fault) → Result Y Fault → Type 0
 Gives view (Ok x) read = read ≡ Ok (view x)
 Gives view (Err e) read = Fails e read
 

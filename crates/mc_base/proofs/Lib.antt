@@ -1,2 +1,3 @@
 pub mod NameCounts
 pub mod PutParts
+pub mod SoundBytes

@@ -1,3 +1,4 @@
 pub mod PlainTree
 pub mod Outside
 pub mod Memory
+pub mod SoundText

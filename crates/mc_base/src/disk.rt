@@ -1,6 +1,6 @@
 //! Files on the disk and a sink over a writer, as standard output is. They tell no content.
 
-ghost use Rattle.std.specs.Prelude.{◌≡◌, ℕ, List as Items, [], ◌++◌, length, OnOk, OnErr, None, ◌≤◌, IsErrOf};
+ghost use Rattle.std.specs.Prelude.{◌≡◌, ◌≢◌, ℕ, ◌<◌, ◌≤◌, List as Items, [], ◌∷◌, ◌++◌, OnOk, OnErr, None, IsErrOf};
 ghost use Rattle.std.specs.Io.{StartsWith};
 ghost use Rattle.mc_base.specs.Outside.{times_of, AppendsAtMost};
 
@@ -69,7 +69,17 @@ impl<D: Disk> Files for DiskFiles<D> {
     ghost faults = { λ d name. times_of name d };
 
     #[tactic(auto, using(crate::proofs::NameCounts::note_lemmas))]
-    fn read(&mut self, name: &str, limit: u64, into: &mut Vec<u8>) -> Result<(), FileFault> {
+    fn read(&mut self, name: &str, limit: u64, into: &mut Vec<u8>) -> Result<(), FileFault>
+        ensures others { (other : Items ℕ) → other ≢ name.now → times_of other self.new ≡ times_of other self.old }
+        ensures later { times_of name.now self.old ≤ times_of name.now self.new }
+        ensures ok { OnOk result (AppendsAtMost limit into.old.items into.new.items) }
+        ensures err { OnErr result (into.new.items ≡ into.old.items) }
+        ensures failed { IsErrOf result FileFault.Failed → times_of name.now self.old < times_of name.now self.new }
+        ensures too_long { (reached : ℕ) → IsErrOf result (FileFault.TooLong reached) → reached ≡ limit }
+
+        ensures noted { IsErrOf result FileFault.Failed → self.new ≡ self.old ++ name.now ∷ [] }
+        ensures not_noted { (IsErrOf result FileFault.Failed → ⊥) → self.new ≡ self.old }
+    {
         let start = into.len();
         let read = append_file(&self.disk, name, limit, into);
         let Err(fault) = read else {

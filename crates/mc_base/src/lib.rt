@@ -10,7 +10,9 @@ mod list;
 mod memory;
 mod noted;
 mod outside;
+mod read_error;
 mod refusal;
+mod sound_text;
 mod text;
 mod units;
 
@@ -19,6 +21,8 @@ pub use level::Level;
 pub use list::List;
 pub use memory::{HeldFile, MemoryFiles, MemorySink, SinkFail};
 pub use outside::{FileFault, Files, Sink, SinkFailed};
+pub use read_error::ReadError;
 pub use refusal::{ConstructName, Found, Input, LimitName, NoMemory, Refusal, Rule};
+pub use sound_text::sound_len;
 pub use text::Text;
 pub use units::{Rect, Units};

@@ -1,6 +1,6 @@
 //! Files and a sink in memory, whose failures are planned.
 
-ghost use Rattle.std.specs.Prelude.{◌≡◌, ◌≢◌, ℕ, ◌+◌, ◌-◌, ◌<◌, ◌≤◌, min, [], ◌==◌, List as Items, Some, Option, ◌++◌, length, find, OnOk, OnErr, IfOk, IfSome, IsErrOf, vec_len, vec_capacity, take};
+ghost use Rattle.std.specs.Prelude.{◌≡◌, ◌≢◌, ℕ, ◌+◌, ◌-◌, ◌^◌, ◌<◌, ◌≤◌, min, [], ◌∷◌, ◌==◌, List as Items, Some, Option, ◌++◌, length, find, OnOk, OnErr, IfOk, IfSome, IsErrOf, vec_len, vec_capacity, take};
 ghost use Rattle.mc_base.specs.Memory.{planned_takes, Puts};
 ghost use Rattle.std.specs.Option.{option_copied};
 ghost use Rattle.std.specs.Str.{bytes_eq};
@@ -85,6 +85,8 @@ impl Files for MemoryFiles {
             (reached ≡ limit) × IfSome (held_bytes self.old.files name.now) (λ bytes. limit < length bytes) }
 
         ensures call { self.new.calls ≡ next_call self.old.calls }
+        ensures noted { IsErrOf result FileFault.Failed → self.new.failed ≡ self.old.failed ++ name.now ∷ [] }
+        ensures not_noted { (IsErrOf result FileFault.Failed → ⊥) → self.new.failed ≡ self.old.failed }
         ensures files { self.new.files ≡ self.old.files }
         ensures fails { self.new.fails ≡ self.old.fails }
         ensures answer { IsAnswerUnlessNoMemory (is_planned self.old.fails self.new.calls)
@@ -226,6 +228,8 @@ impl Sink for MemorySink {
         ensures later { self.old.faults ≤ self.new.faults }
 
         ensures call { self.new.calls ≡ next_call self.old.calls }
+        ensures no_fault { OnOk result (self.new.faults ≡ self.old.faults) }
+        ensures fault { OnErr result (self.new.faults ≡ min (self.old.faults + 1) (2 ^ 64 - 1)) }
         ensures room { self.new.room ≡ self.old.room }
         ensures fails { self.new.fails ≡ self.old.fails }
         ensures puts { Puts (planned_takes self.old.fails self.new.calls) (self.old.room - length self.old.bytes)

@@ -11,7 +11,7 @@ returns-in_err-lines-clause-only c =
 pub returns-in_err-lines-clause-refused : goal.returns-in_err-lines-clause-refused
 returns-in_err-lines-clause-refused c =
     let p = err_from_is_err_and c.from_residual.result c.from_residual.ensures.1 in
-    rw (p.1, p.2) (refuses c.args.text.now c.in_err-lines.field-0.0 c.in_err-lines.ensures.exact)
+    rw (p.1, p.2) (refuses c.args.text.now c.in_err-lines.field-0.0 c.in_err-lines.ensures.refused)
 
 pub build-requires-clause-low : goal.build-requires-clause-low
 build-requires-clause-low c = rw c.as_slice.ensures (read_low c.args.text.now c.in_ok-lines.lines c.in_ok-lines.ensures.found)

@@ -1,4 +1,4 @@
-use Rattle.flow_text.proofs.AnswerLaws.{found, only, first}
+use Rattle.flow_text.proofs.AnswerLaws.{found, only, first, refused_for}
 use Rattle.flow_text.proofs.reading.read.Goals as goal
 
 pub returns-clause-found : goal.returns-clause-found
@@ -9,3 +9,6 @@ returns-clause-only c = only c.args.text.now c.answer.result c.answer.ensures
 
 pub returns-clause-first : goal.returns-clause-first
 returns-clause-first c = first c.args.text.now c.answer.result c.answer.ensures
+
+pub returns-clause-refused : goal.returns-clause-refused
+returns-clause-refused c = refused_for c.args.text.now c.answer.result c.answer.ensures

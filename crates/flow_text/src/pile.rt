@@ -3,13 +3,13 @@
 use std::alloc::{AllocFailed, Global};
 use std::marker::Model;
 
-/// A stack: contracts see its items from the top down.
+/// A pile: contracts see its items from the top down.
 #[derive(Drop)]
-pub struct Stack<T> {
+pub struct Pile<T> {
     items: Vec<T>,
 }
 
-impl<T> Model for Stack<T> {
+impl<T> Model for Pile<T> {
     ghost use Rattle.std.specs.Prelude.{List, reverse};
     ghost use base.Stored.{coded_list};
 
@@ -20,19 +20,19 @@ impl<T> Model for Stack<T> {
     ghost view = { λ s. reverse s.items.items };
 }
 
-impl<T> Stack<T> {
+impl<T> Pile<T> {
     ghost use Rattle.std.specs.Prelude.{◌≡◌, ◌==◌, [], ◌∷◌, length, OnOk, OnErr, MatchOption};
 
-    /// The empty stack. It takes no memory.
+    /// The empty pile. It takes no memory.
     pub fn new(alloc: Global) -> Self
         ensures { result ≡ [] }
     {
-        Stack {
+        Pile {
             items: Vec::new(alloc),
         }
     }
 
-    /// Puts an item on the top. After want of memory the stack is as before.
+    /// Puts an item on the top. After want of memory the pile is as before.
     pub fn push(&mut self, item: T) -> Result<(), AllocFailed<T>>
         ensures ok { OnOk result (self.new ≡ item ∷ self.old) }
         ensures err { OnErr result (self.new ≡ self.old) }
