@@ -60,8 +60,7 @@ fn made_at(alloc: Global, flows: &Flows, row: u32, height: Units) -> Result<Made
     // Sealed flows are sound.
     let _counts = flow_counts(flows);
     let most = most_columns(flows, row);
-    let made = columns_at(alloc, flows, row_at(flows, row).flow, most, height)?;
-    Ok(made)
+    columns_at(alloc, flows, row_at(flows, row).flow, most, height)
 }
 
 /// Whether this much is available, and no more.
