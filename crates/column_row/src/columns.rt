@@ -27,7 +27,7 @@ pub struct Made {
 }
 
 /// The seam at a flow's start.
-fn beginning(flows: &Flows, flow: u32) -> Beginning
+pub fn beginning(flows: &Flows, flow: u32) -> Beginning
     requires flow { flow < length flows.now.flows }
     requires atoms { HoldsAtoms (flow_of flows.now flow) }
     ensures item { result.item ≡ 0 }

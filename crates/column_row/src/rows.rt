@@ -60,8 +60,7 @@ fn made_at(alloc: Global, flows: &Flows, row: u32, height: Units) -> Result<Made
     // Sealed flows are sound.
     let _counts = flow_counts(flows);
     let most = most_columns(flows, row);
-    let made = columns_at(alloc, flows, row_at(flows, row).flow, most, height)?;
-    Ok(made)
+    columns_at(alloc, flows, row_at(flows, row).flow, most, height)
 }
 
 /// Whether this much is available, and no more.
@@ -87,8 +86,8 @@ fn at_most(available: Option<Units>, height: Units) -> Units
 /// The height of a balanced row: the least that fits, or what is available where that is less.
 ///
 /// Heights are tried from below, since above one that fits there may be others that don't. The first is the least at
-/// which there is room for the tallest atom, and in all columns for the atoms together; the next is always the least at
-/// which a column may end elsewhere.
+/// which there is room for each atom after an unforced break, and in all columns for the atoms together; the next is always
+/// the least at which a column may end elsewhere.
 fn least_height(flows: &Flows, row: u32, available: Option<Units>) -> Units
     requires row { row < length flows.now.rows }
     requires atoms { HoldsAtoms (flow_in flows.now row) }
