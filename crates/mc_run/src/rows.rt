@@ -6,9 +6,9 @@ ghost use Rattle.flow_list.specs.Atoms.{HoldsAtoms};
 ghost use Rattle.flow_list.specs.FileFlows.{flows_of};
 ghost use Rattle.flow_data.specs.Flows.{flow_in};
 ghost use Rattle.flow_list.specs.Stacks.{available_at};
-ghost use Rattle.frag_printer.specs.FlatRows.{flat_rows};
+ghost use Rattle.frag_printer.specs.FlatRows.{HoldsFlatRows, flat_rows};
 ghost use Rattle.mc_run.specs.Printed.{result_text};
-ghost use Rattle.mc_run.specs.Outcome.{IsFlat, IsFlowResult, RefusesBytes};
+ghost use Rattle.mc_run.specs.Outcome.{IsFlowResult, RefusesBytes};
 
 use column_row::flat_row;
 use flow_list::{Bound, FlatRow, Flows, flow_counts, read_flow, stack_at};
@@ -26,8 +26,8 @@ const LAST_LINE: &[u8] = b"end\n";
 /// Whether no row of a flow file's flows holds another one. Each row but the first stands in another one.
 fn is_flat(flows: &Flows) -> bool
     requires { (file : FlowFile) × (flows.now ≡ flows_of file) }
-    ensures flat { result ≡ true → IsFlat flows.now }
-    ensures nested { result ≡ false → IsFlat flows.now → ⊥ }
+    ensures flat { result ≡ true → HoldsFlatRows flows.now }
+    ensures nested { result ≡ false → HoldsFlatRows flows.now → ⊥ }
 {
     flow_counts(flows).rows == 1
 }
@@ -46,7 +46,7 @@ fn available(bound: Bound) -> Option<Units>
 /// The one row of a flow file, laid out.
 fn laid_rows(alloc: Global, flows: &Flows) -> Result<List<FlatRow>, NoMemory>
     requires file { (file : FlowFile) × (flows.now ≡ flows_of file) }
-    requires flat { IsFlat flows.now }
+    requires flat { HoldsFlatRows flows.now }
     ensures { IfOk result (λ rows. rows ≡ flat_rows flows.now) }
 {
     let stack = *stack_at(flows, 0);
@@ -60,7 +60,7 @@ fn laid_rows(alloc: Global, flows: &Flows) -> Result<List<FlatRow>, NoMemory>
 #[tactic(auto, unfolding(crate::specs::Printed::result_text))]
 fn write_result(alloc: Global, flows: &Flows) -> Result<Option<Text>, NoMemory>
     requires file { (file : FlowFile) × (flows.now ≡ flows_of file) }
-    requires flat { IsFlat flows.now }
+    requires flat { HoldsFlatRows flows.now }
     ensures text { IfOk result (λ found. IfSome found (λ text. text ≡ result_text flows.now)) }
     ensures short { IfOk result (λ found. IfSome found (λ text. length text ≤ RESULT_LIMIT)) }
     ensures long { IfOk result (λ found. found ≡ None → RESULT_LIMIT < length (result_text flows.now)) }
