@@ -5,15 +5,14 @@ ghost use Rattle.flow_text.specs.Grammar.{FlowFile};
 ghost use Rattle.flow_list.specs.Atoms.{HoldsAtoms};
 ghost use Rattle.flow_list.specs.FileFlows.{flows_of};
 ghost use Rattle.flow_data.specs.Flows.{flow_in};
-ghost use Rattle.flow_list.specs.Stacks.{available_at};
 ghost use Rattle.frag_printer.specs.FlatRows.{HoldsFlatRows, flat_rows};
 ghost use Rattle.mc_run.specs.Printed.{result_text};
 ghost use Rattle.mc_run.specs.Outcome.{IsFlowResult, RefusesBytes};
 
 use column_row::flat_row;
-use flow_list::{Bound, FlatRow, Flows, flow_counts, read_flow, stack_at};
-use frag_printer::write_flat_within;
-use mc_base::{ConstructName, Input, LimitName, List, NoMemory, Refusal, Text, Units};
+use flow_list::{FlatRow, Flows, flow_counts, read_flow, stack_at};
+use frag_printer::{available_in, write_flat_within};
+use mc_base::{ConstructName, Input, LimitName, List, NoMemory, Refusal, Text};
 use std::alloc::Global;
 
 /// How many bytes a result may have.
@@ -32,17 +31,6 @@ fn is_flat(flows: &Flows) -> bool
     flow_counts(flows).rows == 1
 }
 
-/// The height that a row at a stack's top may use.
-fn available(bound: Bound) -> Option<Units>
-    ensures { result ≡ available_at bound 0 }
-{
-    match bound {
-        Bound::Free => None,
-        Bound::Each(height) => Some(height),
-        Bound::Left(height) => Some(height.max(64)),
-    }
-}
-
 /// The one row of a flow file, laid out.
 fn laid_rows(alloc: Global, flows: &Flows) -> Result<List<FlatRow>, NoMemory>
     requires file { (file : FlowFile) × (flows.now ≡ flows_of file) }
@@ -51,7 +39,7 @@ fn laid_rows(alloc: Global, flows: &Flows) -> Result<List<FlatRow>, NoMemory>
 {
     let stack = *stack_at(flows, 0);
     let mut rows = List::new(alloc);
-    rows.push(flat_row(alloc, flows, 0, available(stack.bound))?)?;
+    rows.push(flat_row(alloc, flows, 0, available_in(stack.bound, 0))?)?;
     Ok(rows)
 }
 
