@@ -10,10 +10,10 @@ use Rattle.flow_list.specs.Rows.{all_rows}
 use Rattle.flow_data.specs.Soundness.{IsSound}
 use Rattle.flow_list.proofs.AtomFlows.{reach-bound}
 use Rattle.frag_printer.specs.Columns.{column_places}
+use Rattle.frag_printer.proofs.Placements.{IsPlacedIn, feet_in}
 use Rattle.frag_printer.proofs.Rowless.{IsNoRow, column-rowless}
 use Rattle.frag_printer.proofs.PlacedKnown.{places-known}
 use Rattle.frag_printer.proofs.PlacesLow.{places-low}
-use Rattle.frag_printer.specs.Parts.{IsPlacedIn, feet_in}
 
 pub record IsKnownColumn (d : FlowsData) (f : Flow) (i e : ℕ) : Type 0 where
   pub known : Each (IsPlacedIn d f) (column_places d f i e)

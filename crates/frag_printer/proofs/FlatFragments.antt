@@ -18,10 +18,11 @@ use Rattle.flow_list.specs.Placing.{RowLaid, Placed}
 use Rattle.flow_list.specs.Fragments.{laid_items, fills_item, stop_of, laid_to, laid_start, places_in, all_trees, column_made, fragment_of, row_fragments, stack_fragment}
 use Rattle.flow_list.specs.Tree.{TreeLine, col, stack, lines_of_stack, Frame, column_frame, lines_of_tree, lines_of_column}
 use Rattle.flow_list.proofs.AtomFlows.{atom-row}
-use Rattle.frag_printer.specs.FlatLines.{flat_lines, ArePlacedNested}
+use Rattle.frag_printer.specs.FlatLines.{flat_lines}
 use Rattle.frag_printer.specs.StackParts.{stack_places}
 use Rattle.frag_printer.proofs.Flattened.{trees-flat, column-flat}
 use Rattle.frag_printer.proofs.NestedLaid.{whole-items-nested, stack-nested}
+use Rattle.frag_printer.proofs.Placements.{ArePlacedNested}
 
 -- ---- in flows of atoms no row is filled
 

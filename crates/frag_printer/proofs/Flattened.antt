@@ -11,7 +11,8 @@ use Rattle.flow_list.specs.Tokens.{Token}
 use Rattle.flow_list.specs.Placing.{RowLaid, Placed, opens_at, closes_at, atom_at, row_at}
 use Rattle.flow_list.specs.Fragments.{closes_here, inside_box, behind_box, bottom_of, trees_of, all_trees}
 use Rattle.flow_list.specs.Tree.{TreeLine, col, Frame, item_lines, piece_height, column_frame, lines_of_tree, lines_of_trees, lines_of_columns, lines_of_column}
-use Rattle.frag_printer.specs.FlatLines.{box_line, height_laid, row_line, flat_lines, ArePlacedNested}
+use Rattle.frag_printer.specs.FlatLines.{box_line, height_laid, row_line, flat_lines}
+use Rattle.frag_printer.proofs.Placements.{ArePlacedNested}
 
 -- ---- what stands inside a box and behind it
 

@@ -13,6 +13,7 @@ pub mod NestedPlaces
 pub mod OpenLists
 pub mod PartLines
 pub mod PlacedKnown
+pub mod Placements
 pub mod PlacesLow
 pub mod Rowless
 pub mod SoFar

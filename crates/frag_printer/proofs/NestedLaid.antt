@@ -20,9 +20,9 @@ use Rattle.flow_data.specs.Soundness.{AreNested, IsSoundFlow}
 use Rattle.flow_list.specs.Stacks.{stack_strip, height_in_stack}
 use Rattle.flow_list.specs.Placing.{Laid, laid_edges, places_from}
 use Rattle.flow_list.specs.Fragments.{laid_item, laid_items, laid_before, strip_after, filled_row, laid_filled, strip_filled, fills_item, laid_to, laid_start, places_in, continued_from, laid_in_stack, stack_laid}
-use Rattle.frag_printer.specs.FlatLines.{ArePlacedNested}
 use Rattle.frag_printer.proofs.NestedPlaces.{mark, marks, laid_mark, laid_marks, edges-marks, AreOnce, places-nested}
 use Rattle.frag_printer.proofs.NestedAcross.{both, edges_from, nested-front, once-front, from-nested, from-once, at-nested, at-once}
+use Rattle.frag_printer.proofs.Placements.{ArePlacedNested}
 
 -- ---- the edges among items
 

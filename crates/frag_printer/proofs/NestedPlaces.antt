@@ -15,7 +15,7 @@ use Rattle.flow_data.specs.Soundness.{count_of, AreNested}
 use Rattle.flow_list.specs.Strip.{Strip, lay}
 use Rattle.flow_list.specs.Placing.{Laid, margin, solid, wall, opens, closes, atom, row, laid_edge, laid_edges, ends_gap, gap_of, behind_gap, gap_height, Placed, opens_at, closes_at, atom_at, row_at, placed_in_gap, gap_places, placed_item, laid_height, places_from}
 use Rattle.flow_list.specs.Fragments.{continued_from}
-use Rattle.frag_printer.specs.FlatLines.{ArePlacedNested}
+use Rattle.frag_printer.proofs.Placements.{ArePlacedNested}
 
 -- ---- the starts and ends of boxes among edges, what is laid and what is placed
 

@@ -14,7 +14,8 @@ use Rattle.frag_printer.specs.declared.placing.Placed.TheVariants.{Opens, Closes
 use Rattle.flow_list.specs.TreeText.{tree_line_text, tree_text}
 use Rattle.frag_printer.specs.FlatLines.{ArePlaces, box_line, out_of_box, flat_lines}
 use Rattle.frag_printer.specs.PartLines.{part_lines}
-use Rattle.frag_printer.specs.Parts.{IsPartIn, IsPlacedIn, feet_in, feet_of, part_of, parts_of}
+use Rattle.frag_printer.specs.Parts.{IsPartIn, feet_of, part_of, parts_of}
+use Rattle.frag_printer.proofs.Placements.{IsPlacedIn, feet_in}
 use Rattle.frag_printer.proofs.Rowless.{IsNoRow}
 use Rattle.frag_printer.specs.Placing.{placed_as, row_stands}
 

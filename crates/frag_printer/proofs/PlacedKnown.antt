@@ -25,7 +25,7 @@ use Rattle.flow_list.proofs.OpenAcross.{across-known}
 use Rattle.flow_data.proofs.OpenBoxes.{starts-known, ends-known}
 use Rattle.flow_list.proofs.PlaceBounds.{Each-append}
 use Rattle.frag_printer.specs.Columns.{column_laid, column_places}
-use Rattle.frag_printer.specs.Parts.{IsPlacedIn, feet_in}
+use Rattle.frag_printer.proofs.Placements.{IsPlacedIn, feet_in}
 
 -- With a weight for each box, and what is so of each row.
 module _ (d : FlowsData) (f : Flow) (So : RowLaid → Type 0) (weight : ℕ → ℕ) where

@@ -8,9 +8,9 @@ use Rattle.flow_list.specs.Fragments.{place_of}
 use Rattle.flow_data.specs.Soundness.{IsSound}
 use Rattle.flow_list.specs.Stacks.{height_in_stack, stack_extent, stack_strip}
 use Rattle.flow_list.specs.Strip.{begins}
-use Rattle.frag_printer.specs.FlatRows.{HoldsFlatRows, IsPlacedInStack}
-use Rattle.frag_printer.specs.Parts.{feet_in, opens_in}
+use Rattle.frag_printer.specs.FlatRows.{HoldsFlatRows}
 use Rattle.frag_printer.specs.StackParts.{before_head, stack_places}
+use Rattle.frag_printer.proofs.Placements.{IsPlacedInStack, feet_in, opens_in}
 use Rattle.frag_printer.proofs.StackNames.{feet-in_stack, known-in_stack, opens-in_stack}
 use Rattle.frag_printer.proofs.StackRoom.{bottoms-le, end-room, extent-low, heights-total, item-room, places-low, row_total, whole-small}
 

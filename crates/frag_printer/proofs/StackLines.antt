@@ -25,12 +25,13 @@ use Rattle.flow_list.specs.Placing.{RowLaid, Laid, margin, solid, wall, opens, c
 use Rattle.flow_list.specs.Fragments.{continued_from, row_fragments, laid_in_stack, stack_laid}
 use Rattle.flow_list.specs.Tree.{TreeLine, stack, row as row_kind, row_width, Frame, piece_height, lines_of_columns, lines_of_stack, tree_of}
 use Rattle.frag_printer.specs.FlatLines.{height_laid, row_line, flat_lines, ArePlaces}
-use Rattle.frag_printer.specs.FlatRows.{ends_before, flat_row, flat_rows_from, flat_rows, flat_row_lines, row_placed, rows_placed}
+use Rattle.frag_printer.specs.FlatRows.{ends_before, flat_row, flat_rows_from, flat_rows, flat_row_lines}
 use Rattle.frag_printer.specs.Parts.{no_stacks}
 use Rattle.frag_printer.specs.StackParts.{before_head, whole_laid, stack_places}
 use Rattle.frag_printer.proofs.ColumnsLines.{laid-row-lines, laid-row-places}
 use Rattle.frag_printer.proofs.FlatFragments.{stack-lines}
 use Rattle.frag_printer.proofs.NestedPlaces.{Behind, behind-is, gap-split}
+use Rattle.frag_printer.proofs.Placements.{row_placed, rows_placed}
 
 -- ---- places keep the rows
 

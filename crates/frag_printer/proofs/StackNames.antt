@@ -21,10 +21,10 @@ use Rattle.flow_list.specs.Stacks.{height_in_stack, stack_strip}
 use Rattle.flow_list.specs.Strip.{begins, lay_all, put}
 use Rattle.flow_list.specs.Tokens.{row_start}
 use Rattle.flow_data.proofs.OpenBoxes.{opened-known}
-use Rattle.frag_printer.specs.FlatRows.{HoldsFlatRows, IsPlacedInStack}
-use Rattle.frag_printer.specs.Parts.{feet_in, opens_in}
+use Rattle.frag_printer.specs.FlatRows.{HoldsFlatRows}
 use Rattle.frag_printer.specs.StackParts.{before_head, stack_places, whole_laid}
 use Rattle.frag_printer.proofs.PlacedKnown.{IsPlacedSo, Keeps, Lays, across-later, all-keep, box_bottom, feet-le, heads-lay, later, later-first, lays-both, placed_weight, tails-lay}
+use Rattle.frag_printer.proofs.Placements.{IsPlacedInStack, feet_in, opens_in}
 
 -- a row that stands whole in a stack, and holds atoms alone
 abbrev pub IsWholeRow : FlowsData → RowLaid → Type 0

@@ -1,4 +1,5 @@
 -- The parts of a stack, and the text of the tree.
+use Rattle.frag_printer.proofs.Placements.{IsPlacedInStack, row_placed, rows_placed, opens_in, feet_in}
 use Rattle.frag_printer.proofs.StackKnown.{IsKnownStack}
 use Rattle.frag_printer.proofs.PartLines.{column-text, feet-are}
 use Rattle.flow_list.specs.Stacks.{stack_extent}
@@ -21,9 +22,9 @@ use Rattle.frag_printer.specs.declared.parts.Part.{Part}
 use Rattle.frag_printer.specs.declared.placing.Placed.{Placed}
 use Rattle.frag_printer.specs.declared.placing.Placed.TheVariants.{Opens, Closes, Atom, Row}
 use Rattle.frag_printer.specs.FlatLines.{box_line, out_of_box, flat_lines}
-use Rattle.frag_printer.specs.FlatRows.{IsPlacedInStack, flat_rows, row_placed, rows_placed, ends_before, flat_row_lines}
+use Rattle.frag_printer.specs.FlatRows.{flat_rows, ends_before, flat_row_lines}
 use Rattle.frag_printer.specs.PartLines.{part_lines}
-use Rattle.frag_printer.specs.Parts.{no_stacks, opens_in, opens_of, part_of, parts_of, feet_in, feet_of}
+use Rattle.frag_printer.specs.Parts.{no_stacks, opens_of, part_of, parts_of, feet_of}
 use Rattle.frag_printer.specs.Placing.{placed_as, row_stands}
 use Rattle.frag_printer.specs.StackLines.{IsStackPart, row_part, row_parts}
 use Rattle.frag_printer.specs.StackParts.{stack_places}

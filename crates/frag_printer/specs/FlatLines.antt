@@ -1,11 +1,11 @@
 -- The lines of what is placed in a column, one after another: a box's line where the box starts or continues, and what stands in it one
 -- deeper, up to its end.
-use Rattle.std.specs.Prelude.{◌≡◌, ℕ, ◌+◌, ◌-◌, ◌*◌, ◌<◌, ◌≤◌, Bool, false, cond, List, [], ◌∷◌, ◌++◌, Option, Some, None, is_some, length}
+use Rattle.std.specs.Prelude.{ℕ, ◌+◌, ◌-◌, ◌*◌, ◌<◌, ◌≤◌, Bool, cond, List, [], ◌∷◌, ◌++◌, Option, Some, None, is_some, length}
 use Rattle.mc_base.specs.PlainTree.{PlainTree, plain_trees}
 use Rattle.flow_data.specs.declared.data.Flow.{Flow}
 use Rattle.flow_data.specs.declared.data.FlowsData.{FlowsData}
 use Rattle.flow_data.specs.declared.data.RowInfo.{RowInfo}
-use Rattle.flow_data.specs.Flows.{flow_of, box_of, row_of, item_of, is_among}
+use Rattle.flow_data.specs.Flows.{flow_of, box_of, row_of, item_of}
 use Rattle.flow_list.specs.Placing.{RowLaid, Placed, opens_at, closes_at, atom_at, row_at}
 use Rattle.flow_list.specs.Fragments.{bottom_of}
 use Rattle.flow_list.specs.Tree.{TreeLine, Frame, box, row, col, column_frame, row_width, in_box, piece_bottom, piece_height, item_lines, lines_of_columns}
@@ -59,12 +59,3 @@ columns_lines columns d stacks r depth frame y height index begin (e ∷ ends) =
 abbrev pub ArePlaces : Flow → ℕ → List ℕ → Type 0
 ArePlaces f begin [] = Unit {0}
 ArePlaces f begin (e ∷ ends) = (begin < e) × (e ≤ length f.items) × ArePlaces f e ends
-
--- Each end is that of the innermost box that is open there, and no box starts that is open; the open boxes from the innermost outwards.
-abbrev pub ArePlacedNested : List ℕ → List Placed → Type 0
-ArePlacedNested boxes [] = Unit {0}
-ArePlacedNested boxes (opens_at b y starts ∷ xs) = (is_among boxes b ≡ false) × ArePlacedNested (b ∷ boxes) xs
-ArePlacedNested [] (closes_at b y ∷ xs) = ⊥
-ArePlacedNested (innermost ∷ outer) (closes_at b y ∷ xs) = (innermost ≡ b) × ArePlacedNested outer xs
-ArePlacedNested boxes (atom_at k y ∷ xs) = ArePlacedNested boxes xs
-ArePlacedNested boxes (row_at r y ∷ xs) = ArePlacedNested boxes xs

@@ -1,5 +1,5 @@
 -- Rows that were laid out, and the lines that they have.
-use Rattle.std.specs.Prelude.{◌≡◌, ℕ, ◌+◌, ◌<◌, EachIndex, false, flat_map, List, [], ◌∷◌, ◌++◌, length, map}
+use Rattle.std.specs.Prelude.{ℕ, ◌+◌, EachIndex, List, [], ◌∷◌, ◌++◌, length, map}
 use Rattle.flow_data.specs.declared.data.Bound.{Bound}
 use Rattle.flow_list.specs.declared.flat_row.FlatRow.{FlatRow}
 use Rattle.flow_data.specs.declared.data.Flow.{Flow}
@@ -10,8 +10,7 @@ use Rattle.flow_list.specs.Atoms.{HoldsAtoms}
 use Rattle.flow_list.specs.Column.{Column}
 use Rattle.flow_data.specs.Flows.{flow_in, flow_of, row_of, stack_of}
 use Rattle.flow_list.specs.Fragments.{row_fragments}
-use Rattle.flow_list.specs.Placing.{Placed, opens_at, closes_at, atom_at, row_at}
-use Rattle.flow_list.specs.RowHeights.{columns_of_row, row_columns, row_height}
+use Rattle.flow_list.specs.RowHeights.{columns_of_row, row_height}
 use Rattle.flow_list.specs.Stacks.{available_to}
 use Rattle.flow_list.specs.Tokens.{item_number, row_start}
 use Rattle.flow_list.specs.Tree.{Frame, TreeLine, row, row_width}
@@ -46,23 +45,6 @@ flat_row_lines d depth frame y flat =
     record { depth = depth; kind = row flat.row row_start; x = frame.x + (row_of d flat.row).x; y = frame.y + y; w = row_width (row_of d flat.row); h = flat.height }
     ∷ columns_lines (row_fragments d (length d.rows)) d no_stacks (row_of d flat.row) depth frame y flat.height 0 0 flat.ends
 
--- the row that is placed there, as it was laid out
-abbrev pub row_placed : FlowsData → Placed → List FlatRow
-row_placed d (opens_at b y starts) = []
-row_placed d (closes_at b y) = []
-row_placed d (atom_at k y) = []
-row_placed d (row_at r y) = record { row = r.row; height = r.height; ends = ends_before (row_columns d r.row r.made_at) } ∷ []
-
-abbrev pub rows_placed : FlowsData → List Placed → List FlatRow
-rows_placed d ps = flat_map (row_placed d) ps
-
--- What is placed in a stack names a box, an item or a row that there is; a row stands there from its start, and isn't filled.
-abbrev pub IsPlacedInStack : FlowsData → Flow → Placed → Type 0
-IsPlacedInStack d f (opens_at b y starts) = b < length d.boxes
-IsPlacedInStack d f (closes_at b y) = b < length d.boxes
-IsPlacedInStack d f (atom_at k y) = k < length f.items
-IsPlacedInStack d f (row_at r y) = (r.row < length d.rows) × (r.from ≡ row_start) × (r.filled ≡ false) × HoldsAtoms (flow_in d r.row)
-
--- no row that stands in stack 0 holds a row
+-- no row holds another one
 abbrev pub HoldsFlatRows : FlowsData → Type 0
 HoldsFlatRows d = EachIndex d.rows (λ r. HoldsAtoms (flow_in d r))

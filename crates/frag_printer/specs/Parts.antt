@@ -4,7 +4,7 @@ use Rattle.flow_data.specs.declared.data.Flow.{Flow}
 use Rattle.flow_data.specs.declared.data.FlowsData.{FlowsData}
 use Rattle.flow_data.specs.Flows.{box_of}
 use Rattle.flow_list.specs.Fragments.{bottom_of}
-use Rattle.flow_list.specs.Placing.{Placed as AnyPlaced, opens_at, closes_at, atom_at, row_at}
+use Rattle.flow_list.specs.Placing.{Placed as AnyPlaced}
 use Rattle.flow_list.specs.Tree.{TreeLine, Frame}
 use Rattle.frag_printer.specs.declared.parts.Part.{Part}
 use Rattle.frag_printer.specs.declared.parts.Part.TheVariants.{Opens, Closes, Atom, Row}
@@ -32,27 +32,14 @@ no_stacks s depth x y = []
 abbrev pub frame_of : Inside → Frame
 frame_of at = record { x = at.x; y = at.y; w = at.w; h = at.h; extent = at.extent; feet = at.feet }
 
--- something that is placed names a box or an item that there is
-abbrev pub IsPlacedIn : FlowsData → Flow → AnyPlaced → Type 0
-IsPlacedIn d f (opens_at b y starts) = b < length d.boxes
-IsPlacedIn d f (closes_at b y) = b < length d.boxes
-IsPlacedIn d f (atom_at k y) = k < length f.items
-IsPlacedIn d f (row_at r y) = Unit {0}
-
--- what a box that starts or continues there has below again
-abbrev pub feet_in : FlowsData → AnyPlaced → ℕ
-feet_in d (opens_at b y starts) = (box_of d b).bottom
-feet_in d (closes_at b y) = 0
-feet_in d (atom_at k y) = 0
-feet_in d (row_at r y) = 0
-
--- the same of the parts
+-- a part names a box or an item that there is, and stands above this place; it is no row
 abbrev pub IsPartIn : FlowsData → Flow → (low : ℕ) → Part → Type 0
 IsPartIn d f low (Opens number y starts bottom) = (number < length d.boxes) × (y < low)
 IsPartIn d f low (Closes number) = number < length d.boxes
 IsPartIn d f low (Atom item y) = (item < length f.items) × (y < low)
 IsPartIn d f low (Row number height made y) = ⊥
 
+-- what a box that starts or continues there has below again
 abbrev pub feet_of : FlowsData → Part → ℕ
 feet_of d (Opens number y starts bottom) = (box_of d number).bottom
 feet_of d (Closes number) = 0
@@ -60,12 +47,6 @@ feet_of d (Atom item y) = 0
 feet_of d (Row number height made y) = 0
 
 -- how many boxes start or continue there
-abbrev pub opens_in : AnyPlaced → ℕ
-opens_in (opens_at b y starts) = 1
-opens_in (closes_at b y) = 0
-opens_in (atom_at k y) = 0
-opens_in (row_at r y) = 0
-
 abbrev pub opens_of : Part → ℕ
 opens_of (Opens number y starts bottom) = 1
 opens_of (Closes number) = 0

@@ -7,7 +7,8 @@ ghost use Rattle.flow_list.specs.Fragments.{bottom_of};
 ghost use Rattle.flow_list.specs.Placing.{Placed as AnyPlaced};
 ghost use Rattle.flow_data.specs.Soundness.{kind_x};
 ghost use Rattle.flow_list.specs.Tree.{atom_lines, item_lines, piece_bottom};
-ghost use Rattle.flow_list.specs.TreeText.{tree_text};
+ghost use Rattle.flow_list.specs.TreeText.{tree_line_text, tree_text};
+ghost use Rattle.frag_printer.specs.FlatLines.{box_line};
 ghost use Rattle.frag_printer.specs.Limits.{KeepsLimit, PassesLimit};
 ghost use Rattle.frag_printer.specs.Lines.{line_of};
 ghost use Rattle.frag_printer.specs.PartLines.{part_lines};
@@ -187,6 +188,45 @@ fn put_item(
     }
 }
 
+/// Adds the line of a piece of box `number` from `y` on, with its bottom unless the box continues in the next column.
+fn put_piece(
+    out: &mut Output,
+    flows: &Flows,
+    at: Inside,
+    number: u32,
+    y: Units,
+    starts: bool,
+    bottom: Option<Units>,
+) -> Result<(), PutError>
+    requires number { number < length flows.now.boxes }
+    requires x { at.x < 2 ^ 62 }
+    requires y { at.y + y < 2 ^ 63 }
+    ensures text { OnOk result (out.new.text ≡ out.old.text ++ tree_line_text (box_line flows.now at.depth (frame_of at) number starts y bottom)) }
+    ensures within { OnOk result (KeepsLimit out.old out.new) }
+    ensures long { IsErrOf result PutError.Long →
+        PassesLimit out.old (tree_line_text (box_line flows.now at.depth (frame_of at) number starts y bottom)) }
+{
+    // Sealed flows are sound.
+    let _counts = flow_counts(flows);
+    let info = box_at(flows, number);
+    let kind = Kind::Piece {
+        number,
+        starts,
+        ends: bottom.is_some(),
+    };
+    put_line(
+        out,
+        Line {
+            depth: at.depth,
+            kind,
+            x: at.x + info.x,
+            y: at.y + y,
+            w: info.w,
+            h: bottom_in(at, bottom).saturating_sub(y),
+        },
+    )
+}
+
 /// Adds the line of something that isn't a row, and tells where the next one stands.
 pub fn put_part(
     out: &mut Output,
@@ -220,25 +260,10 @@ pub fn put_part(
             starts,
             bottom,
         } => {
-            let info = box_at(flows, number);
-            put_line(
-                out,
-                Line {
-                    depth: at.depth,
-                    kind: Kind::Piece {
-                        number,
-                        starts,
-                        ends: bottom.is_some(),
-                    },
-                    x: at.x + info.x,
-                    y: at.y + y,
-                    w: info.w,
-                    h: bottom_in(at, bottom).saturating_sub(y),
-                },
-            )?;
+            put_piece(out, flows, at, number, y, starts, bottom)?;
             Ok(Inside {
                 depth: at.depth + 1,
-                feet: at.feet + info.bottom,
+                feet: at.feet + box_at(flows, number).bottom,
                 ..at
             })
         }

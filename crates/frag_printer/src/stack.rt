@@ -20,9 +20,9 @@ use flow_list::{
 use mc_base::{NoMemory, Units};
 use std::alloc::Global;
 
-/// The height that is available to a row directly in a stack, where it begins: any, this much, or what is left of the
+/// The height that is available to a row that begins at `y` in a stack, in units: any, this much, or what is left of the
 /// stack's own height, at least 1px.
-fn available_in(bound: Bound, y: Units) -> Option<Units>
+pub fn available_in(bound: Bound, y: Units) -> Option<Units>
     ensures { result ≡ available_at bound y }
 {
     match bound {

@@ -11,12 +11,13 @@ use Rattle.mc_base.specs.declared.refusal.LimitName.TheVariants.{Flow as FlowByt
 use Rattle.mc_base.specs.declared.refusal.Refusal.{Refusal}
 use Rattle.mc_base.specs.declared.refusal.Refusal.TheVariants.{Grammar, Construct, Limit, NoMemory}
 use Rattle.mc_base.specs.declared.refusal.Rule.{Rule}
+use Rattle.frag_printer.specs.FlatRows.{HoldsFlatRows}
 use Rattle.mc_run.specs.declared.stop.Stop.{Stop}
 use Rattle.mc_run.specs.declared.stop.Stop.TheVariants.{Usage, Read, Write, Refused}
 use Rattle.mc_run.specs.Printed.{result_text}
 use Rattle.mc_run.specs.Stops.{status_of, refusal_status}
 use Rattle.mc_run.specs.Words.{Command, rows}
-use Rattle.mc_run.specs.Outcome.{flow_limit, result_limit, IsFlat, IsTooLong, RefusesBytes, RefusesFlow, IsHeld, IsNoFlowFile, IsFlowResult, HoldsRows, PassesLimit, OfFlow, Refuses, Accepts, AllRead, OnlyAsked, name_asked, IsCause}
+use Rattle.mc_run.specs.Outcome.{flow_limit, result_limit, IsTooLong, RefusesBytes, RefusesFlow, IsHeld, IsNoFlowFile, IsFlowResult, HoldsRows, PassesLimit, OfFlow, Refuses, Accepts, AllRead, OnlyAsked, name_asked, IsCause}
 use Rattle.mc_run.proofs.OneFlow.{flow_same, no_limit}
 
 -- the statuses that there are
@@ -101,16 +102,16 @@ limited command held before now ob on (Refused NoMemory) cause is = absurd (omeg
 
 -- ---- completeness
 
-read_cause : (before now : List ℕ → ℕ) (o : Option (List ℕ)) → IsSomeAnd o (λ name. before name < now name) → IfSome o (λ name. now name ≡ before name) → ⊥
-read_cause before now None rose same = rose
-read_cause before now (Some name) rose same = omega arith
+read_cause : (before now : List ℕ → ℕ) (o : Option (List ℕ)) → IsSomeAnd o (λ name. before name < now name) → IfSome o (λ name. now name ≤ before name) → ⊥
+read_cause before now None rose no_rise = rose
+read_cause before now (Some name) rose no_rise = omega arith
 
 -- no flow file that has a result is refused
 has_result : (bytes text : List ℕ) (refusal : Refusal) → IsFlowResult bytes text → IsRefused bytes refusal → (refusal ≡ NoMemory → ⊥) → ⊥
 has_result bytes text refusal (few, (d, says, flat, is, short)) (inl long) full = let over = long.0 in omega (arith, few, over)
 has_result bytes text (Grammar input offset rule) (few, (d, says, flat, is, short)) (inr (also, (none, fault))) full = none says.0 says.1
 has_result bytes text (Construct input offset name) (few, (d, says, flat, is, short)) (inr (also, refused)) full =
-    refused.3.2 (subst IsFlat (flow_same bytes d refused.3.0 says refused.3.1) flat)
+    refused.3.2 (subst HoldsFlatRows (flow_same bytes d refused.3.0 says refused.3.1) flat)
 has_result bytes text (Limit name reached limit) (few, (d, says, flat, is, short)) (inr (also, inl refused)) full =
     let none = no_limit bytes d refused.0 says refused.1 in let some = refused.2 in absurd cc
 has_result bytes text (Limit name reached limit) (few, (d, says, flat, is, short)) (inr (also, inr (winded, limit_is))) full =

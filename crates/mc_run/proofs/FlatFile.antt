@@ -7,7 +7,7 @@ use Rattle.flow_text.specs.Grammar.{Rest, no_more, edge, place, atom, row, FlowF
 use Rattle.flow_data.specs.declared.data.FlowsData.{FlowsData}
 use Rattle.flow_list.specs.Atoms.{IsAtom}
 use Rattle.flow_list.specs.FileFlows.{row_count, items_from, rows_from, content_rows, flows_of}
-use Rattle.mc_run.specs.Outcome.{IsFlat}
+use Rattle.frag_printer.specs.FlatRows.{HoldsFlatRows}
 
 counts : (k : ℕ) (rest : Rest) → length (rows_from k rest) ≡ row_count rest
 counts k no_more = refl
@@ -35,7 +35,7 @@ no_row k (atom at height rest) atoms = no_row k rest atoms.1
 no_row k (row at n w step x content ended rest) atoms = absurd atoms.0
 
 one_row : (at first_at n w st : ℕ) (available : Option ℕ) (auto : _) (content : Option Rest) (ended : ℕ) → length (content_rows content) ≡ 0 →
-    IsFlat (flows_of (record { at = at; first_at = first_at; n = n; w = w; step = st; available = available; auto = auto; content = content; ended = ended }))
+    HoldsFlatRows (flows_of (record { at = at; first_at = first_at; n = n; w = w; step = st; available = available; auto = auto; content = content; ended = ended }))
 one_row at first_at n w st available auto None ended few zero lt = All-nil IsAtom
 one_row at first_at n w st available auto None ended few (suc r) lt = absurd (omega arith)
 one_row at first_at n w st available auto (Some rest) ended few zero lt =
@@ -43,18 +43,18 @@ one_row at first_at n w st available auto (Some rest) ended few zero lt =
 one_row at first_at n w st available auto (Some rest) ended few (suc r) lt = absurd (omega arith)
 
 more_rows : (at first_at n w st : ℕ) (available : Option ℕ) (auto : _) (content : Option Rest) (ended : ℕ) →
-    IsFlat (flows_of (record { at = at; first_at = first_at; n = n; w = w; step = st; available = available; auto = auto; content = content; ended = ended })) →
+    HoldsFlatRows (flows_of (record { at = at; first_at = first_at; n = n; w = w; step = st; available = available; auto = auto; content = content; ended = ended })) →
     length (content_rows content) ≡ 0
 more_rows at first_at n w st available auto None ended flat = refl
 more_rows at first_at n w st available auto (Some rest) ended flat =
     counts 1 rest ∙ no_row 1 rest (recursion_from_All IsAtom (items_from 1 rest) (flat 0 (omega arith)))
 
-pub flat_with_one : (d : FlowsData) (file : FlowFile) → d ≡ flows_of file → length d.rows ≡ 1 → IsFlat d
+pub flat_with_one : (d : FlowsData) (file : FlowFile) → d ≡ flows_of file → length d.rows ≡ 1 → HoldsFlatRows d
 flat_with_one d file is one =
     let few : length (flows_of file).rows ≡ 1 = subst (λ e. length e.rows ≡ 1) is one in
-    subst IsFlat (sym is) (one_row file.at file.first_at file.n file.w file.step file.available file.auto file.content file.ended (omega arith))
+    subst HoldsFlatRows (sym is) (one_row file.at file.first_at file.n file.w file.step file.available file.auto file.content file.ended (omega arith))
 
-pub one_where_flat : (d : FlowsData) (file : FlowFile) → d ≡ flows_of file → IsFlat d → length d.rows ≡ 1
+pub one_where_flat : (d : FlowsData) (file : FlowFile) → d ≡ flows_of file → HoldsFlatRows d → length d.rows ≡ 1
 one_where_flat d file is flat =
-    let few = more_rows file.at file.first_at file.n file.w file.step file.available file.auto file.content file.ended (subst IsFlat is flat) in
+    let few = more_rows file.at file.first_at file.n file.w file.step file.available file.auto file.content file.ended (subst HoldsFlatRows is flat) in
     subst (λ e. length e.rows ≡ 1) (sym is) (omega arith)

@@ -11,7 +11,6 @@ use Rattle.std.specs.Fmt.{decimal}
 use Rattle.mc_base.specs.Outside.{AppendsPart}
 use Rattle.mc_base.specs.declared.refusal.ConstructName.{ConstructName}
 use Rattle.mc_base.specs.declared.refusal.Input.{Input}
-use Rattle.mc_base.specs.declared.refusal.Refusal.{Refusal}
 use Rattle.mc_base.specs.declared.refusal.Refusal.TheVariants.{Construct}
 use Rattle.mc_run.specs.Stops.{space, line_feed, input_text, construct_text, refusal_line}
 
@@ -58,11 +57,10 @@ part_on old mid new done piece rest first part =
     (length done + min part.0 (length piece), subst (Appends old new) (sym (front part.0 done piece rest)) (appends_on old mid new done (take part.0 piece) first part.1))
 
 -- the line of a construct, made of its pieces
-pub construct_line : (refusal : Refusal) (input : Input) (offset : ℕ) (name : ConstructName) (first number last : List ℕ) →
-    refusal ≡ Construct input offset name → first ≡ input_text input → number ≡ decimal offset → last ≡ construct_text name →
-    concat (codes "construct: " ∷ first ∷ space ∷ number ∷ space ∷ last ∷ line_feed ∷ []) ≡ refusal_line refusal
-construct_line refusal input offset name first number last is e1 e2 e3 =
+pub construct_line : (input : Input) (offset : ℕ) (name : ConstructName) (first number last : List ℕ) →
+    first ≡ input_text input → number ≡ decimal offset → last ≡ construct_text name →
+    concat (codes "construct: " ∷ first ∷ space ∷ number ∷ space ∷ last ∷ line_feed ∷ []) ≡ refusal_line (Construct input offset name)
+construct_line input offset name first number last e1 e2 e3 =
     ap (λ t. concat (codes "construct: " ∷ t ∷ space ∷ number ∷ space ∷ last ∷ line_feed ∷ [])) e1
     ∙ ap (λ t. concat (codes "construct: " ∷ input_text input ∷ space ∷ t ∷ space ∷ last ∷ line_feed ∷ [])) e2
     ∙ ap (λ t. concat (codes "construct: " ∷ input_text input ∷ space ∷ decimal offset ∷ space ∷ t ∷ line_feed ∷ [])) e3
-    ∙ sym (ap refusal_line is)

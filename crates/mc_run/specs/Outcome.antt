@@ -1,12 +1,11 @@
 -- What a command comes to: its result, or why it stops.
-use Rattle.std.specs.Prelude.{◌≡◌, ◌≢◌, ℕ, ◌<◌, ◌≤◌, ◌+◌, ◌⊎◌, List, length, EachIndex, Option, None, Some, IfSome, IsSomeAnd, ⊤}
+use Rattle.std.specs.Prelude.{◌≡◌, ◌≢◌, ℕ, ◌<◌, ◌≤◌, ◌+◌, ◌⊎◌, List, length, Option, None, Some, IfSome, IsSomeAnd, ⊤}
 use Rattle.std.specs.Option.{option_and_then}
 use Rattle.std.specs.Io.KnownBytes.{Appends}
 use Rattle.flow_text.specs.Grammar.{FlowFile}
 use Rattle.flow_data.specs.declared.data.FlowsData.{FlowsData}
-use Rattle.flow_list.specs.Atoms.{HoldsAtoms}
 use Rattle.flow_list.specs.FileFlows.{IsFile, RefusesText, flows_of, limit_of}
-use Rattle.flow_data.specs.Flows.{flow_in}
+use Rattle.frag_printer.specs.FlatRows.{HoldsFlatRows}
 use Rattle.mc_base.specs.Outside.{HasRisen, AppendsPart}
 use Rattle.mc_base.specs.declared.refusal.ConstructName.TheVariants.{Unbuilt}
 use Rattle.mc_base.specs.declared.refusal.Input.{Input}
@@ -34,21 +33,17 @@ FlowSays bytes d = (file : FlowFile) × IsFile bytes file × (limit_of file ≡ 
 abbrev pub IsNoFlowFile : List ℕ → Type 0
 IsNoFlowFile bytes = (file : FlowFile) → IsFile bytes file → ⊥
 
--- no row holds another one
-abbrev pub IsFlat : FlowsData → Type 0
-IsFlat d = EachIndex d.rows (λ r. HoldsAtoms (flow_in d r))
-
 -- this text is the result of a flow file
 abbrev pub IsFlowResult : List ℕ → List ℕ → Type 0
-IsFlowResult bytes text = (length bytes ≤ flow_limit) × ((d : FlowsData) × FlowSays bytes d × IsFlat d × (text ≡ result_text d) × (length text ≤ result_limit))
+IsFlowResult bytes text = (length bytes ≤ flow_limit) × ((d : FlowsData) × FlowSays bytes d × HoldsFlatRows d × (text ≡ result_text d) × (length text ≤ result_limit))
 
 -- these bytes are a flow file within its limits, and a row of it holds another one
 abbrev pub HoldsRows : List ℕ → Type 0
-HoldsRows bytes = (d : FlowsData) × FlowSays bytes d × (IsFlat d → ⊥)
+HoldsRows bytes = (d : FlowsData) × FlowSays bytes d × (HoldsFlatRows d → ⊥)
 
 -- these bytes are a flow file, and the text that is its result has more bytes than a result may have
 abbrev pub IsLongWinded : List ℕ → Type 0
-IsLongWinded bytes = (d : FlowsData) × FlowSays bytes d × IsFlat d × (result_limit < length (result_text d))
+IsLongWinded bytes = (d : FlowsData) × FlowSays bytes d × HoldsFlatRows d × (result_limit < length (result_text d))
 
 -- a flow file has too many bytes, passes one of its limits, or has too long a result
 abbrev pub PassesLimit : List ℕ → Type 0
@@ -110,7 +105,7 @@ OnlyAsked command before now = (name : List ℕ) → ((input : Input) → name_a
 
 -- the count of faults of no input rose
 abbrev pub AllRead : Option Command → (List ℕ → ℕ) → (List ℕ → ℕ) → Type 0
-AllRead command before now = (input : Input) → IfSome (name_asked input command) (λ name. now name ≡ before name)
+AllRead command before now = (input : Input) → IfSome (name_asked input command) (λ name. now name ≤ before name)
 
 -- Why a command stopped: the words aren't taken; the count of faults of the input that is named rose; the count of faults
 -- of the sink rose; an input is refused.

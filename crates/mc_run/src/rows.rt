@@ -5,15 +5,14 @@ ghost use Rattle.flow_text.specs.Grammar.{FlowFile};
 ghost use Rattle.flow_list.specs.Atoms.{HoldsAtoms};
 ghost use Rattle.flow_list.specs.FileFlows.{flows_of};
 ghost use Rattle.flow_data.specs.Flows.{flow_in};
-ghost use Rattle.flow_list.specs.Stacks.{available_at};
-ghost use Rattle.frag_printer.specs.FlatRows.{flat_rows};
+ghost use Rattle.frag_printer.specs.FlatRows.{HoldsFlatRows, flat_rows};
 ghost use Rattle.mc_run.specs.Printed.{result_text};
-ghost use Rattle.mc_run.specs.Outcome.{IsFlat, IsFlowResult, RefusesBytes};
+ghost use Rattle.mc_run.specs.Outcome.{IsFlowResult, RefusesBytes};
 
 use column_row::flat_row;
-use flow_list::{Bound, FlatRow, Flows, flow_counts, read_flow, stack_at};
-use frag_printer::write_flat_within;
-use mc_base::{ConstructName, Input, LimitName, List, NoMemory, Refusal, Text, Units};
+use flow_list::{FlatRow, Flows, flow_counts, read_flow, stack_at};
+use frag_printer::{available_in, write_flat_within};
+use mc_base::{ConstructName, Input, LimitName, List, NoMemory, Refusal, Text};
 use std::alloc::Global;
 
 /// How many bytes a result may have.
@@ -26,32 +25,21 @@ const LAST_LINE: &[u8] = b"end\n";
 /// Whether no row of a flow file's flows holds another one. Each row but the first stands in another one.
 fn is_flat(flows: &Flows) -> bool
     requires { (file : FlowFile) × (flows.now ≡ flows_of file) }
-    ensures flat { result ≡ true → IsFlat flows.now }
-    ensures nested { result ≡ false → IsFlat flows.now → ⊥ }
+    ensures flat { result ≡ true → HoldsFlatRows flows.now }
+    ensures nested { result ≡ false → HoldsFlatRows flows.now → ⊥ }
 {
     flow_counts(flows).rows == 1
-}
-
-/// The height that a row at a stack's top may use.
-fn available(bound: Bound) -> Option<Units>
-    ensures { result ≡ available_at bound 0 }
-{
-    match bound {
-        Bound::Free => None,
-        Bound::Each(height) => Some(height),
-        Bound::Left(height) => Some(height.max(64)),
-    }
 }
 
 /// The one row of a flow file, laid out.
 fn laid_rows(alloc: Global, flows: &Flows) -> Result<List<FlatRow>, NoMemory>
     requires file { (file : FlowFile) × (flows.now ≡ flows_of file) }
-    requires flat { IsFlat flows.now }
+    requires flat { HoldsFlatRows flows.now }
     ensures { IfOk result (λ rows. rows ≡ flat_rows flows.now) }
 {
     let stack = *stack_at(flows, 0);
     let mut rows = List::new(alloc);
-    rows.push(flat_row(alloc, flows, 0, available(stack.bound))?)?;
+    rows.push(flat_row(alloc, flows, 0, available_in(stack.bound, 0))?)?;
     Ok(rows)
 }
 
@@ -60,7 +48,7 @@ fn laid_rows(alloc: Global, flows: &Flows) -> Result<List<FlatRow>, NoMemory>
 #[tactic(auto, unfolding(crate::specs::Printed::result_text))]
 fn write_result(alloc: Global, flows: &Flows) -> Result<Option<Text>, NoMemory>
     requires file { (file : FlowFile) × (flows.now ≡ flows_of file) }
-    requires flat { IsFlat flows.now }
+    requires flat { HoldsFlatRows flows.now }
     ensures text { IfOk result (λ found. IfSome found (λ text. text ≡ result_text flows.now)) }
     ensures short { IfOk result (λ found. IfSome found (λ text. length text ≤ RESULT_LIMIT)) }
     ensures long { IfOk result (λ found. found ≡ None → RESULT_LIMIT < length (result_text flows.now)) }

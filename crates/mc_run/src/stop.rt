@@ -7,7 +7,7 @@ ghost use Rattle.mc_run.specs.Stops.{line_of, refusal_line};
 ghost use Rattle.mc_run.specs.Told.{Tells};
 
 use itoa::Buffer;
-use mc_base::{ConstructName, Input, LimitName, Refusal, Sink};
+use mc_base::{ConstructName, Input, LimitName, Refusal, Rule, Sink};
 
 /// Why a command stops.
 #[derive(Clone, Copy)]
@@ -142,62 +142,89 @@ fn say<E: Sink>(err: &mut E, pieces: &[&[u8]])
     }
 }
 
+/// Puts the line of a fault of grammar.
+fn tell_fault<E: Sink>(err: &mut E, input: Input, offset: u64, rule: Rule)
+    ensures { Tells (E.written err.old) (E.written err.new) (E.faults err.old) (E.faults err.new)
+        (refusal_line (Refusal.Grammar input offset rule)) }
+{
+    let mut place = Buffer::new();
+    let mut number = Buffer::new();
+    say(
+        err,
+        &[
+            b"grammar: ",
+            input_text(input),
+            b" ",
+            place.format(offset).as_bytes(),
+            b" ",
+            &[rule.letter],
+            number.format(rule.number).as_bytes(),
+            b"\n",
+        ],
+    )
+}
+
+/// Puts the line of a construct that isn't laid out.
+fn tell_construct<E: Sink>(err: &mut E, input: Input, offset: u64, name: ConstructName)
+    ensures { Tells (E.written err.old) (E.written err.new) (E.faults err.old) (E.faults err.new)
+        (refusal_line (Refusal.Construct input offset name)) }
+{
+    let mut place = Buffer::new();
+    say(
+        err,
+        &[
+            b"construct: ",
+            input_text(input),
+            b" ",
+            place.format(offset).as_bytes(),
+            b" ",
+            construct_text(name),
+            b"\n",
+        ],
+    )
+}
+
+/// Puts the line of a limit that is passed.
+fn tell_limit<E: Sink>(err: &mut E, name: LimitName, reached: u64, limit: u64)
+    ensures { Tells (E.written err.old) (E.written err.new) (E.faults err.old) (E.faults err.new)
+        (refusal_line (Refusal.Limit name reached limit)) }
+{
+    let mut there = Buffer::new();
+    let mut greatest = Buffer::new();
+    say(
+        err,
+        &[
+            b"limit: ",
+            limit_text(name),
+            b" ",
+            there.format(reached).as_bytes(),
+            b" ",
+            greatest.format(limit).as_bytes(),
+            b"\n",
+        ],
+    )
+}
+
 /// Puts the line of a refusal.
 fn tell_refusal<E: Sink>(err: &mut E, refusal: Refusal)
     ensures { Tells (E.written err.old) (E.written err.new) (E.faults err.old) (E.faults err.new) (refusal_line refusal) }
 {
-    let mut first = Buffer::new();
-    let mut second = Buffer::new();
     match refusal {
         Refusal::Grammar {
             input,
             offset,
             rule,
-        } => say(
-            err,
-            &[
-                b"grammar: ",
-                input_text(input),
-                b" ",
-                first.format(offset).as_bytes(),
-                b" ",
-                &[rule.letter],
-                second.format(rule.number).as_bytes(),
-                b"\n",
-            ],
-        ),
+        } => tell_fault(err, input, offset, rule),
         Refusal::Construct {
             input,
             offset,
             name,
-        } => say(
-            err,
-            &[
-                b"construct: ",
-                input_text(input),
-                b" ",
-                first.format(offset).as_bytes(),
-                b" ",
-                construct_text(name),
-                b"\n",
-            ],
-        ),
+        } => tell_construct(err, input, offset, name),
         Refusal::Limit {
             name,
             reached,
             limit,
-        } => say(
-            err,
-            &[
-                b"limit: ",
-                limit_text(name),
-                b" ",
-                first.format(reached).as_bytes(),
-                b" ",
-                second.format(limit).as_bytes(),
-                b"\n",
-            ],
-        ),
+        } => tell_limit(err, name, reached, limit),
         Refusal::NoMemory => say(err, &[b"memory", b"\n"]),
     }
 }

@@ -15,8 +15,9 @@ use Rattle.frag_printer.specs.declared.parts.Part.{Part}
 use Rattle.frag_printer.specs.Columns.{column_extent, column_places}
 use Rattle.frag_printer.specs.FlatLines.{flat_lines}
 use Rattle.frag_printer.specs.PartLines.{part_lines}
-use Rattle.frag_printer.specs.Parts.{IsPartIn, IsPlacedIn, feet_in, feet_of, frame_of, no_stacks, parts_of}
+use Rattle.frag_printer.specs.Parts.{IsPartIn, feet_of, frame_of, no_stacks, parts_of}
 use Rattle.frag_printer.proofs.PartLines.{parts-flat, feet-are, parts-known, column-text}
+use Rattle.frag_printer.proofs.Placements.{IsPlacedIn, feet_in}
 use Rattle.frag_printer.proofs.Rowless.{IsNoRow}
 use Rattle.frag_printer.proofs.ColumnKnown.{column-known}
 use Rattle.frag_printer.proofs.rows.put_column.Goals as goal

@@ -1,12 +1,8 @@
--- The pieces of the line of a construct.
-use Rattle.std.proofs.Common.{◌∙◌, subst}
+-- The line of a construct is that of its refusal.
+use Rattle.std.proofs.Common.{ap, subst, sym}
+use Rattle.mc_run.specs.Stops.{refusal_line}
 use Rattle.mc_run.specs.Told.{Tells}
-use Rattle.mc_run.proofs.Pieces.{construct_line}
 use Rattle.mc_run.proofs.stop.tell_refusal.Goals as goal
 
 pub returns-in-Construct : goal.returns-in-Construct
-returns-in-Construct g c =
-    subst (Tells _ _ _ _)
-    (construct_line _ _ _ _ _ _ _ c.in-Construct.is c.input_text-in-Construct.ensures
-    (c.as_bytes-in-Construct.ensures.value ∙ c.format-in-Construct.ensures.text) c.construct_text.ensures)
-    c.say-in-Construct.ensures
+returns-in-Construct g c = subst (Tells _ _ _ _) (ap refusal_line (sym c.in-Construct.is)) c.tell_construct.ensures
