@@ -1,7 +1,7 @@
 -- Metrics tables: the lines, what a line means, what a table of faces is spelled by, and the first fault of a text that
 -- is no table. The format is this project's own.
-use Rattle.std.specs.Prelude.{◌≡◌, ◌≢◌, ℕ, ◌+◌, ◌<◌, ◌≤◌, Bool, true, false, IsTrue, ◌⊎◌, ◌&&◌, ◌||◌, nat_le, ◌==◌, min, List, [], ◌∷◌, ◌++◌, length, slice_index, codes, unwrap_or}
-use Rattle.std.specs.List.{AllByRecursion, list_all, position}
+use Rattle.std.specs.Prelude.{◌≡◌, ◌≢◌, ℕ, ◌+◌, ◌<◌, ◌≤◌, Bool, true, false, IsTrue, ◌⊎◌, ◌&&◌, ◌||◌, nat_le, ◌==◌, List, [], ◌∷◌, ◌++◌, length, slice_index, codes}
+use Rattle.std.specs.List.{AllByRecursion, list_all}
 use Rattle.std.specs.Char.{IsScalar}
 use Rattle.mc_base.specs.SoundText.{sound_len}
 use Rattle.std.specs.Str.Parse.{digits_value}

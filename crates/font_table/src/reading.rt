@@ -1,7 +1,6 @@
 //! Metrics tables from a text.
 
-ghost use Rattle.std.specs.Prelude.{◌≡◌, ◌==◌, ◌≤◌, ◌<◌, ◌^◌, List as Items, [], length, min, Ok, IfOk, IfErr};
-ghost use Rattle.std.specs.List.{position};
+ghost use Rattle.std.specs.Prelude.{◌≡◌, ◌≤◌, ◌<◌, ◌^◌, List as Items, [], length, Ok, IfOk, IfErr};
 ghost use Rattle.font_table.specs.Table.{is_plain as is_plain_byte, IsMetrics};
 ghost use Rattle.font_table.specs.declared.fonts.Face.{Face as OneFace};
 ghost use Rattle.font_table.specs.Views.{face_of};
