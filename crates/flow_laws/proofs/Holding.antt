@@ -21,6 +21,7 @@ use Rattle.flow_laws.specs.Holding.{atoms_in_tree, atoms_in_trees, Part, parts_i
 use Rattle.flow_laws.proofs.HoldingEnds.{taken}
 use Rattle.flow_laws.proofs.HoldingColumns.{in-items, RowHolds, ItemHolds, holds-at, place-at, column-holds}
 use Rattle.flow_laws.proofs.HoldingRows.{IsReached, RowsHold, rows-hold, columns-hold, all-hold}
+use Rattle.flow_laws.proofs.HoldingOnce.{atoms-differ}
 use Rattle.flow_laws.proofs.HoldingParts.{column-parts, rows-apart}
 
 made-within : (d : FlowsData) (f : Flow) (h : Option ℕ) (t : Token) → column_made (all_rows d) d f h t ≡ column_within d f h t
@@ -103,6 +104,7 @@ fragments-hold d sound r lt = record {
   columns_atoms = columns-atoms d sound r lt;
   all_atoms = all-atoms d sound r lt;
   row_atoms = row-atoms d sound r lt;
+  atoms_differ = atoms-differ d sound r lt;
   column_parts = parts-are d sound r lt;
   rows_once = rows-once d sound r lt;
 }

@@ -147,12 +147,12 @@ items-hold d m P made (Row s ∷ items) all = (made s (all 0 s (omega arith)), i
 
 module _ (d : FlowsData) (sound : IsSound d) where
   -- a row of the data that has items, and stands in an earlier row
-  record IsWithin (outer s : ℕ) : Type 0 where
-    known : s < length d.rows
-    some : 0 < length (flow_in d s).items
-    later : outer < s
+  pub record IsWithin (outer s : ℕ) : Type 0 where
+    pub known : s < length d.rows
+    pub some : 0 < length (flow_in d s).items
+    pub later : outer < s
 
-  rows-within : (r : ℕ) → r < length d.rows → All (IsWithin r) (rows_in (flow_in d r))
+  pub rows-within : (r : ℕ) → r < length d.rows → All (IsWithin r) (rows_in (flow_in d r))
   rows-within r lt =
       let good = good-rows d sound r lt in
       λ k e in_rows. record { known = (good k e in_rows).0; some = (good k e in_rows).1; later = (sound.inner_rows r lt k e in_rows).later }

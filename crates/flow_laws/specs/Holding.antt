@@ -88,12 +88,14 @@ pub record FragmentsHoldEachItem (d : FlowsData) (r : ℕ) : Type 0 where
   -- so do the columns of a row that stands whole, at any height
   pub row_atoms : (height : ℕ) (h : Option ℕ) →
       atoms_in_trees r (plain_trees (row_fragments d (suc (length d.rows)) (record { row = r; from = row_start; height = height; made_at = h; filled = false }))) ≡ atoms_from d r row_start
+  -- no two atoms of a row, from a place on, are one
+  pub atoms_differ : (t : Token) → AllPairs (λ a b. a ≢ b) (atoms_from d r t)
   -- the items in a column's tree are those from its place to its end, each once and in order, a row that is cut with them
   pub column_parts : (t : Token) (h : Option ℕ) → IsPlaceBefore d (flow_in d r) t →
       parts_in_tree (column_fragment d r h t) ≡ parts_between (flow_in d r) t (column_within d (flow_in d r) h t).end
-  -- no row stands in a column's tree twice
+  -- no row is there twice
   pub rows_once : (t : Token) (h : Option ℕ) → IsPlaceBefore d (flow_in d r) t → AllPairs (λ a b. a ≢ b) (flat_map row_of_part (parts_in_tree (column_fragment d r h t)))
 
--- The tree of a stack holds each item of its flow once, in order, each row whole.
+-- The tree of a stack holds each item of its flow once, in order, and each row from its start.
 abbrev pub StackHoldsEachItem : FlowsData → ℕ → Type 0
 StackHoldsEachItem d s = parts_in_tree (stack_fragment d s) ≡ parts_of 0 row_start (flow_of d (stack_of d s).flow).items
