@@ -1,7 +1,6 @@
 -- A column ends later than it begins, where what is made of the rows within it does.
 use Rattle.std.proofs.Common.{◌≡◌, ℕ, zero, suc, ◌+◌, ◌-◌, ◌<◌, ◌≤◌, Bool, true, false, cond, not, ◌&&◌, List, [], ◌∷◌, ◌++◌, length, drop, get_or, Option, Some, None, refl, sym, subst, ◌∙◌, ap, arith, append_assoc, ◌⊎◌, inl, inr}
 use Rattle.std.specs.Prelude.{nat_lt, nat_le}
-use Rattle.std.proofs.lemmas.Bool.Decides.{nat_tests}
 use Rattle.std.proofs.lemmas.Bool.{cases_lt}
 use Rattle.std.proofs.lemmas.List.{drop-drop, drop_more}
 use Rattle.flow_data.specs.declared.data.Flow.{Flow}
@@ -9,11 +8,12 @@ use Rattle.flow_data.specs.declared.data.FlowsData.{FlowsData}
 use Rattle.flow_data.specs.declared.data.Item.{Item}
 use Rattle.flow_data.specs.declared.data.Item.TheVariants.{Atom, Row}
 use Rattle.flow_data.specs.Flows.{flow_in, item_of, seam_of, no_item}
-use Rattle.flow_list.specs.Tokens.{Token, row_start, item_number, within, is_end}
+use Rattle.flow_list.specs.Tokens.{Token, row_start, item_number, within}
 use Rattle.flow_list.specs.Strip.{Strip, lay_all}
-use Rattle.flow_list.specs.Column.{Filled, Inner, Step, Place, Cut, cut, longer, steps, steps_from, start_strip, strip_behind, is_forced, row_from, fill_in_room, room, seams_before, seams_between, inside, inside_place, alone_place, whole_place, is_cut, best, choose, last_place, no_place, column, column_over, column_up_to, avoids_at}
+use Rattle.flow_list.specs.Column.{Filled, Inner, Step, Place, Cut, cut, longer, steps, steps_from, start_strip, strip_behind, is_forced, row_from, fill_in_room, room, seams_before, seams_between, inside, inside_place, alone_place, whole_place, is_cut, best, choose, last_place, no_place, column, column_over, column_up_to, avoids_at, endless_column}
 use Rattle.flow_list.specs.Rows.{item_left, items_left, left_in}
 use Rattle.flow_laws.specs.Progress.{IsPlaceBefore, AtomAt, Contents, item_atoms, atoms_of_items, atoms_in, EndsWith}
+use Rattle.flow_laws.proofs.Places.{in-items, some-left}
 
 -- ---- what is left of a list of items
 
@@ -81,18 +81,13 @@ module _ (d : FlowsData) (x : Inner) (c : Contents) where
 
   -- place u of the flow f of row r comes after place t
   pub record Later (r : ℕ) (f : Flow) (t u : Token) : Type 0 where
-    pub place : (is_end f u ≡ true) ⊎ IsPlaceBefore d f u
+    pub place : (u ≡ length f.items ∷ []) ⊎ IsPlaceBefore d f u
     pub fewer : left_in x f u < left_in x f t
     pub rest : EndsWith (atoms_in c r f u) (atoms_in c r f t)
 
   module _ (r : ℕ) (f : Flow) (moves : ItemsMove f.items) (t : Token) (here : IsPlaceBefore d f t) where
-    in-items : (t : Token) → IsPlaceBefore d f t → item_number t < length f.items
-    in-items [] h = absurd h
-    in-items (i ∷ []) h = h
-    in-items (i ∷ (j ∷ rest)) h = h.0
-
     starts-in : item_number t < length f.items
-    starts-in = in-items t here
+    starts-in = in-items d f t here
 
     -- item k, taken from q, is reached from t
     record Reached (k : ℕ) (q : Token) : Type 0 where
@@ -101,11 +96,6 @@ module _ (d : FlowsData) (x : Inner) (c : Contents) where
 
     later-drop : (k : ℕ) → item_number t < k → drop k f.items ≡ drop (suc (k - suc (item_number t))) (drop (item_number t) f.items)
     later-drop k lt = sym (drop-drop (suc (k - suc (item_number t))) (item_number t) f.items ∙ ap (λ n. drop n f.items) (omega arith))
-
-    some-left : (n : ℕ) (xs : List Item) → n < length xs → 0 < length (drop n xs)
-    some-left n [] lt = absurd (omega arith)
-    some-left zero (y ∷ ys) lt = omega arith
-    some-left (suc n) (y ∷ ys) lt = some-left n ys (omega arith)
 
     fewer-later : (k : ℕ) → item_number t < k → items_left x row_start (drop k f.items) < left_in x f t
     fewer-later k lt = rw (later-drop k lt) (left-later x (within t) (k - suc (item_number t)) (drop (item_number t) f.items) (some-left (item_number t) f.items starts-in))
@@ -123,9 +113,9 @@ module _ (d : FlowsData) (x : Inner) (c : Contents) where
     later-seam : (k : ℕ) → item_number t < k → k ≤ length f.items → Later r f t (k ∷ [])
     later-seam k lt le = record { place = which (cases_lt k (length f.items)); fewer = fewer-later k lt; rest = rest-later k lt }
       where
-        which : (k < length f.items) ⊎ (length f.items ≤ k) → (is_end f (k ∷ []) ≡ true) ⊎ IsPlaceBefore d f (k ∷ [])
+        which : (k < length f.items) ⊎ (length f.items ≤ k) → (k ∷ [] ≡ length f.items ∷ []) ⊎ IsPlaceBefore d f (k ∷ [])
         which (inl l) = inr l
-        which (inr g) = inl (grind (arith, nat_tests))
+        which (inr g) = let same : k ≡ length f.items = omega arith in inl (ap (λ i. i ∷ []) same)
 
     -- a later place within a row
     later-inside : (k s : ℕ) (q e : Token) → k < length f.items → item_of f k ≡ Row s → Reached k q → IsPlaceBefore d (flow_in d s) e → x.left s e < x.left s q → EndsWith (c.atoms s e) (c.atoms s q) → Later r f t (k ∷ e)
@@ -299,10 +289,18 @@ module _ (d : FlowsData) (x : Inner) (c : Contents) where
     some-steps s k q zero lt = absurd (omega arith)
     some-steps s k q (suc n) lt = (_, _, refl)
 
+    some-items : (first : Step) × (more : List Step) × (steps_from x d f t ≡ first ∷ more)
+    some-items = some-steps (start_strip d f t) (item_number t) (within t) (length f.items - item_number t) (let lt = starts-in in omega arith)
+
+    items-reached : StepsReached (item_number t) (steps_from x d f t)
+    items-reached = steps-reached (start_strip d f t) (item_number t) (within t) (length f.items - item_number t) (omega arith) (let lt = starts-in in omega arith) reached-first (first-place t here)
+
     -- a column that begins before the end ends later
     pub column-later : (h : ℕ) → Later r f t (column x d f t h).end
     unfolding column
-    column-later h =
-        let fuel : 0 < length f.items - item_number t = let lt = starts-in in omega arith in
-        over-later (avoids_at d f) h (steps_from x d f t) (some-steps (start_strip d f t) (item_number t) (within t) (length f.items - item_number t) fuel)
-        (steps-reached (start_strip d f t) (item_number t) (within t) (length f.items - item_number t) (omega arith) (let lt = starts-in in omega arith) reached-first (first-place t here))
+    column-later h = over-later (avoids_at d f) h (steps_from x d f t) some-items items-reached
+
+    -- so does one without end
+    pub endless-later : Later r f t (endless_column x d f t).end
+    unfolding endless_column
+    endless-later = up_to-later (avoids_at d f) 0 (record { before = steps_from x d f t; stop = None }) None (λ e. some-items) items-reached

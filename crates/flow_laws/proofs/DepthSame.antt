@@ -1,5 +1,5 @@
 -- What is told of a row is the same at every depth that serves.
-use Rattle.std.proofs.Common.{◌≡◌, ℕ, zero, suc, ◌+◌, ◌-◌, ◌≤◌, Bool, true, false, cond, not, ◌&&◌, List, [], ◌∷◌, length, drop, get_or, Option, Some, None, refl, ◌∙◌, ap, arith}
+use Rattle.std.proofs.Common.{◌≡◌, ℕ, zero, suc, ◌+◌, ◌-◌, ◌<◌, ◌≤◌, Bool, true, false, cond, not, ◌&&◌, List, [], ◌∷◌, length, drop, get_or, Option, Some, None, refl, ◌∙◌, ap, arith}
 use Rattle.std.specs.Prelude.{nat_lt, All}
 use Rattle.std.specs.List.{flat_map, list_any}
 use Rattle.flow_data.specs.declared.data.Flow.{Flow}
@@ -8,12 +8,13 @@ use Rattle.flow_data.specs.declared.data.Item.{Item}
 use Rattle.flow_data.specs.declared.data.Item.TheVariants.{Atom, Row}
 use Rattle.flow_data.specs.Flows.{row_of, flow_in, item_of, seam_of, no_item, row_in}
 use Rattle.flow_list.specs.ClonedEdges.{open_across, bottoms}
-use Rattle.flow_data.specs.Soundness.{NestsAtMost}
+use Rattle.flow_data.specs.Soundness.{IsSound, NestsAtMost}
 use Rattle.flow_list.specs.Tokens.{Token, row_start, item_number, within, is_end}
 use Rattle.flow_list.specs.Strip.{Strip, lay_all, put}
 use Rattle.flow_list.specs.Column.{Column, Inner, Step, cut, longer, step_at, steps, steps_from, start_strip, strip_behind, is_forced, height_of, row_from, fill_in_room, room, stopped, column, column_over, column_up_to, avoids_at}
 use Rattle.flow_list.specs.Rows.{columns, columns_by, end_of, fits, fails, most_columns, least, heights_from, items_left, left_in, reach, size_in, fill_in, filled_by, rows_to, all_rows}
 use Rattle.flow_laws.specs.Depth.{ToldAlike, DepthChangesNothing}
+use Rattle.flow_laws.proofs.SoundRows.{nests-by-number}
 
 -- ---- two ways to tell, alike at each row of a flow
 
@@ -185,10 +186,15 @@ told-alike d (suc n) r (suc a) (suc b) nests le ge =
       left = λ q. left_in-same (rows_to d a) (rows_to d b) d (flow_in d r) alike q;
     }
 
+-- in sound data each depth serves that is no less than the count of rows
+pub sound-alike : (d : FlowsData) → IsSound d → (r a b : ℕ) → r < length d.rows → length d.rows ≤ a → length d.rows ≤ b → ToldAlike (rows_to d a) (rows_to d b) r
+sound-alike d sound r a b lt le ge = told-alike d (length d.rows - r) r a b (nests-by-number d sound (length d.rows - r) r lt (omega arith)) (omega arith) (omega arith)
+
 pub depth-same : (d : FlowsData) → DepthChangesNothing d
 unfolding all_rows rows_to
 depth-same d = record {
   told_alike = told-alike d;
   all_rows_size = λ n r q nests le. (told-alike d n r (length d.rows) (suc (length d.rows)) nests le (omega arith)).size q;
   all_rows_fill = λ n r q h nests le. (told-alike d n r (length d.rows) (suc (length d.rows)) nests le (omega arith)).fill q h;
+  count_is_deep_enough = λ sound r depth lt le. sound-alike d sound r (length d.rows) depth lt (omega arith) le;
 }

@@ -71,7 +71,7 @@ all-known high of (f ∷ flows) all = AllIn-append 0 high (of f) (flat_map of fl
 
 module _ (d : FlowsData) (sound : IsSound d) where
   -- over the rows that stand in flows it is no more than over all rows
-  over-rows : (g : ℕ → ℕ) → up (λ f. sum_by g (rows_in (flow_of d f))) 0 (length d.flows) ≤ up g 0 (length d.rows)
+  pub over-rows : (g : ℕ → ℕ) → up (λ f. sum_by g (rows_in (flow_of d f))) 0 (length d.flows) ≤ up g 0 (length d.rows)
   over-rows g =
       let listed = up-list (λ f. sum_by g (rows_in (flow_of d f))) (λ (f : Flow). sum_by g (rows_in f)) no_flow 0 d.flows (λ i l. let z : 0 + i ≡ i = omega arith in rw z refl) in
       let flat = sum-flat g rows_in d.flows in
@@ -106,7 +106,7 @@ module _ (d : FlowsData) (sound : IsSound d) where
           subst P (get_or_default d.stacks k no_stack e lt) (omega arith, omega arith)
 
   -- over the flows of rows and stacks it is no more than over all flows
-  over-owners : (g : ℕ → ℕ) → up (λ r. g (row_of d r).flow) 0 (length d.rows) + up (λ s. g (stack_of d s).flow) 0 (length d.stacks) ≤ up g 0 (length d.flows)
+  pub over-owners : (g : ℕ → ℕ) → up (λ r. g (row_of d r).flow) 0 (length d.rows) + up (λ s. g (stack_of d s).flow) 0 (length d.stacks) ≤ up g 0 (length d.flows)
   over-owners g =
       let rows = up-list (λ r. g (row_of d r).flow) (λ (r : RowInfo). g r.flow) no_row 0 d.rows (λ i l. let z : 0 + i ≡ i = omega arith in rw z refl) in
       let stacks = up-list (λ s. g (stack_of d s).flow) (λ (s : Stack). g s.flow) no_stack 0 d.stacks (λ i l. let z : 0 + i ≡ i = omega arith in rw z refl) in

@@ -19,7 +19,7 @@ use Rattle.flow_data.specs.Soundness.{IsSound, count_of, flow_owners, is_atom, i
 use Rattle.flow_list.proofs.Fitting.{size-reach}
 use Rattle.flow_laws.proofs.Totals.{sum-map, up, up-list, count-cons, up-within}
 use Rattle.flow_laws.proofs.Held.{held, held-more, held-deeper, held-le, owners-known, held-row, held-stack, in-list, sum-one}
-use Rattle.flow_laws.proofs.RowsAdvance.{rows-in-range}
+use Rattle.flow_laws.proofs.SoundRows.{rows-in-range}
 use Rattle.flow_laws.proofs.Small.{reach-total}
 
 -- ---- flows

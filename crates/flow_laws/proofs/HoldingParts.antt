@@ -20,7 +20,7 @@ use Rattle.flow_list.specs.Column.{Inner, Step, room}
 use Rattle.flow_list.specs.Placing.{RowLaid}
 use Rattle.flow_list.specs.Fragments.{continuing, laid_start, laid_to, stop_of, column_made, fragment_of}
 use Rattle.flow_laws.specs.Holding.{Part, atom_part, row_part, parts_in_tree, parts_in_trees, part_of, parts_of, items_before, parts_between, row_of_part}
-use Rattle.flow_laws.proofs.RowsAdvance.{rows-in-range}
+use Rattle.flow_laws.proofs.SoundRows.{rows-in-range}
 use Rattle.flow_laws.proofs.Totals.{sum-flat, count-cons}
 use Rattle.flow_laws.proofs.HoldingTrees.{Reads, column-reads}
 use Rattle.flow_laws.proofs.HoldingEnds.{taken_at, taken-start, taken, EndsAtSeam, EndsInRow, EndsFor, column-ends}

@@ -1,4 +1,5 @@
 mod Advance
+mod BoundsAbove
 mod DepthSame
 mod Descent
 mod Exists
@@ -18,11 +19,14 @@ pub mod LaidSums
 mod Laying
 pub mod Needs
 pub mod PlacedSums
+mod Places
 mod Rejects
 pub mod RowHeightBounds
 mod RowsAdvance
 mod RowsStay
 pub mod Small
+mod SoundRows
+mod StackSums
 mod StopStays
 mod Totals
 mod TreeBounds

@@ -14,10 +14,12 @@ use Rattle.flow_list.specs.ClonedEdges.{open_across, tops, bottoms}
 use Rattle.flow_data.specs.Soundness.{IsSoundFlow}
 use Rattle.flow_list.specs.Tokens.{Token, row_start, item_number, within}
 use Rattle.flow_list.specs.Strip.{Strip, strip_at, put, lay_all}
-use Rattle.flow_list.specs.Column.{Inner, Step, height_of, row_from, strip_behind, step_at, steps, steps_from, start_strip, unforced_start, loose_need, is_forced}
+use Rattle.flow_list.specs.Column.{Inner, Step, height_of, strip_behind, step_at, steps, steps_from, start_strip, unforced_start, loose_need, is_forced}
+use Rattle.flow_list.proofs.AtomFlows.{atom-row}
 use Rattle.flow_list.proofs.OpenAcross.{across-sum, at-sum-next}
 use Rattle.flow_data.proofs.OpenBoxes.{at-sum-first}
 use Rattle.flow_laws.specs.Progress.{IsPlaceBefore}
+use Rattle.flow_laws.proofs.Places.{in-items}
 use Rattle.flow_laws.proofs.Laying.{put-rises, lay_all-rises, IsLower, put-lower, lay_all-lower, starts-lower, TopsFollow, head-lays, BottomsPrecede, tail-lays}
 
 atom-height-le : (inner : Inner) (item : Item) (q : Token) → atom_height item ≤ height_of inner item q
@@ -27,10 +29,6 @@ atom-height-le inner (Row r) q = omega arith
 atom-alike : (inner : Inner) (item : Item) (q p : Token) → IsAtom item → height_of inner item q ≡ height_of inner item p
 atom-alike inner (Atom height kind) q p a = refl
 atom-alike inner (Row r) q p a = absurd a
-
-atom-no-row : (item : Item) (q : Token) → IsAtom item → row_from item q ≡ None
-atom-no-row (Atom height kind) q a = refl
-atom-no-row (Row r) q a = absurd a
 
 module _ (inner : Inner) (d : FlowsData) (f : Flow) (sound : IsSoundFlow d f) where
   tops-follow : (k : ℕ) → k < length f.seams → TopsFollow (λ b. (box_of d b).top) (seam_of f k).head
@@ -122,7 +120,7 @@ module _ (inner : Inner) (d : FlowsData) (f : Flow) (sound : IsSoundFlow d f) wh
       let rises = behind-rises s k q in
       let high = atom-height-le inner (item_of f k) q in
       let more = lay_all-rises (strip_behind inner f s k q) (seam_of f (k + 1)).head in (
-        record { item = refl; atom_row = atom-no-row (item_of f k) q; loose = loose-need-le s k q loose; rises = omega arith; holds = omega arith },
+        record { item = refl; atom_row = atom-row (item_of f k) q; loose = loose-need-le s k q loose; rises = omega arith; holds = omega arith },
         go (is_forced (seam_of f (k + 1)).level)
             (good-steps (lay_all (strip_behind inner f s k q) (seam_of f (k + 1)).head) (k + 1) row_start n (base + atom_height (item_of f k)) (step_at inner d f s k q).need (omega arith) (next-tops s k q lt has) (next-loose s k q lt has) (omega arith) (next-over s k q lt)),
       )
@@ -162,12 +160,7 @@ module _ (inner : Inner) (d : FlowsData) (f : Flow) (sound : IsSoundFlow d f) wh
       row-no-atom (Atom height kind) r is a = cc
       row-no-atom (Row s) r is a = a
 
-  pub in-items : (t : Token) → IsPlaceBefore d f t → item_number t < length f.items
-  in-items [] place = absurd place
-  in-items (i ∷ []) place = place
-  in-items (i ∷ (j ∷ rest)) place = place.0
-
   pub column-steps : (t : Token) → IsPlaceBefore d f t → AreGoodSteps (item_number t) 0 0 (steps_from inner d f t)
   column-steps t place =
-      let lt = in-items t place in
+      let lt = in-items d f t place in
       good-steps (start_strip d f t) (item_number t) (within t) (length f.items - item_number t) 0 0 (omega arith) (start-tops t place) (start-loose t place) (omega arith) (omega arith)

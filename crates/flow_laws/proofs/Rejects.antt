@@ -1,5 +1,5 @@
 -- No height fits that is below what an atom needs, nor one at which the columns can't hold the atoms.
-use Rattle.std.proofs.Common.{◌≡◌, ℕ, zero, suc, ◌+◌, ◌-◌, ◌*◌, ◌<◌, ◌≤◌, Bool, true, false, cond, not, ◌&&◌, ◌||◌, List, [], ◌∷◌, ◌++◌, length, take, drop, get_or, Option, Some, None, refl, sym, subst, ◌∙◌, ap, arith, sum_by, ◌⊎◌, inl, inr}
+use Rattle.std.proofs.Common.{◌≡◌, ℕ, zero, suc, ◌+◌, ◌-◌, ◌*◌, ◌<◌, ◌≤◌, Bool, true, false, cond, not, ◌&&◌, List, [], ◌∷◌, ◌++◌, length, take, drop, get_or, Option, Some, None, refl, sym, subst, ◌∙◌, ap, arith, sum_by, ◌⊎◌, inl, inr}
 use Rattle.std.specs.Prelude.{nat_lt, nat_le}
 use Rattle.std.specs.List.{list_any}
 use Rattle.std.proofs.lemmas.Bool.Decides.{nat_tests}
@@ -21,8 +21,10 @@ use Rattle.flow_list.specs.Column.{Column, Inner, Step, Place, Cut, cut, longer,
 use Rattle.flow_list.specs.Rows.{columns, end_of, fits, fails, most_columns, all_rows}
 use Rattle.flow_laws.specs.Progress.{IsPlaceBefore}
 use Rattle.flow_laws.specs.Rejection.{TallAndAreaReject}
-use Rattle.flow_laws.proofs.Needs.{IsGoodStep, AreGoodSteps, column-steps, in-items}
-use Rattle.flow_laws.proofs.RowsAdvance.{by-zero, column-is-later, not-before}
+use Rattle.flow_laws.proofs.Needs.{IsGoodStep, AreGoodSteps, column-steps}
+use Rattle.flow_laws.proofs.Places.{in-items, before-end, at-end}
+use Rattle.flow_laws.proofs.RowsAdvance.{by-zero, column-is-later}
+use Rattle.flow_laws.proofs.RowsStay.{fails-fine}
 
 -- the heights of the atoms among n items from item k on
 heights : Flow → ℕ → ℕ → ℕ
@@ -261,7 +263,7 @@ module _ (inner : Inner) (d : FlowsData) (f : Flow) (sound : IsSoundFlow d f) (h
   column-holds : (t : Token) → IsPlaceBefore d f t → (column inner d f t h).overflow ≡ false → ColumnHolds t (column inner d f t h).end
   unfolding column
   column-holds t place fine =
-      let lt = in-items inner d f sound t place in
+      let lt = in-items d f t place in
       let count = steps-count (start_strip d f t) (item_number t) (within t) (length f.items - item_number t) in
       over-holds (avoids_at d f) t (steps_from inner d f t) (omega arith) (column-steps inner d f sound t place) fine
 
@@ -283,13 +285,6 @@ module _ (d : FlowsData) (sound : IsSound d) (r : ℕ) (lt : r < length d.rows) 
       go : (b : Bool) → fails c ≡ b → (fails c ≡ false) × (list_any fails cs ≡ false)
       go true k = let x : true ≡ false = rw k at e in cc
       go false k = (k, rw k at e)
-
-  no-overflow : (c : Column) → fails c ≡ false → c.overflow ≡ false
-  no-overflow c e = go c.overflow e
-    where
-      go : (o : Bool) → (o || nat_lt 0 c.level) ≡ false → o ≡ false
-      go true e = cc
-      go false e = refl
 
   end-behind : (t : Token) → is_end (flow_in d r) t ≡ true → length (flow_in d r).items ≤ item_number t
   end-behind t e = grind (arith, nat_tests)
@@ -331,22 +326,22 @@ module _ (d : FlowsData) (sound : IsSound d) (r : ℕ) (lt : r < length d.rows) 
 
   columns-hold : (n h : ℕ) (t : Token) → IsPlaceBefore d (flow_in d r) t → is_end (flow_in d r) (end_of t (from n t h)) ≡ true → list_any fails (from n t h) ≡ false → ColumnsHold n h t
   columns-hold zero h t place ends fine =
-      let e = not-before d sound r lt t place in
+      let e = before-end d (flow_in d r) t place in
       let Q : List Column → Type 0 = λ cs. is_end (flow_in d r) (end_of t cs) ≡ true in
       let e' : is_end (flow_in d r) t ≡ true = subst Q (by-zero (λ q. column (all_rows d) d (flow_in d r) q h) (flow_in d r) t) ends in
       absurd cc
   columns-hold (suc n) h t place ends fine =
-      let cons = columns_by-step (λ q. column (all_rows d) d (flow_in d r) q h) (flow_in d r) n t (not-before d sound r lt t place) in
+      let cons = columns_by-step (λ q. column (all_rows d) d (flow_in d r) q h) (flow_in d r) n t (before-end d (flow_in d r) t place) in
       let Q : List Column → Type 0 = λ cs. is_end (flow_in d r) (end_of t cs) ≡ true in
       let P : List Column → Type 0 = λ cs. list_any fails cs ≡ false in
       let first = fine-first (column (all_rows d) d (flow_in d r) t h) (from n (after t h) h) (subst P cons fine) in
-      let here = column-holds (all_rows d) d (flow_in d r) flow_sound h t place (no-overflow (column (all_rows d) d (flow_in d r) t h) first.0) in
-      let start = in-items (all_rows d) d (flow_in d r) flow_sound t place in
-      hold-cons n h t (after t h) (omega arith) here (go (λ p e k. columns-hold n h (after t h) p e k) (column-is-later d sound r lt t h place).place (subst Q cons ends) first.1)
+      let here = column-holds (all_rows d) d (flow_in d r) flow_sound h t place (fails-fine (column (all_rows d) d (flow_in d r) t h) first.0) in
+      let start = in-items d (flow_in d r) t place in
+      hold-cons n h t (after t h) (omega arith) here (go (λ p e k. columns-hold n h (after t h) p e k) (column-is-later d sound r lt t (Some h) place).place (subst Q cons ends) first.1)
     where
       go : (IsPlaceBefore d (flow_in d r) (after t h) → is_end (flow_in d r) (end_of (after t h) (from n (after t h) h)) ≡ true → list_any fails (from n (after t h) h) ≡ false → ColumnsHold n h (after t h)) →
-          ((is_end (flow_in d r) (after t h) ≡ true) ⊎ IsPlaceBefore d (flow_in d r) (after t h)) → is_end (flow_in d r) (end_of (after t h) (from n (after t h) h)) ≡ true → list_any fails (from n (after t h) h) ≡ false → ColumnsHold n h (after t h)
-      go again (inl e) ends fine = hold-end n h (after t h) e
+          ((after t h ≡ length (flow_in d r).items ∷ []) ⊎ IsPlaceBefore d (flow_in d r) (after t h)) → is_end (flow_in d r) (end_of (after t h) (from n (after t h) h)) ≡ true → list_any fails (from n (after t h) h) ≡ false → ColumnsHold n h (after t h)
+      go again (inl e) ends fine = hold-end n h (after t h) (at-end (flow_in d r) (after t h) e)
       go again (inr p) ends fine = again p ends fine
 
   -- ---- the law

@@ -15,7 +15,7 @@ use Rattle.flow_list.specs.Rows.{reach, columns_by, left_in, all_rows}
 use Rattle.flow_list.specs.RowHeights.{size_of, column_within, row_columns, balanced_height, is_unforced, greatest_extent, filled_height, row_height}
 use Rattle.flow_list.proofs.Fitting.{size-reach}
 use Rattle.flow_laws.proofs.Exists.{sizes-least}
-use Rattle.flow_laws.proofs.Small.{column-reach, endless-reach}
+use Rattle.flow_laws.proofs.Small.{column-reach, extent-le}
 
 -- what is so of each column that begins before a flow's end is so of columns one after another
 pub columns-each : (P : Column → Type 0) (make : Token → Column) (f : Flow) (n : ℕ) (t : Token) → ((q : Token) → item_number q < length f.items → P (make q)) → Each P (columns_by make f n t)
@@ -46,13 +46,9 @@ one-of false false (inl e) = cc
 one-of false false (inr e) = cc
 
 module _ (d : FlowsData) (r top : ℕ) (reaches : (t : Token) → reach (all_rows d) d (flow_in d r) t ≤ top) where
-  extent-le : (h : Option ℕ) (q : Token) → item_number q < length (flow_in d r).items → (column_within d (flow_in d r) h q).extent ≤ top
-  extent-le None q lt = endless-reach (all_rows d) d (flow_in d r) top q lt (reaches q)
-  extent-le (Some h) q lt = column-reach (all_rows d) d (flow_in d r) top q h lt (reaches q)
-
   extents-le : (h : Option ℕ) → Each (λ (c : Column). c.extent ≤ top) (row_columns d r h)
   unfolding row_columns
-  extents-le h = columns-each (λ (c : Column). c.extent ≤ top) (column_within d (flow_in d r) h) (flow_in d r) (left_in (all_rows d) (flow_in d r) row_start) row_start (extent-le h)
+  extents-le h = columns-each (λ (c : Column). c.extent ≤ top) (column_within d (flow_in d r) h) (flow_in d r) (left_in (all_rows d) (flow_in d r) row_start) row_start (λ q lt. extent-le d (flow_in d r) top h q lt (reaches q))
 
   -- at a height that no column reaches only forced breaks remain
   stays-within : (h : ℕ) → top < h → (q : Token) → item_number q < length (flow_in d r).items → (is_unforced (flow_in d r) (column (all_rows d) d (flow_in d r) q h).end || nat_lt h (column (all_rows d) d (flow_in d r) q h).extent) ≡ false

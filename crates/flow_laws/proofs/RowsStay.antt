@@ -7,9 +7,10 @@ use Rattle.flow_data.specs.declared.data.FlowsData.{FlowsData}
 use Rattle.flow_data.specs.Flows.{row_of, flow_in}
 use Rattle.flow_list.specs.Tokens.{Token, is_end}
 use Rattle.flow_list.specs.Column.{Column, Inner, column, steps_from, avoids_at}
-use Rattle.flow_list.specs.Rows.{columns, columns_by, end_of, fits, fails, most_columns, up_to, fill_in, rows_to}
+use Rattle.flow_list.specs.Rows.{columns, columns_by, end_of, fits, fails, most_columns, up_to, filled_by, fill_in, rows_to}
 use Rattle.flow_list.specs.Ranges.{judged, bounds_of}
 use Rattle.flow_laws.specs.Constant.{IsBelowEach, ColumnStays, ColumnsStay, FillStays, FillsStay, BreaksAreConstant}
+use Rattle.flow_laws.proofs.BoundsAbove.{column-above, rows_to-above}
 use Rattle.flow_laws.proofs.StopStays.{over-stays, IsBelowEach-append}
 
 pub column-stays : (inner : Inner) (law : FillsStay inner) (d : FlowsData) (f : Flow) (t : Token) (lo h : ℕ) → lo ≤ h → IsBelowEach h (column inner d f t lo).bounds →
@@ -86,18 +87,21 @@ overflows c = c.overflow
 overflow-kept : (a b : Column) → ColumnStays a b → overflows b ≡ overflows a
 overflow-kept a b e = e.overflow
 
-fill-stays : (inner : Inner) (law : FillsStay inner) (d : FlowsData) (r : ℕ) (q : Token) (lo h : ℕ) → lo ≤ h → IsBelowEach h (fill_in inner d r q lo).bounds → FillStays (fill_in inner d r q lo) (fill_in inner d r q h)
-unfolding fill_in
-fill-stays inner law d r q lo h le b =
-    let f = flow_in d r in
-    let same = columns-stay overflows overflow-kept (λ a k. k) inner law d f (row_of d r).n q lo h le b in
+fold-stays : (inner : Inner) (law : FillsStay inner) (d : FlowsData) (f : Flow) (n : ℕ) (q : Token) (lo h : ℕ) → lo ≤ h → IsBelowEach h (filled_by f q (columns inner d f n q lo)).bounds →
+    FillStays (filled_by f q (columns inner d f n q lo)) (filled_by f q (columns inner d f n q h))
+fold-stays inner law d f n q lo h le b =
+    let same = columns-stay overflows overflow-kept (λ a k. k) inner law d f n q lo h le b in
     record {
       lines = lines-stay overflows overflow-kept (λ a k. k) same;
       overflow = any-stays overflows overflow-kept (λ a k. k) same;
-      end = λ n. end-stays overflows overflow-kept (λ a k. k) same n q;
-      at_end = λ n. ap (is_end f) (end-stays overflows overflow-kept (λ a k. k) same n q);
-      level = λ n. level-stays overflows overflow-kept (λ a k. k) same n 0;
+      end = λ o. end-stays overflows overflow-kept (λ a k. k) same o q;
+      at_end = λ o. ap (is_end f) (end-stays overflows overflow-kept (λ a k. k) same o q);
+      level = λ o. level-stays overflows overflow-kept (λ a k. k) same o 0;
     }
+
+fill-stays : (inner : Inner) (law : FillsStay inner) (d : FlowsData) (r : ℕ) (q : Token) (lo h : ℕ) → lo ≤ h → IsBelowEach h (fill_in inner d r q lo).bounds → FillStays (fill_in inner d r q lo) (fill_in inner d r q h)
+unfolding fill_in
+fill-stays inner law d r q lo h le b = fold-stays inner law d (flow_in d r) (row_of d r).n q lo h le b
 
 -- one deeper, wherever it holds within
 pub rows_to-stay : (d : FlowsData) (depth : ℕ) → FillsStay (rows_to d depth)
@@ -116,7 +120,7 @@ fails-kept a b e = go a.overflow b.overflow e.overflow (λ n. e.level n)
     go false true x l = cc
     go false false x l = ap (nat_lt 0) (l refl)
 
-fails-fine : (c : Column) → fails c ≡ false → c.overflow ≡ false
+pub fails-fine : (c : Column) → fails c ≡ false → c.overflow ≡ false
 fails-fine c n = go c.overflow n
   where
     go : (o : Bool) → (o || nat_lt 0 c.level) ≡ false → o ≡ false
@@ -154,6 +158,8 @@ module _ (inner : Inner) (law : FillsStay inner) (d : FlowsData) (r : ℕ) (q : 
 pub breaks-stay : (d : FlowsData) (depth : ℕ) → BreaksAreConstant d depth
 breaks-stay d depth = record {
   column_stays = column-stays (rows_to d depth) (rows_to-stay d depth) d;
+  bounds_are_above = column-above (rows_to d depth) (rows_to-above d depth) d;
+  folds_stay = fold-stays (rows_to d depth) (rows_to-stay d depth) d;
   fills_stay = rows_to-stay d depth;
   judged_stay = λ r q lo h le b. judged-stay (rows_to d depth) (rows_to-stay d depth) d r q lo h le b;
   fits_stays = λ r q lo h le b. fits-stays (rows_to d depth) (rows_to-stay d depth) d r q lo h le b;

@@ -1,6 +1,6 @@
 -- Sizes, needs and extents are no more than all that stands in a row.
 use Rattle.std.proofs.Common.{◌≡◌, ℕ, zero, suc, ◌+◌, ◌-◌, ◌<◌, ◌≤◌, ◌^◌, Bool, true, false, cond, not, ◌&&◌, List, [], ◌∷◌, ◌++◌, length, drop, get_or, Option, Some, None, refl, arith, sum_by}
-use Rattle.std.specs.Prelude.{◌==◌, ◌||◌, All, nat_lt, nat_le}
+use Rattle.std.specs.Prelude.{All, nat_lt, nat_le}
 use Rattle.std.specs.List.{flat_map}
 use Rattle.std.proofs.lemmas.Bool.Decides.{nat_tests}
 use Rattle.std.proofs.lemmas.List.Sums.{sum_by-cons}
@@ -8,28 +8,25 @@ use Rattle.flow_data.specs.declared.data.Flow.{Flow}
 use Rattle.flow_data.specs.declared.data.FlowsData.{FlowsData}
 use Rattle.flow_data.specs.declared.data.Item.{Item}
 use Rattle.flow_data.specs.declared.data.Item.TheVariants.{Atom, Row}
-use Rattle.flow_data.specs.Flows.{amount, box_of, row_of, flow_in, item_of, seam_of, row_in, rows_in, no_row, no_flow, atom_height, boxes_in, open_at}
-use Rattle.flow_list.specs.ClonedEdges.{tops, open_across, bottoms}
-use Rattle.flow_data.specs.Soundness.{IsSound, IsSoundFlow, NestsAtMost, flow_height}
+use Rattle.flow_data.specs.Flows.{box_of, row_of, flow_of, flow_in, item_of, seam_of, row_in, rows_in, no_row, no_flow, atom_height, boxes_in, open_at}
+use Rattle.flow_list.specs.ClonedEdges.{open_across, bottoms}
+use Rattle.flow_data.specs.Soundness.{IsSound, IsSoundFlow, flow_height}
 use Rattle.flow_list.specs.Tokens.{Token, row_start, item_number, within}
 use Rattle.flow_list.specs.Strip.{Strip, strip_at, put, lay_all}
-use Rattle.flow_list.specs.Column.{Filled, Inner, Step, Place, Cut, cut, longer, height_of, strip_behind, steps, steps_from, start_strip, is_forced, tail_from, inside, inside_place, alone_place, whole_place, is_cut, room, best, choose, seams_before, seams_between, last_place, no_place, fill_in_room, column, endless_column, column_up_to, avoids_at}
-use Rattle.flow_list.specs.Rows.{heights_from, amounts_in, reach, size_in, rows_to, all_rows}
-use Rattle.flow_list.specs.RowHeights.{size_of}
+use Rattle.flow_list.specs.Column.{Filled, Inner, Step, Place, Cut, cut, longer, height_of, strip_behind, steps, steps_from, start_strip, is_forced, tail_from, inside, inside_place, alone_place, whole_place, is_cut, room, best, choose, seams_before, seams_between, last_place, no_place, fill_in_room, column, endless_column, column_up_to, avoids_at, unforced_start, loose_need}
+use Rattle.flow_list.specs.Rows.{heights_from, amounts_in, reach, rows_to, all_rows}
+use Rattle.flow_list.specs.RowHeights.{size_of, column_within}
 use Rattle.flow_laws.specs.Bounds.{NeedsRise, NeedsAreSmall, NeedsAndBounds}
 use Rattle.flow_list.proofs.StripBounds.{put_le, lay_all_le}
 use Rattle.flow_data.proofs.BoxSums.{open_at-le}
-use Rattle.flow_list.proofs.Fitting.{open_across-le, first-amounts, amounts-drop, first-height, size-reach}
-use Rattle.flow_laws.proofs.Needs.{AreGoodSteps, column-steps, in-items}
+use Rattle.flow_list.proofs.Fitting.{open_across-le, first-amounts, amounts-drop, first-height, head-start, strip-start, size-reach}
+use Rattle.flow_laws.proofs.Needs.{AreGoodSteps, column-steps}
+use Rattle.flow_laws.proofs.Places.{in-items}
 use Rattle.flow_laws.proofs.StopStays.{cut-room}
-use Rattle.flow_laws.proofs.RowsAdvance.{good-rows, nests-by-number}
-use Rattle.flow_laws.proofs.Totals.{total_within, total-more, total-same, total-le}
+use Rattle.flow_laws.proofs.SoundRows.{nests-by-number}
+use Rattle.flow_laws.proofs.Totals.{sum-both, total_within, row_total, total-more, total-same, total-le}
 
 -- ---- the reach is no more than the total
-
-sum-two : (g h : ℕ → ℕ) (xs : List ℕ) → sum_by (λ x. g x + h x) xs ≡ sum_by g xs + sum_by h xs
-sum-two g h [] = refl
-sum-two g h (x ∷ xs) = omega (arith, sum-two g h xs, sum_by-cons (λ x. g x + h x) x xs, sum_by-cons g x xs, sum_by-cons h x xs)
 
 -- the heights of items are no more than those of the atoms and the totals of the rows among them
 heights-total : (inner : Inner) (total : ℕ → ℕ) (q : Token) (items : List Item) → All (λ s. (p : Token) → inner.size s p ≤ total s) (flat_map row_in items) →
@@ -54,77 +51,43 @@ pub reach-total : (inner : Inner) (d : FlowsData) (f : Flow) (total : ℕ → �
     reach inner d f q ≤ flow_height d f + sum_by total (rows_in f)
 reach-total inner d f total q all =
     let h = heights-part inner total (within q) (item_number q) f.items all in
-    let b = sum-two (λ b. (box_of d b).top) (λ b. (box_of d b).bottom) (boxes_in f) in
+    let b = sum-both (λ b. (box_of d b).top) (λ b. (box_of d b).bottom) (boxes_in f) in
     omega arith
 
-module _ (d : FlowsData) (sound : IsSound d) where
+module _ (d : FlowsData) where
   -- the size of a row is no more than all that stands in it
-  size-total : (n m r : ℕ) (q : Token) → NestsAtMost d n r → n ≤ suc m → size_in (rows_to d m) d r q ≤ total_within d sound n r
+  size-total : (m r : ℕ) (q : Token) → (rows_to d m).size r q ≤ row_total d m r
   unfolding rows_to
-  size-total zero m r q nests le = absurd nests
-  size-total (suc n) zero r q nests le =
-      let none : n ≡ 0 = omega arith in
-      let a = size-reach (rows_to d zero) d r q in
-      let b = reach-total (rows_to d zero) d (flow_in d r) (total_within d sound n) q (λ k e lt p. omega arith) in
-      let c = total-more d sound n r in
-      omega arith
-  size-total (suc n) (suc m) r q nests le =
-      let a = size-reach (rows_to d (suc m)) d r q in
-      let b = reach-total (rows_to d (suc m)) d (flow_in d r) (total_within d sound n) q (λ k e lt p. size-total n m (get_or (rows_in (flow_in d r)) k e) p (nests k e lt) (omega arith)) in
-      let c = total-more d sound n r in
+  size-total zero r q = omega arith
+  size-total (suc m) r q =
+      let a = size-reach (rows_to d m) d r q in
+      let b = reach-total (rows_to d m) d (flow_in d r) (row_total d m) q (λ k e lt p. size-total m (get_or (rows_in (flow_in d r)) k e) p) in
+      let c = total-more d m (row_of d r).flow in
       omega arith
 
-  module _ (r : ℕ) (lt : r < length d.rows) where
-    nests : NestsAtMost d (length d.rows - r) r
-    nests = nests-by-number d sound (length d.rows - r) r lt (omega arith)
+  -- and what a column of a flow may reach no more than all that stands in the flow
+  pub all-total : (m f : ℕ) (t : Token) → reach (rows_to d m) d (flow_of d f) t ≤ total_within d (suc m) f
+  all-total m f t =
+      let b = reach-total (rows_to d m) d (flow_of d f) (row_total d m) t (λ k e lt p. size-total m (get_or (rows_in (flow_of d f)) k e) p) in
+      let c = total-more d m f in
+      omega arith
 
-    total-small : (n : ℕ) → length d.rows - r ≤ n → total_within d sound n r < 2 ^ 60
-    total-small n le =
-        let same = total-same d sound (length d.rows - r) r n (length d.rows) nests le (omega arith) in
-        let whole = total-le d sound r lt in
-        let small = sound.heights in
-        omega arith
+module _ (d : FlowsData) (sound : IsSound d) (r : ℕ) (lt : r < length d.rows) where
+  reach-small : (t : Token) → reach (all_rows d) d (flow_in d r) t < 2 ^ 60
+  unfolding all_rows
+  reach-small t =
+      let nests = nests-by-number d sound (length d.rows - r) r lt (omega arith) in
+      let reached = all-total d (length d.rows) (row_of d r).flow t in
+      let same = total-same d sound (length d.rows - r) r (suc (length d.rows)) (length d.rows) nests (omega arith) (omega arith) in
+      let whole = total-le d sound r lt in
+      let small = sound.heights in
+      omega arith
 
-    size-small : (q : Token) → size_of d r q < 2 ^ 60
-    unfolding size_of all_rows
-    size-small q =
-        let a = size-total (length d.rows - r) (length d.rows) r q nests (omega arith) in
-        let b = total-small (length d.rows - r) (omega arith) in
-        omega arith
-
-    -- what is told of the size of a row within
-    told-size : (n s : ℕ) (p : Token) → 0 < n → length d.rows - s ≤ n → s < length d.rows → (rows_to d n).size s p ≤ total_within d sound n s
-    unfolding rows_to
-    told-size zero s p some le in_rows = absurd (omega arith)
-    told-size (suc n) s p some le in_rows =
-        let a = size-total (length d.rows - s) n s p (nests-by-number d sound (length d.rows - s) s in_rows (omega arith)) le in
-        let b = total-same d sound (length d.rows - s) s (length d.rows - s) (suc n) (nests-by-number d sound (length d.rows - s) s in_rows (omega arith)) (omega arith) le in
-        omega arith
-
-    rows-told : All (λ s. (p : Token) → (rows_to d (length d.rows)).size s p ≤ total_within d sound (length d.rows) s) (rows_in (flow_in d r))
-    rows-told k e l p = told-size (length d.rows) (get_or (rows_in (flow_in d r)) k e) p (omega arith) (omega arith) (good-rows d sound r lt k e l).0
-
-    -- all that a column in the row may reach
-    reach-small : (t : Token) → reach (all_rows d) d (flow_in d r) t < 2 ^ 60
-    unfolding all_rows
-    reach-small t =
-        let a = reach-total (rows_to d (length d.rows)) d (flow_in d r) (total_within d sound (length d.rows)) t rows-told in
-        let c = total-more d sound (length d.rows) r in
-        let b = total-small (suc (length d.rows)) (omega arith) in
-        omega arith
+  size-small : (q : Token) → size_of d r q < 2 ^ 60
+  unfolding size_of
+  size-small q = let a = size-reach (all_rows d) d r q in let b = reach-small q in omega arith
 
 -- ---- needs, places and extents are no more than the reach
-
-pub start-le : (d : FlowsData) (f : Flow) (t : Token) → (start_strip d f t).y + (start_strip d f t).pending ≤ tops d (boxes_in f) + sum_by amount (seam_of f (item_number t)).head
-start-le d f [] = omega arith
-start-le d f (i ∷ []) = start (not (i == 0 || is_forced (seam_of f i).level))
-  where
-    start : (drops : Bool) → (lay_all (strip_at (tops d (open_across f i)) drops) (seam_of f i).head).y + (lay_all (strip_at (tops d (open_across f i)) drops) (seam_of f i).head).pending ≤ tops d (boxes_in f) + sum_by amount (seam_of f i).head
-    start drops =
-        let e = lay_all_le (strip_at (tops d (open_across f i)) drops) (seam_of f i).head in
-        let o : tops d (open_across f i) ≤ tops d (boxes_in f) = open_across-le _ f i in
-        omega arith
-start-le d f (i ∷ (j ∷ q)) = let o : tops d (open_at f i) ≤ tops d (boxes_in f) = open_at-le _ f i in omega arith
 
 module _ (inner : Inner) (d : FlowsData) (f : Flow) (top : ℕ) where
   -- what is so of an item in a column that may reach top
@@ -168,10 +131,19 @@ module _ (inner : Inner) (d : FlowsData) (f : Flow) (top : ℕ) where
 
   within-reach : (t : Token) → item_number t < length f.items → reach inner d f t ≤ top → AllWithinTop (steps_from inner d f t)
   within-reach t lt b =
-      let a = start-le d f t in
+      let a = strip-start d f t in
       let e = first-amounts f.seams (item_number t) in
       let l = amounts-drop f.seams (item_number t) in
       steps-within (start_strip d f t) (item_number t) (within t) (length f.items - item_number t) (omega arith) (omega arith)
+
+  -- an item alone after an unforced break is within it too
+  pub loose-reach : (k : ℕ) → k < length f.items → reach inner d f (k ∷ []) ≤ top → loose_need inner d f k ≤ top
+  unfolding steps AllWithinTop
+  loose-reach k lt b =
+      let a = head-start d f true k in
+      let e = first-amounts f.seams k in
+      let l = amounts-drop f.seams k in
+      (steps-within (unforced_start d f k) k row_start 1 (omega arith) (omega arith)).0.need
 
   -- ---- places
 
@@ -275,6 +247,11 @@ module _ (inner : Inner) (d : FlowsData) (f : Flow) (top : ℕ) where
   needs-small [] small all = tt
   needs-small (s ∷ ss) small all = let a = all.0.need in let b = all.0.place in (omega arith, omega arith, needs-small ss small all.1)
 
+-- at a height or without end
+pub extent-le : (d : FlowsData) (f : Flow) (top : ℕ) (h : Option ℕ) (t : Token) → item_number t < length f.items → reach (all_rows d) d f t ≤ top → (column_within d f h t).extent ≤ top
+extent-le d f top None t lt le = endless-reach (all_rows d) d f top t lt le
+extent-le d f top (Some h) t lt le = column-reach (all_rows d) d f top t h lt le
+
 -- ---- the law
 
 needs-rise : (inner : Inner) (d : FlowsData) (f : Flow) (sound : IsSoundFlow d f) (k base prev : ℕ) (ss : List Step) → AreGoodSteps inner d f sound k base prev ss → NeedsRise prev ss
@@ -287,10 +264,14 @@ needs-and-bounds d sound r lt =
     record {
       needs_never_fall = λ t place. needs-rise (all_rows d) d (flow_in d r) flow (item_number t) 0 0 (steps_from (all_rows d) d (flow_in d r) t) (column-steps (all_rows d) d (flow_in d r) flow t place);
       needs_are_small = λ t place. needs-small (all_rows d) d (flow_in d r) (reach (all_rows d) d (flow_in d r) t) (steps_from (all_rows d) d (flow_in d r) t) (reach-small d sound r lt t)
-          (within-reach (all_rows d) d (flow_in d r) (reach (all_rows d) d (flow_in d r) t) t (in-items (all_rows d) d (flow_in d r) flow t place) (omega arith));
+          (within-reach (all_rows d) d (flow_in d r) (reach (all_rows d) d (flow_in d r) t) t (in-items d (flow_in d r) t place) (omega arith));
+      loose_needs_are_small = λ k known.
+          let a = loose-reach (all_rows d) d (flow_in d r) (reach (all_rows d) d (flow_in d r) (k ∷ [])) k known (omega arith) in
+          let b = reach-small d sound r lt (k ∷ []) in
+          omega arith;
       sizes_are_small = size-small d sound r lt;
       extents_are_small = λ t h place.
-          let a = column-reach (all_rows d) d (flow_in d r) (reach (all_rows d) d (flow_in d r) t) t h (in-items (all_rows d) d (flow_in d r) flow t place) (omega arith) in
+          let a = extent-le d (flow_in d r) (reach (all_rows d) d (flow_in d r) t) h t (in-items d (flow_in d r) t place) (omega arith) in
           let b = reach-small d sound r lt t in
           omega arith;
     }

@@ -154,13 +154,13 @@ room-is s h = omega arith
 cuts-at : (s : Step) (h : ℕ) → s.x + s.feet ≤ h → room s h < s.height → is_cut s h ≡ true
 cuts-at s h a b = grind (arith, nat_tests)
 
-cut-from : (s : Step) (h : ℕ) → is_cut s h ≡ true → s.x + s.feet ≤ h
+pub cut-from : (s : Step) (h : ℕ) → is_cut s h ≡ true → s.x + s.feet ≤ h
 cut-from s h e = grind (arith, nat_tests)
 
 pub cut-room : (s : Step) (h : ℕ) → is_cut s h ≡ true → room s h < s.height
 cut-room s h e = grind (arith, nat_tests)
 
-above-place : (s : Step) (h : ℕ) → (nat_lt 0 s.height && nat_lt h (s.x + s.feet)) ≡ true → h < s.x + s.feet
+pub above-place : (s : Step) (h : ℕ) → (nat_lt 0 s.height && nat_lt h (s.x + s.feet)) ≡ true → h < s.x + s.feet
 above-place s h e = grind (arith, nat_tests)
 
 fits-whole : (s : Step) (h : ℕ) → is_cut s h ≡ false → (nat_lt 0 s.height && nat_lt h (s.x + s.feet)) ≡ false → s.height ≤ room s h

@@ -13,7 +13,7 @@ use Rattle.flow_data.specs.declared.data.Stack.{Stack}
 use Rattle.flow_data.specs.Flows.{row_of, flow_of, flow_in, rows_in, no_flow, no_row}
 use Rattle.flow_data.specs.Soundness.{IsSound, NestsAtMost, count_of, flow_owners, flow_height}
 use Rattle.flow_data.proofs.OpenBoxes.{sum-less}
-use Rattle.flow_laws.proofs.RowsAdvance.{good-rows, nests-by-number}
+use Rattle.flow_laws.proofs.SoundRows.{good-rows, nests-by-number}
 
 -- ---- sums
 
@@ -162,6 +162,27 @@ up-within g low m xs all each = let e = sum-less g (count_up low m) xs (λ n. wi
     once n (inl lt) = let o = each n lt in omega arith
     once n (inr ge) = let z = count-none n low (low + m) xs all (inr ge) in omega arith
 
+-- ---- totals
+
+module _ (d : FlowsData) where
+  -- all that stands in flow f, with the flows of the rows within it, n flows deep
+  pub total_within : ℕ → ℕ → ℕ
+  total_within zero f = 0
+  total_within (suc n) f = flow_height d (flow_of d f) + sum_by (λ r. total_within n (row_of d r).flow) (rows_in (flow_of d f))
+
+  -- the same of row r
+  abbrev pub row_total : ℕ → ℕ → ℕ
+  row_total n r = total_within n (row_of d r).flow
+
+  pub total-more : (n f : ℕ) → total_within (suc n) f ≡ flow_height d (flow_of d f) + sum_by (row_total n) (rows_in (flow_of d f))
+  unfolding total_within
+  total-more n f = refl
+
+  pub total-rises : (n f : ℕ) → total_within n f ≤ total_within (suc n) f
+  unfolding total_within
+  total-rises zero f = omega arith
+  total-rises (suc n) f = let a = sum_by-le-sum_by (row_total n) (row_total (suc n)) (rows_in (flow_of d f)) (λ r. total-rises n (row_of d r).flow) in omega arith
+
 -- ---- rows and flows
 
 module _ (d : FlowsData) (sound : IsSound d) where
@@ -218,35 +239,27 @@ module _ (d : FlowsData) (sound : IsSound d) where
       let listed = sum-flat (λ x. cond (x == n) 1 0) rows_in d.flows in
       omega arith
 
-  -- ---- totals
+  -- ---- the totals of rows
 
-  -- all that stands in row r, with the rows within it, n rows deep
-  pub total_within : ℕ → ℕ → ℕ
-  total_within zero r = 0
-  total_within (suc n) r = flow_height d (flow_in d r) + sum_by (total_within n) (rows_in (flow_in d r))
-
-  pub total-more : (n r : ℕ) → total_within (suc n) r ≡ flow_height d (flow_in d r) + sum_by (total_within n) (rows_in (flow_in d r))
-  unfolding total_within
-  total-more n r = refl
-
-  pub total-same : (n r a b : ℕ) → NestsAtMost d n r → n ≤ a → n ≤ b → total_within a r ≡ total_within b r
+  -- which is the same at each depth that serves
+  pub total-same : (n r a b : ℕ) → NestsAtMost d n r → n ≤ a → n ≤ b → row_total d a r ≡ row_total d b r
   unfolding total_within
   total-same zero r a b nests le ge = absurd nests
   total-same (suc n) r zero b nests le ge = absurd (omega arith)
   total-same (suc n) r (suc a) zero nests le ge = absurd (omega arith)
   total-same (suc n) r (suc a) (suc b) nests le ge =
-      ap (λ m. flow_height d (flow_in d r) + m) (sum-same (total_within a) (total_within b) (rows_in (flow_in d r)) (λ k e lt. total-same n _ a b (nests k e lt) (omega arith) (omega arith)))
+      ap (λ m. flow_height d (flow_in d r) + m) (sum-same (row_total d a) (row_total d b) (rows_in (flow_in d r)) (λ k e lt. total-same n (get_or (rows_in (flow_in d r)) k e) a b (nests k e lt) (omega arith) (omega arith)))
 
-  total-row : (r : ℕ) → r < length d.rows → total_within (length d.rows) r ≡ flow_height d (flow_in d r) + sum_by (total_within (length d.rows)) (rows_in (flow_in d r))
+  total-row : (r : ℕ) → r < length d.rows → row_total d (length d.rows) r ≡ flow_height d (flow_in d r) + sum_by (row_total d (length d.rows)) (rows_in (flow_in d r))
   total-row r lt =
       let fuel : suc (length d.rows - 1) ≡ length d.rows = omega arith in
       let good = good-rows d sound r lt in
-      let P : ℕ → Type 0 = λ n. total_within n r ≡ flow_height d (flow_in d r) + sum_by (total_within (length d.rows - 1)) (rows_in (flow_in d r)) in
-      let one : total_within (length d.rows) r ≡ flow_height d (flow_in d r) + sum_by (total_within (length d.rows - 1)) (rows_in (flow_in d r)) = subst P fuel (total-more (length d.rows - 1) r) in
-      one ∙ ap (λ m. flow_height d (flow_in d r) + m) (sum-same (total_within (length d.rows - 1)) (total_within (length d.rows)) (rows_in (flow_in d r))
+      let P : ℕ → Type 0 = λ n. row_total d n r ≡ flow_height d (flow_in d r) + sum_by (row_total d (length d.rows - 1)) (rows_in (flow_in d r)) in
+      let one : row_total d (length d.rows) r ≡ flow_height d (flow_in d r) + sum_by (row_total d (length d.rows - 1)) (rows_in (flow_in d r)) = subst P fuel (total-more d (length d.rows - 1) (row_of d r).flow) in
+      one ∙ ap (λ m. flow_height d (flow_in d r) + m) (sum-same (row_total d (length d.rows - 1)) (row_total d (length d.rows)) (rows_in (flow_in d r))
       (λ k e l. let g = (good k e l).0 in let later = (sound.inner_rows r lt k e l).later in total-same (length d.rows - get_or (rows_in (flow_in d r)) k e) (get_or (rows_in (flow_in d r)) k e) (length d.rows - 1) (length d.rows) (nests-by-number d sound (length d.rows - get_or (rows_in (flow_in d r)) k e) (get_or (rows_in (flow_in d r)) k e) g (omega arith)) (omega arith) (omega arith)))
 
-  totals-split : (k m : ℕ) → k + m ≤ length d.rows → up (total_within (length d.rows)) k m ≡ up (λ i. flow_height d (flow_in d i)) k m + sum_by (total_within (length d.rows)) (children k m)
+  totals-split : (k m : ℕ) → k + m ≤ length d.rows → up (row_total d (length d.rows)) k m ≡ up (λ i. flow_height d (flow_in d i)) k m + sum_by (row_total d (length d.rows)) (children k m)
   unfolding up children count_up
   totals-split k zero le = refl
   totals-split k (suc m) le =
@@ -254,21 +267,21 @@ module _ (d : FlowsData) (sound : IsSound d) where
         arith,
         totals-split (suc k) m (omega arith),
         total-row k (omega arith),
-        sum_by-cons (total_within (length d.rows)) k (count_up (suc k) m),
+        sum_by-cons (row_total d (length d.rows)) k (count_up (suc k) m),
         sum_by-cons (λ i. flow_height d (flow_in d i)) k (count_up (suc k) m),
-        sum_by-append (total_within (length d.rows)) (rows_in (flow_in d k)) (flat_map (λ i. rows_in (flow_in d i)) (count_up (suc k) m)),
+        sum_by-append (row_total d (length d.rows)) (rows_in (flow_in d k)) (flat_map (λ i. rows_in (flow_in d i)) (count_up (suc k) m)),
       )
 
   -- what stands in a row is no higher than all flows together
-  pub total-le : (r : ℕ) → r < length d.rows → total_within (length d.rows) r ≤ sum_by (flow_height d) d.flows
+  pub total-le : (r : ℕ) → r < length d.rows → row_total d (length d.rows) r ≤ sum_by (flow_height d) d.flows
   total-le r lt =
       let m = length d.rows - r - 1 in
       let whole : r + suc (length d.rows - r - 1) ≡ length d.rows = omega arith in
       let split = totals-split r (suc (length d.rows - r - 1)) (omega arith) in
-      let first = up-more (total_within (length d.rows)) r (length d.rows - r - 1) in
+      let first = up-more (row_total d (length d.rows)) r (length d.rows - r - 1) in
       let range : suc r + (length d.rows - r - 1) ≡ length d.rows = omega arith in
       let inside : AllIn (suc r) (suc r + (length d.rows - r - 1)) (children r (suc (length d.rows - r - 1))) = rw range (children-in r r (suc (length d.rows - r - 1)) (omega arith) (omega arith)) in
-      let below = within-up (total_within (length d.rows)) (suc r) (length d.rows - r - 1) (children r (suc (length d.rows - r - 1))) inside (λ n l. children-once r (suc (length d.rows - r - 1)) n whole (omega arith)) in
+      let below = within-up (row_total d (length d.rows)) (suc r) (length d.rows - r - 1) (children r (suc (length d.rows - r - 1))) inside (λ n l. children-once r (suc (length d.rows - r - 1)) n whole (omega arith)) in
       let by_flows = rows-by-flows (λ f. flow_height d (flow_of d f)) r (suc (length d.rows - r - 1)) whole in
       let listed = up-list (λ f. flow_height d (flow_of d f)) (flow_height d) no_flow 0 d.flows (λ i l. let z : 0 + i ≡ i = omega arith in rw z refl) in
       omega arith

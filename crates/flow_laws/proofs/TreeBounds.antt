@@ -32,8 +32,9 @@ use Rattle.flow_laws.specs.Rectangles.{EndsBelow, RectanglesAreBounded}
 use Rattle.flow_laws.proofs.Small.{column-reach, endless-reach}
 use Rattle.flow_laws.proofs.HeldSums.{height_held, height-more, height-stack, height-rises, size-held, reach-held, left-held}
 use Rattle.flow_laws.proofs.LaidSums.{IsRowOf, share}
-use Rattle.flow_laws.proofs.PlacedSums.{whole, whole-is, column-placed, stack-placed, stack-reach}
+use Rattle.flow_laws.proofs.PlacedSums.{whole, whole-is, column-placed, stack-placed}
 use Rattle.flow_laws.proofs.RowHeightBounds.{row-height-le}
+use Rattle.flow_laws.proofs.StackSums.{stack-extent-small}
 use Rattle.flow_laws.proofs.Descent.{Stands, row-known, first-stands, x-small, row-stands, stack-stands}
 
 module _ (d : FlowsData) (sound : IsSound d) where
@@ -124,22 +125,15 @@ module _ (d : FlowsData) (sound : IsSound d) where
   unfolding total
   size-total m le n r q = let a = size-held d m r q in let b = height-rises d m (n + suc (length d.rows)) (row_of d r).flow (omega arith) in omega arith
 
-  stack-extent-small : (s : ℕ) → ((n : ℕ) → height_held d n (stack_of d s).flow < 2 ^ 60) → stack_extent d (stack_of d s).bound (flow_of d (stack_of d s).flow) < 2 ^ 60
-  stack-extent-small s small =
-      let a = stack-reach d (flow_of d (stack_of d s).flow) (total 0) (stack_of d s).bound (rows_to d 0) (row-height-total 0) in
-      let b = whole-held 0 (stack_of d s).flow in
-      let c = small (suc (0 + suc (length d.rows))) in
-      omega arith
-
-  bounded-height : (s height : ℕ) → (stack_of d s).bound ≡ Left height → height ≤ 2 ^ 24 → ((n : ℕ) → height_held d n (stack_of d s).flow < 2 ^ 60) → stack_height d s < 2 ^ 60
+  bounded-height : (s height : ℕ) → s < length d.stacks → (stack_of d s).bound ≡ Left height → height ≤ 2 ^ 24 → stack_height d s < 2 ^ 60
   unfolding stack_height
-  bounded-height s height is le small = go (s == 0)
+  bounded-height s height known is le = go (s == 0)
     where
       own : own_height (stack_of d s).bound (stack_extent d (stack_of d s).bound (flow_of d (stack_of d s).flow)) < 2 ^ 60
       own = let P : Bound → Type 0 = λ b. own_height b (stack_extent d (stack_of d s).bound (flow_of d (stack_of d s).flow)) < 2 ^ 60 in subst P (sym is) (omega arith)
 
       go : (b : Bool) → cond b (stack_extent d (stack_of d s).bound (flow_of d (stack_of d s).flow)) (own_height (stack_of d s).bound (stack_extent d (stack_of d s).bound (flow_of d (stack_of d s).flow))) < 2 ^ 60
-      go true = stack-extent-small s small
+      go true = stack-extent-small d sound s known
       go false = own
 
   module _ (stacks : ℕ → ℕ → ℕ → ℕ → List TreeLine) (small : StacksSmall stacks) where
@@ -159,7 +153,7 @@ module _ (d : FlowsData) (sound : IsSound d) where
         let e = height-rises d n (n + suc (length d.rows)) (stack_of d named).flow (omega arith) in
         omega arith in
         let there = stack-stands d sound f spare frame.x frame.y k height owner named l y (suc (length d.rows)) ok.stands lt is fits in
-        small named depth (frame.x + l) (frame.y + y) s.stack.0 there (bounded-height named height s.stack.1 s.height_limit (λ n. let a = there.heights n in omega arith))
+        small named depth (frame.x + l) (frame.y + y) s.stack.0 there (bounded-height named height s.stack.0 s.stack.1 s.height_limit)
 
     atom-small : (f spare depth k y : ℕ) (frame : Frame) → IsFrame f spare frame → IsIn f (atom_at k y) → Each EndsBelow (item_lines stacks depth frame k y (item_of (flow_of d f) k))
     atom-small f spare depth k y frame ok at = go (cases_lt k (length (flow_of d f).items)) (x-small d sound f spare frame.x frame.y ok.stands) (place-small f spare frame (atom_at k y) ok at)
@@ -360,7 +354,7 @@ module _ (d : FlowsData) (sound : IsSound d) where
       let w = stack.w_limit in
       let across = x-small d sound g 1 x y stands in
       let down = stands.heights 0 in
-      let reach = stack-extent-small s (λ n. let a = stands.heights n in omega arith) in
+      let reach = stack-extent-small d sound s known in
       let here : IsFrame g 1 (stack_frame s x y) = record { stands = stands; known = stack.flow; w = w; h = high; extent = reach } in (
         (omega arith, omega arith),
         trees-small (lines_of_stack d n) (stacks-small n) (row_fragments d (suc (length d.rows))) (rows-small (lines_of_stack d n) (stacks-small n) (suc (length d.rows)) (omega arith)) (length (in_stack s)) g 1 (depth + 1) (stack_frame s x y) (in_stack s) here
@@ -369,7 +363,7 @@ module _ (d : FlowsData) (sound : IsSound d) where
 
   first-high : 0 < length d.stacks → stack_height d 0 < 2 ^ 60
   unfolding stack_height
-  first-high some = let first = first-stands d sound some in stack-extent-small 0 (λ n. let a = first.heights n in omega arith)
+  first-high some = stack-extent-small d sound 0 some
 
 no-lines : (d : FlowsData) → Each EndsBelow (lines_of_stack d 0 0 0 0 0)
 unfolding lines_of_stack
@@ -377,7 +371,10 @@ no-lines d = tt
 
 pub rectangles-bounded : (d : FlowsData) → IsSound d → RectanglesAreBounded d
 unfolding tree_of StacksSmall
-rectangles-bounded d sound = All-from_recursion EndsBelow (lines_of_stack d (length d.stacks) 0 0 0 0) (go (cases_lt 0 (length d.stacks)))
+rectangles-bounded d sound = record {
+  lines_end_below = All-from_recursion EndsBelow (lines_of_stack d (length d.stacks) 0 0 0 0) (go (cases_lt 0 (length d.stacks)));
+  stacks_are_small = stack-extent-small d sound;
+}
   where
     go : (0 < length d.stacks) ⊎ (length d.stacks ≤ 0) → Each EndsBelow (lines_of_stack d (length d.stacks) 0 0 0 0)
     go (inl some) = stacks-small d sound (length d.stacks) 0 0 0 0 some (first-stands d sound some) (first-high d sound some)

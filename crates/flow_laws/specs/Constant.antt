@@ -1,11 +1,11 @@
 -- Breaks are constant over a range of heights (this project's own): up to the least height at which something may change,
--- columns end where they end at the lower height.
+-- columns end where they end at the lower height, and that range is never empty.
 use Rattle.std.specs.Prelude.{◌≡◌, ℕ, ◌<◌, ◌≤◌, false, List, [], ◌∷◌}
 use Rattle.flow_data.specs.declared.data.Flow.{Flow}
 use Rattle.flow_data.specs.declared.data.FlowsData.{FlowsData}
 use Rattle.flow_list.specs.Tokens.{Token}
 use Rattle.flow_list.specs.Column.{Column, Filled, Inner, column}
-use Rattle.flow_list.specs.Rows.{fits, rows_to}
+use Rattle.flow_list.specs.Rows.{columns, fits, filled_by, rows_to}
 use Rattle.flow_list.specs.Ranges.{judged, bounds_of}
 
 -- h is below each of these
@@ -44,7 +44,12 @@ pub record BreaksAreConstant (d : FlowsData) (depth : ℕ) : Type 0 where
   -- of a column
   pub column_stays : (f : Flow) (t : Token) (lo h : ℕ) → lo ≤ h → IsBelowEach h (column (rows_to d depth) d f t lo).bounds →
       ColumnStays (column (rows_to d depth) d f t lo) (column (rows_to d depth) d f t h)
-  -- of what a row makes of a height
+  -- whose bounds are all above its height
+  pub bounds_are_above : (f : Flow) (t : Token) (h : ℕ) → IsBelowEach h (column (rows_to d depth) d f t h).bounds
+  -- of what the first n columns from a place on are together, or all of them
+  pub folds_stay : (f : Flow) (n : ℕ) (q : Token) (lo h : ℕ) → lo ≤ h → IsBelowEach h (filled_by f q (columns (rows_to d depth) d f n q lo)).bounds →
+      FillStays (filled_by f q (columns (rows_to d depth) d f n q lo)) (filled_by f q (columns (rows_to d depth) d f n q h))
+  -- so of what a row makes of a height
   pub fills_stay : FillsStay (rows_to d depth)
   -- of the columns that are judged
   pub judged_stay : (r : ℕ) (q : Token) (lo h : ℕ) → lo ≤ h → IsBelowEach h (bounds_of (judged (rows_to d depth) d r q lo)) →

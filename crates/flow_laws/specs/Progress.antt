@@ -1,14 +1,15 @@
--- Columns advance: each ends later than it begins, so all of them hold the content once (CSS Fragmentation 3, section 4.5,
+-- Columns advance: each ends later than it begins, so they hold the content once as far as they go (CSS Fragmentation 3, section 4.5,
 -- asks for progress).
-use Rattle.std.specs.Prelude.{◌≡◌, ℕ, zero, suc, ◌-◌, ◌<◌, true, List, [], ◌∷◌, ◌++◌, length, take, drop, ◌⊎◌}
+use Rattle.std.specs.Prelude.{◌≡◌, ℕ, zero, suc, ◌-◌, ◌<◌, ◌≤◌, true, List, [], ◌∷◌, ◌++◌, length, take, drop, Option, ◌⊎◌}
 use Rattle.flow_data.specs.declared.data.Flow.{Flow}
 use Rattle.flow_data.specs.declared.data.FlowsData.{FlowsData}
 use Rattle.flow_data.specs.declared.data.Item.{Item}
 use Rattle.flow_data.specs.declared.data.Item.TheVariants.{Atom, Row}
 use Rattle.flow_data.specs.Flows.{flow_in, item_of}
 use Rattle.flow_list.specs.Tokens.{Token, row_start, item_number, within, is_end}
-use Rattle.flow_list.specs.Column.{Column, column}
-use Rattle.flow_list.specs.Rows.{columns, end_of, left_in, all_rows}
+use Rattle.flow_list.specs.Column.{Column}
+use Rattle.flow_list.specs.Rows.{columns_by, end_of, left_in, all_rows}
+use Rattle.flow_list.specs.RowHeights.{column_within}
 
 -- a place in a flow before its end: an item, or a place before the end of a row that an item is
 abbrev pub IsPlaceBefore : FlowsData → Flow → Token → Type 0
@@ -56,7 +57,7 @@ EndsWith xs ys = (held : List AtomAt) × (ys ≡ held ++ xs)
 -- Place u of row r comes after place t: it is the end or a place before it, fewer items are left there, and the atoms
 -- from it on are the last ones of those from t on.
 pub record IsLater (d : FlowsData) (r : ℕ) (t u : Token) : Type 0 where
-  pub place : (is_end (flow_in d r) u ≡ true) ⊎ IsPlaceBefore d (flow_in d r) u
+  pub place : (u ≡ length (flow_in d r).items ∷ []) ⊎ IsPlaceBefore d (flow_in d r) u
   pub fewer : left_in (all_rows d) (flow_in d r) u < left_in (all_rows d) (flow_in d r) t
   pub rest : EndsWith (atoms_from d r u) (atoms_from d r t)
 
@@ -69,15 +70,24 @@ abbrev pub held_by : FlowsData → ℕ → Token → List Column → List AtomAt
 held_by d r t [] = []
 held_by d r t (c ∷ cs) = atoms_between d r t c.end ++ held_by d r c.end cs
 
+-- the first n columns of row r from a place on, or all of them, at a height or without end
+abbrev pub first_columns : FlowsData → ℕ → ℕ → Token → Option ℕ → List Column
+first_columns d r n t h = columns_by (column_within d (flow_in d r) h) (flow_in d r) n t
+
 -- The law, of sound flows.
 pub record ColumnsAdvance (d : FlowsData) (r : ℕ) : Type 0 where
   -- a column ends later than it begins
-  pub column_advances : (t : Token) (h : ℕ) → IsPlaceBefore d (flow_in d r) t → IsLater d r t (column (all_rows d) d (flow_in d r) t h).end
+  pub column_advances : (t : Token) (h : Option ℕ) → IsPlaceBefore d (flow_in d r) t → IsLater d r t (column_within d (flow_in d r) h t).end
   -- what a row makes of a height leaves a later place
   pub fill_advances : (t : Token) (h : ℕ) → IsPlaceBefore d (flow_in d r) t → IsLater d r t ((all_rows d).fill r t h).end
-  -- as many columns as there are items left reach the end
-  pub columns_end : (t : Token) (h : ℕ) → IsPlaceBefore d (flow_in d r) t →
-      is_end (flow_in d r) (end_of t (columns (all_rows d) d (flow_in d r) (left_in (all_rows d) (flow_in d r) t) t h)) ≡ true
-  -- columns that reach the end hold each atom once, in order, those in rows that are cut too
-  pub each_once : (n : ℕ) (t : Token) (h : ℕ) → IsPlaceBefore d (flow_in d r) t → is_end (flow_in d r) (end_of t (columns (all_rows d) d (flow_in d r) n t h)) ≡ true →
-      held_by d r t (columns (all_rows d) d (flow_in d r) n t h) ≡ atoms_from d r t
+  -- as many columns as there are items left, or more, reach the end
+  pub columns_end : (n : ℕ) (t : Token) (h : Option ℕ) → IsPlaceBefore d (flow_in d r) t → left_in (all_rows d) (flow_in d r) t ≤ n →
+      is_end (flow_in d r) (end_of t (first_columns d r n t h)) ≡ true
+  -- however many there are, they hold each atom before the place where they end once, in order, those in rows that are cut too
+  pub each_once : (n : ℕ) (t : Token) (h : Option ℕ) → IsPlaceBefore d (flow_in d r) t →
+      held_by d r t (first_columns d r n t h) ++ atoms_from d r (end_of t (first_columns d r n t h)) ≡ atoms_from d r t
+  -- no atom stands behind the end
+  pub none_behind : (t : Token) → is_end (flow_in d r) t ≡ true → atoms_from d r t ≡ []
+  -- so those that reach the end hold them all
+  pub all_held : (n : ℕ) (t : Token) (h : Option ℕ) → IsPlaceBefore d (flow_in d r) t → is_end (flow_in d r) (end_of t (first_columns d r n t h)) ≡ true →
+      held_by d r t (first_columns d r n t h) ≡ atoms_from d r t

@@ -18,9 +18,9 @@ ghost use Rattle.flow_data.specs.Flows.{flow_in};
 ghost use Rattle.flow_list.specs.Tokens.{Token};
 ghost use Rattle.flow_data.specs.Soundness.{IsSound};
 
-/// Breaks are constant over a range of heights: up to the least bound of a column its lines and its overflow stay, and
-/// where it doesn't overflow its end and level too; so do those of a fill and of the columns that are judged, and a height
-/// fits just where the lower one does.
+/// Breaks are constant over a range of heights: each bound of a column is above its height, and up to the least its lines and
+/// its overflow stay, and where it doesn't overflow its end and level too; so do those of any number of columns together, of a
+/// fill and of the columns that are judged, and a height fits just where the lower one does.
 pub fn breaks_are_constant()
     ensures { (d : FlowsData) (depth : ℕ) → BreaksAreConstant d depth }
 {}
@@ -32,13 +32,14 @@ pub fn sizes_are_least()
 {}
 
 /// A deeper recursion than needed changes nothing: of a row of which at most n stand one inside another the same is told at each
-/// depth from n on.
+/// depth from n on. In sound flows the count of rows is such a depth for each of them.
 pub fn depth_changes_nothing()
     ensures { (d : FlowsData) → DepthChangesNothing d }
 {}
 
-/// In sound flows a column ends later than it begins, and what a row makes of a height leaves a later place. So columns over the
-/// whole content of a row end, and they hold each atom once, in order, also those in inner rows that are cut.
+/// In sound flows a column, at a height or without end, ends later than it begins, and what a row makes of a height leaves a later
+/// place. So as many columns as there are items left reach the row's end, and any number of columns hold each atom before the place
+/// where they end once, in order, also those in inner rows that are cut.
 pub fn columns_advance()
     ensures { (d : FlowsData) → IsSound d → (r : ℕ) → r < length d.rows → ColumnsAdvance d r }
 {}
@@ -58,14 +59,14 @@ pub fn tall_and_area_reject()
     ensures { (d : FlowsData) → IsSound d → (r : ℕ) → r < length d.rows → (q : Token) → IsPlaceBefore d (flow_in d r) q → TallAndAreaReject d r q }
 {}
 
-/// In sound flows what a column's items need never falls from one to the next, and needs, the places where items begin, sizes and
-/// extents are all below 2^60.
+/// In sound flows what a column's items need never falls from one to the next, and needs, also after an unforced break, the places
+/// where items begin, sizes and extents, also of columns without end, are all below 2^60.
 pub fn needs_and_bounds()
     ensures { (d : FlowsData) → IsSound d → (r : ℕ) → r < length d.rows → NeedsAndBounds d r }
 {}
 
 /// In sound flows every rectangle of a whole tree ends below 2^63, from the left and from the top of the document: those of stacks, rows,
-/// columns, pieces of boxes and items, however deep they stand.
+/// columns, pieces of boxes and items, however deep they stand. And each stack reaches less than 2^60.
 pub fn rectangles_are_bounded()
     ensures { (d : FlowsData) → IsSound d → RectanglesAreBounded d }
 {}

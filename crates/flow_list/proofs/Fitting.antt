@@ -1,9 +1,9 @@
 -- A height that fits exists: at the whole reach of a flow only forced breaks remain. So the size is the least height that
 -- fits.
-use Rattle.std.proofs.Common.{zero-add, ◌≡◌, ℕ, zero, suc, ◌+◌, ◌-◌, ◌<◌, ◌≤◌, Bool, true, false, cond, not, ◌||◌, List, [], ◌∷◌, length, take, drop, get_or, None, refl, sym, ◌∙◌, ap, arith, sum_by, add-one, ◌⊎◌, inl, inr}
+use Rattle.std.proofs.Common.{zero-add, ◌≡◌, ℕ, zero, suc, ◌+◌, ◌-◌, ◌<◌, ◌≤◌, Bool, true, false, cond, not, ◌||◌, List, [], ◌∷◌, length, take, drop, get_or, None, refl, sym, subst, ◌∙◌, ap, arith, sum_by, add-one, ◌⊎◌, inl, inr}
 use Rattle.std.specs.Prelude.{count_by, ◌==◌}
 use Rattle.std.specs.List.{flat_map}
-use Rattle.std.proofs.lemmas.Bool.{le-ltb, cases_lt}
+use Rattle.std.proofs.lemmas.Bool.{le-ltb, cases_lt, cases_order}
 use Rattle.std.proofs.lemmas.Bool.Decides.{nat_tests}
 use Rattle.std.proofs.lemmas.List.{drop-drop, get_or-drop}
 use Rattle.std.proofs.lemmas.List.Sums.{sum_by-cons, sum_by-append}
@@ -19,7 +19,6 @@ use Rattle.flow_list.specs.Column.{is_forced, Column, Inner, Step, Place, cut, s
 use Rattle.flow_list.specs.Rows.{columns_by, columns, fails, reach_end, forced_above, most_columns, fits, heights_from, amounts_in, least, reach, size_in}
 use Rattle.flow_data.proofs.BoxSums.{filter-le, open_at-le}
 use Rattle.flow_list.proofs.StripBounds.{put_le, lay_all_le}
-use Rattle.flow_list.proofs.Walk.{behind}
 use Rattle.flow_list.proofs.LeastHeight.{IsLeast, least-is}
 
 -- ---- what is open in a flow has no more cloned edges than all its boxes
@@ -89,9 +88,14 @@ no-stop h (s ∷ ss) a = rw (le-ltb h s.need a.0, no-stop h ss a.1) refl
 column_over-ends : (inner : Inner) (avoids : ℕ → Bool) (h : ℕ) (ss : List Step) → AllNeed h ss → column_over inner avoids h ss ≡ unstopped ss
 column_over-ends inner avoids h ss a = rw (no-stop h ss a) refl
 
-strip-start : (d : FlowsData) (f : Flow) (t : Token) → (start_strip d f t).y + (start_strip d f t).pending ≤ tops d (boxes_in f) + sum_by amount (seam_of f (item_number t)).head
+-- a column that begins at a seam has its first item behind the seam's head
+pub head-start : (d : FlowsData) (f : Flow) (drops : Bool) (i : ℕ) →
+    (lay_all (strip_at (tops d (open_across f i)) drops) (seam_of f i).head).y + (lay_all (strip_at (tops d (open_across f i)) drops) (seam_of f i).head).pending ≤ tops d (boxes_in f) + sum_by amount (seam_of f i).head
+head-start d f drops i = omega (arith, lay_all_le (strip_at (tops d (open_across f i)) drops) (seam_of f i).head, open_across-le (λ b. (box_of d b).top) f i)
+
+pub strip-start : (d : FlowsData) (f : Flow) (t : Token) → (start_strip d f t).y + (start_strip d f t).pending ≤ tops d (boxes_in f) + sum_by amount (seam_of f (item_number t)).head
 strip-start d f [] = omega arith
-strip-start d f (i ∷ []) = omega (arith, lay_all_le (strip_at (tops d (open_across f i)) (not (i == 0 || is_forced (seam_of f i).level))) (seam_of f i).head, open_across-le (λ b. (box_of d b).top) f i)
+strip-start d f (i ∷ []) = head-start d f (not (i == 0 || is_forced (seam_of f i).level)) i
 strip-start d f (i ∷ (j ∷ rest)) = omega (arith, open_at-le (λ b. (box_of d b).top) f i)
 
 pub all-need : (inner : Inner) (d : FlowsData) (f : Flow) (t : Token) (h : ℕ) → reach inner d f t ≤ h → AllNeed h (steps_from inner d f t)
@@ -162,35 +166,89 @@ forced_above-falls f k = go (cases_lt (k + 1) (length f.items))
         rw n (rw (drop-one k f.seams) at (forced_in-drop (length f.items - (k + 1) - 1) (drop (k + 1) f.seams)))
     go (inr le) = let n : length f.items - (k + 1) - 1 ≡ 0 = omega arith in rw n (omega arith)
 
-abbrev place_to : ℕ → ℕ → Place
+forced_above-later : (f : Flow) (k m : ℕ) → forced_above f (k + m) ≤ forced_above f k
+forced_above-later f k zero = let P : ℕ → Type 0 = λ n. forced_above f n ≤ forced_above f k in let e : k ≡ k + 0 = omega arith in subst P e (omega arith)
+forced_above-later f k (suc m) =
+    let P : ℕ → Type 0 = λ n. forced_above f n ≤ forced_above f k in
+    let e : k + m + 1 ≡ k + suc m = omega arith in
+    let a = forced_above-falls f (k + m) in
+    let b = forced_above-later f k m in
+    subst P e (omega arith)
+
+-- fewer are above a forced seam than above an item before it
+forced_above-fewer : (f : Flow) (k e : ℕ) → k < e → e < length f.items → is_forced (seam_of f e).level ≡ true → forced_above f e < forced_above f k
+forced_above-fewer f k e lt in_items forced =
+    let P : ℕ → Type 0 = λ n. n < length f.items → is_forced (seam_of f n).level ≡ true → forced_above f n < forced_above f k in
+    let last : k + (e - k - 1) + 1 ≡ e = omega arith in
+    subst P last (λ a b. let one = forced_above-one f (k + (e - k - 1)) a b in let r = forced_above-later f k (e - k - 1) in omega arith) in_items forced
+
+abbrev pub place_to : ℕ → ℕ → Place
 place_to e extent = record { level = 0; end = e ∷ []; extent = extent; overflow = false }
 
--- these items from item k on end behind item e - 1, at the end or at a forced seam
-record Ends (f : Flow) (k e : ℕ) (ss : List Step) : Type 0 where
-  place : (p : Place) → last_place p ss ≡ place_to e (last_place p ss).extent
-  later : k < e
-  inside : e ≤ length f.items
-  rest : (e ≡ length f.items) ⊎ (forced_above f e < forced_above f k)
+-- these items, of which item k is the first, end before the first forced seam above k, or before item n
+pub record EndBefore (f : Flow) (k n : ℕ) (ss : List Step) (e : ℕ) : Type 0 where
+  pub above : k < e
+  pub within : e ≤ n
+  pub unforced : (j : ℕ) → k < j → j < e → is_forced (seam_of f j).level ≡ false
+  pub forced : (e ≡ n) ⊎ (is_forced (seam_of f e).level ≡ true)
+  pub place : (p : Place) → (extent : ℕ) × (last_place p ss ≡ place_to e extent)
 
-steps-end : (inner : Inner) (d : FlowsData) (f : Flow) (s : Strip) (k : ℕ) (q : Token) (n : ℕ) → k + suc n ≡ length f.items → (e : ℕ) × Ends f k e (steps inner d f s k q (suc n))
-unfolding steps
-steps-end inner d f s k q zero is = go (is_forced (seam_of f (k + 1)).level)
+ends-here : (f : Flow) (k n : ℕ) (st : Step) → st.item ≡ k → k < n → ((k + 1 ≡ n) ⊎ (is_forced (seam_of f (k + 1)).level ≡ true)) → EndBefore f k n (st ∷ []) (k + 1)
+ends-here f k n st is lt last = record {
+  above = omega arith;
+  within = omega arith;
+  unforced = λ j a b. absurd (omega arith);
+  forced = last;
+  place = λ p. (st.need, ap (λ i. place_to (i + 1) st.need) is);
+}
+
+unforced-more : (f : Flow) (k e : ℕ) → is_forced (seam_of f (k + 1)).level ≡ false → ((j : ℕ) → k + 1 < j → j < e → is_forced (seam_of f j).level ≡ false) → (j : ℕ) → k < j → j < e → is_forced (seam_of f j).level ≡ false
+unforced-more f k e here later j a b = which (cases_order j (k + 1))
   where
-    go : (b : Bool) → (e : ℕ) × Ends f k e (step_at inner d f s k q ∷ elim b [ true ↦ [] | false ↦ [] ])
-    go true = (k + 1, record { place = λ p. refl; later = omega arith; inside = omega arith; rest = inl (omega arith) })
-    go false = (k + 1, record { place = λ p. refl; later = omega arith; inside = omega arith; rest = inl (omega arith) })
-steps-end inner d f s k q (suc n) is = go (is_forced (seam_of f (k + 1)).level) refl (steps-end inner d f (lay_all (strip_behind inner f s k q) (seam_of f (k + 1)).head) (k + 1) row_start n (omega arith))
+    which : (j ≡ k + 1) ⊎ ((j < k + 1) ⊎ (k + 1 < j)) → is_forced (seam_of f j).level ≡ false
+    which (inl same) = rw same here
+    which (inr (inl low)) = absurd (omega arith)
+    which (inr (inr high)) = later j high b
+
+ends-later : (f : Flow) (k n : ℕ) (st : Step) (ss : List Step) → is_forced (seam_of f (k + 1)).level ≡ false → ((e : ℕ) × EndBefore f (k + 1) n ss e) → (e : ℕ) × EndBefore f k n (st ∷ ss) e
+ends-later f k n st ss here (e, later) = (
+  e,
+  record {
+    above = let a = later.above in omega arith;
+    within = later.within;
+    unforced = unforced-more f k e here later.unforced;
+    forced = later.forced;
+    place = λ p. later.place _;
+  },
+)
+
+steps-end : (inner : Inner) (d : FlowsData) (f : Flow) (s : Strip) (k : ℕ) (q : Token) (m : ℕ) → (e : ℕ) × EndBefore f k (k + suc m) (steps inner d f s k q (suc m)) e
+unfolding steps
+steps-end inner d f s k q zero = (k + 1, go (is_forced (seam_of f (k + 1)).level))
+  where
+    go : (b : Bool) → EndBefore f k (k + 1) (step_at inner d f s k q ∷ elim b [ true ↦ [] | false ↦ [] ]) (k + 1)
+    go true = ends-here f k (k + 1) (step_at inner d f s k q) refl (omega arith) (inl refl)
+    go false = ends-here f k (k + 1) (step_at inner d f s k q) refl (omega arith) (inl refl)
+steps-end inner d f s k q (suc m) = go (is_forced (seam_of f (k + 1)).level) refl (steps-end inner d f (lay_all (strip_behind inner f s k q) (seam_of f (k + 1)).head) (k + 1) row_start m)
   where
     more : List Step
-    more = steps inner d f (lay_all (strip_behind inner f s k q) (seam_of f (k + 1)).head) (k + 1) row_start (suc n)
+    more = steps inner d f (lay_all (strip_behind inner f s k q) (seam_of f (k + 1)).head) (k + 1) row_start (suc m)
 
-    go : (b : Bool) → is_forced (seam_of f (k + 1)).level ≡ b → ((e : ℕ) × Ends f (k + 1) e more) → (e : ℕ) × Ends f k e (step_at inner d f s k q ∷ elim b [ true ↦ [] | false ↦ more ])
-    go true h r = let one = forced_above-one f k (omega arith) h in (k + 1, record { place = λ p. refl; later = omega arith; inside = omega arith; rest = inr (omega arith) })
-    go false h (e, r) = (e, record { place = λ p. r.place (behind (step_at inner d f s k q)); later = let l = r.later in omega arith; inside = r.inside; rest = next r.rest })
-      where
-        next : (e ≡ length f.items) ⊎ (forced_above f e < forced_above f (k + 1)) → (e ≡ length f.items) ⊎ (forced_above f e < forced_above f k)
-        next (inl x) = inl x
-        next (inr x) = let m = forced_above-falls f k in inr (omega arith)
+    same : (k + 1) + suc m ≡ k + suc (suc m)
+    same = omega arith
+
+    go : (b : Bool) → is_forced (seam_of f (k + 1)).level ≡ b → ((e : ℕ) × EndBefore f (k + 1) ((k + 1) + suc m) more e) → (e : ℕ) × EndBefore f k (k + suc (suc m)) (step_at inner d f s k q ∷ elim b [ true ↦ [] | false ↦ more ]) e
+    go true here later = (k + 1, ends-here f k (k + suc (suc m)) (step_at inner d f s k q) refl (omega arith) (inr here))
+    go false here later = ends-later f k (k + suc (suc m)) (step_at inner d f s k q) more here (rw same at later)
+
+pub steps_from-end : (inner : Inner) (d : FlowsData) (f : Flow) (t : Token) → item_number t < length f.items → (e : ℕ) × EndBefore f (item_number t) (length f.items) (steps_from inner d f t) e
+steps_from-end inner d f t lt =
+    let P : ℕ → Type 0 = λ n. (e : ℕ) × EndBefore f (item_number t) (item_number t + n) (steps inner d f (start_strip d f t) (item_number t) (within t) n) e in
+    let base : P (suc (length f.items - item_number t - 1)) = steps-end inner d f (start_strip d f t) (item_number t) (within t) (length f.items - item_number t - 1) in
+    let fuel : suc (length f.items - item_number t - 1) ≡ length f.items - item_number t = omega arith in
+    let whole : item_number t + (length f.items - item_number t) ≡ length f.items = omega arith in
+    let Q : ℕ → Type 0 = λ n. (e : ℕ) × EndBefore f (item_number t) n (steps_from inner d f t) e in
+    subst Q whole (subst P fuel base)
 
 -- ---- columns, one at a time
 
@@ -239,37 +297,32 @@ reach-later inner d f t e lt =
     let m = heights-later inner (within t) (drop i f.items) (e - i - 1) in
     rw s (omega arith)
 
-flow-steps-end : (inner : Inner) (d : FlowsData) (f : Flow) (t : Token) → item_number t < length f.items → (e : ℕ) × Ends f (item_number t) e (steps_from inner d f t)
-flow-steps-end inner d f t lt =
-    let n : length f.items - item_number t ≡ suc (length f.items - item_number t - 1) = omega arith in
-    rw n (steps-end inner d f (start_strip d f t) (item_number t) (within t) (length f.items - item_number t - 1) (omega arith))
-
-endless-ends : (inner : Inner) (d : FlowsData) (f : Flow) (t : Token) (e : ℕ) → Ends f (item_number t) e (steps_from inner d f t) →
-    endless_column inner d f t ≡ column_to (place_to e (last_place no_place (steps_from inner d f t)).extent) None [] [] (unstopped (steps_from inner d f t)).uses
+endless-ends : (inner : Inner) (d : FlowsData) (f : Flow) (t : Token) (e : ℕ) (r : EndBefore f (item_number t) (length f.items) (steps_from inner d f t) e) →
+    endless_column inner d f t ≡ column_to (place_to e (r.place no_place).0) None [] [] (unstopped (steps_from inner d f t)).uses
 unfolding endless_column
-endless-ends inner d f t e r = ap (λ p. column_to p None [] [] (unstopped (steps_from inner d f t)).uses) (r.place no_place)
+endless-ends inner d f t e r = ap (λ p. column_to p None [] [] (unstopped (steps_from inner d f t)).uses) (r.place no_place).1
 
 pub fits-at-reach : (inner : Inner) (d : FlowsData) (f : Flow) (h n : ℕ) (t : Token) → item_number t < length f.items → reach inner d f t ≤ h → forced_above f (item_number t) < n →
     reach_end f t (columns inner d f n t h) ≡ true
 fits-at-reach inner d f h zero t lt b c = absurd (omega arith)
-fits-at-reach inner d f h (suc n) t lt b c = go (λ e l x y. fits-at-reach inner d f h n (e ∷ []) l x y) (flow-steps-end inner d f t lt)
+fits-at-reach inner d f h (suc n) t lt b c = go (λ e l x y. fits-at-reach inner d f h n (e ∷ []) l x y) (steps_from-end inner d f t lt)
   where
     make : Token → Column
     make = λ q. column inner d f q h
 
     go : ((e : ℕ) → e < length f.items → reach inner d f (e ∷ []) ≤ h → forced_above f e < n → reach_end f (e ∷ []) (columns inner d f n (e ∷ []) h) ≡ true) →
-        ((e : ℕ) × Ends f (item_number t) e (steps_from inner d f t)) → reach_end f t (columns inner d f (suc n) t h) ≡ true
+        ((e : ℕ) × EndBefore f (item_number t) (length f.items) (steps_from inner d f t) e) → reach_end f t (columns inner d f (suc n) t h) ≡ true
     go again (e, r) =
-        reach_end-step (λ q. column inner d f q h) f n t (column_to (place_to e (last_place no_place (steps_from inner d f t)).extent) None [] [] (unstopped (steps_from inner d f t)).uses)
+        reach_end-step (λ q. column inner d f q h) f n t (column_to (place_to e (r.place no_place).0) None [] [] (unstopped (steps_from inner d f t)).uses)
         (reach-endless inner d f t h b ∙ endless-ends inner d f t e r) (grind (arith, nat_tests)) refl (next (cases_lt e (length f.items)))
       where
         next : (e < length f.items) ⊎ (length f.items ≤ e) → reach_end f (e ∷ []) (columns inner d f n (e ∷ []) h) ≡ true
         next (inr x) = reach_end-past (λ q. column inner d f q h) f n (e ∷ []) (grind (arith, nat_tests))
-        next (inl x) = again e x (let m = reach-later inner d f t e r.later in omega arith) (fewer r.rest)
+        next (inl x) = again e x (let m = reach-later inner d f t e r.above in omega arith) (fewer r.forced)
           where
-            fewer : (e ≡ length f.items) ⊎ (forced_above f e < forced_above f (item_number t)) → forced_above f e < n
+            fewer : (e ≡ length f.items) ⊎ (is_forced (seam_of f e).level ≡ true) → forced_above f e < n
             fewer (inl y) = absurd (omega arith)
-            fewer (inr y) = omega arith
+            fewer (inr y) = let m = forced_above-fewer f (item_number t) e r.above x y in omega arith
 
 -- the size of a row from a place before its end is the least height that fits
 pub size-is : (inner : Inner) (d : FlowsData) (r : ℕ) (q : Token) → item_number q < length (flow_in d r).items → IsLeast (fits inner d r q) (size_in inner d r q)
@@ -293,13 +346,13 @@ columns-endless inner d f h (suc n) t b = go (λ e x. columns-endless inner d f 
     go : ((e : ℕ) → reach inner d f (e ∷ []) ≤ h → columns_by (λ q. endless_column inner d f q) f n (e ∷ []) ≡ columns_by (λ q. column inner d f q h) f n (e ∷ [])) →
         (item_number t < length f.items) ⊎ (length f.items ≤ item_number t) → columns_by (λ q. endless_column inner d f q) f (suc n) t ≡ columns_by (λ q. column inner d f q h) f (suc n) t
     go again (inr x) = let e : is_end f t ≡ true = grind (arith, nat_tests) in columns_by-past (λ q. endless_column inner d f q) f (suc n) t e ∙ sym (columns_by-past (λ q. column inner d f q h) f (suc n) t e)
-    go again (inl x) = next (flow-steps-end inner d f t x)
+    go again (inl x) = next (steps_from-end inner d f t x)
       where
-        next : ((e : ℕ) × Ends f (item_number t) e (steps_from inner d f t)) → columns_by (λ q. endless_column inner d f q) f (suc n) t ≡ columns_by (λ q. column inner d f q h) f (suc n) t
+        next : ((e : ℕ) × EndBefore f (item_number t) (length f.items) (steps_from inner d f t) e) → columns_by (λ q. endless_column inner d f q) f (suc n) t ≡ columns_by (λ q. column inner d f q h) f (suc n) t
         next (e, r) =
             let i : (endless_column inner d f t).end ≡ e ∷ [] = ap (λ (c : Column). c.end) (endless-ends inner d f t e r) in
             columns_by-same (λ q. endless_column inner d f q) (λ q. column inner d f q h) f n t (grind (arith, nat_tests)) (sym (reach-endless inner d f t h b))
-            (rw i (again e (let m = reach-later inner d f t e r.later in omega arith)))
+            (rw i (again e (let m = reach-later inner d f t e r.above in omega arith)))
 
 -- ---- the size of each row
 
@@ -318,7 +371,7 @@ unfolding size_in
 size-reach inner d r q = let l = least-le (fits inner d r q) (reach inner d (flow_in d r) q) 0 in omega arith
 
 -- at the end each height fits
-fits-past : (inner : Inner) (d : FlowsData) (r h : ℕ) (q : Token) → length (flow_in d r).items ≤ item_number q → fits inner d r q h ≡ true
+pub fits-past : (inner : Inner) (d : FlowsData) (r h : ℕ) (q : Token) → length (flow_in d r).items ≤ item_number q → fits inner d r q h ≡ true
 unfolding fits
 fits-past inner d r h q le = reach_end-past (λ t. column inner d (flow_in d r) t h) (flow_in d r) (most_columns (row_of d r).n (flow_in d r) q) q (grind (arith, nat_tests))
 

@@ -1,0 +1,25 @@
+-- Places in a flow before its end, and its end.
+use Rattle.std.proofs.Common.{◌≡◌, ℕ, zero, suc, ◌<◌, true, false, List, [], ◌∷◌, length, drop, sym, subst, arith}
+use Rattle.std.proofs.lemmas.Bool.Decides.{nat_tests}
+use Rattle.flow_data.specs.declared.data.Flow.{Flow}
+use Rattle.flow_data.specs.declared.data.FlowsData.{FlowsData}
+use Rattle.flow_data.specs.declared.data.Item.{Item}
+use Rattle.flow_list.specs.Tokens.{Token, item_number, is_end}
+use Rattle.flow_laws.specs.Progress.{IsPlaceBefore}
+
+pub in-items : (d : FlowsData) (f : Flow) (t : Token) → IsPlaceBefore d f t → item_number t < length f.items
+in-items d f [] place = absurd place
+in-items d f (i ∷ []) place = place
+in-items d f (i ∷ (j ∷ rest)) place = place.0
+
+pub before-end : (d : FlowsData) (f : Flow) (t : Token) → IsPlaceBefore d f t → is_end f t ≡ false
+before-end d f t place = let lt = in-items d f t place in grind (arith, nat_tests)
+
+pub at-end : (f : Flow) (t : Token) → t ≡ length f.items ∷ [] → is_end f t ≡ true
+at-end f t e = let P : Token → Type 0 = λ t. is_end f t ≡ true in subst P (sym e) (grind (arith, nat_tests))
+
+-- items are left from an item on
+pub some-left : (n : ℕ) (items : List Item) → n < length items → 0 < length (drop n items)
+some-left n [] lt = absurd (omega arith)
+some-left zero (item ∷ items) lt = omega arith
+some-left (suc n) (item ∷ items) lt = some-left n items (omega arith)
