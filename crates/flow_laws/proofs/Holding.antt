@@ -13,14 +13,16 @@ use Rattle.flow_data.specs.Flows.{row_of, flow_in, item_of}
 use Rattle.flow_data.specs.Soundness.{IsSound}
 use Rattle.flow_list.specs.Tokens.{Token, row_start, item_number, within}
 use Rattle.flow_list.specs.Column.{Column}
-use Rattle.flow_list.specs.Rows.{columns_by, end_of, rows_to, all_rows}
+use Rattle.flow_list.specs.Rows.{end_of, rows_to, all_rows}
 use Rattle.flow_list.specs.RowHeights.{column_within, row_columns}
 use Rattle.flow_list.specs.Fragments.{column_made, column_fragment, fragments_from, row_fragments}
-use Rattle.flow_laws.specs.Progress.{IsPlaceBefore, AtomAt, contents_to, atoms_from, atoms_between}
+use Rattle.flow_laws.specs.Progress.{first_columns, IsPlaceBefore, AtomAt, contents_to, atoms_from, atoms_between}
 use Rattle.flow_laws.specs.Holding.{atoms_in_tree, atoms_in_trees, Part, parts_in_tree, items_before, parts_between, row_of_part, FragmentsHoldEachItem}
+use Rattle.flow_laws.proofs.Places.{in-items}
 use Rattle.flow_laws.proofs.HoldingEnds.{taken}
-use Rattle.flow_laws.proofs.HoldingColumns.{in-items, RowHolds, ItemHolds, holds-at, place-at, column-holds}
+use Rattle.flow_laws.proofs.HoldingColumns.{RowHolds, ItemHolds, holds-at, place-at, column-holds}
 use Rattle.flow_laws.proofs.HoldingRows.{IsReached, RowsHold, rows-hold, columns-hold, all-hold}
+use Rattle.flow_laws.proofs.HoldingOnce.{atoms-differ}
 use Rattle.flow_laws.proofs.HoldingParts.{column-parts, rows-apart}
 
 made-within : (d : FlowsData) (f : Flow) (h : Option ℕ) (t : Token) → column_made (all_rows d) d f h t ≡ column_within d f h t
@@ -53,8 +55,8 @@ module _ (d : FlowsData) (sound : IsSound d) (r : ℕ) (lt : r < length d.rows) 
           sym (ap (λ k. take k (atoms_from d r t)) n ∙ ap (take (length held)) (sym e) ∙ take-append_seam held (atoms_from d r u))
 
   columns-atoms : (n : ℕ) (t : Token) (h : Option ℕ) → IsPlaceBefore d (flow_in d r) t →
-      atoms_in_trees r (plain_trees (fragments_from (column_fragment d r h) t (columns_by (column_within d (flow_in d r) h) (flow_in d r) n t)))
-      ++ atoms_from d r (end_of t (columns_by (column_within d (flow_in d r) h) (flow_in d r) n t)) ≡ atoms_from d r t
+      atoms_in_trees r (plain_trees (fragments_from (column_fragment d r h) t (first_columns d r n t h)))
+      ++ atoms_from d r (end_of t (first_columns d r n t h)) ≡ atoms_from d r t
   unfolding column_fragment all_rows atoms_from contents_to
   columns-atoms n t None place = columns-hold d (rows_to d (length d.rows)) (contents_to d (length d.rows)) (row_fragments d (length d.rows)) r (flow_in d r) rows-here None (row_of d r).flow n t (inr place)
   columns-atoms n t (Some h) place = columns-hold d (rows_to d (length d.rows)) (contents_to d (length d.rows)) (row_fragments d (length d.rows)) r (flow_in d r) rows-here (Some h) (row_of d r).flow n t (inr place)
@@ -103,6 +105,7 @@ fragments-hold d sound r lt = record {
   columns_atoms = columns-atoms d sound r lt;
   all_atoms = all-atoms d sound r lt;
   row_atoms = row-atoms d sound r lt;
+  atoms_differ = atoms-differ d sound r lt;
   column_parts = parts-are d sound r lt;
   rows_once = rows-once d sound r lt;
 }

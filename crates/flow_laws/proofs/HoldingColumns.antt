@@ -17,14 +17,10 @@ use Rattle.flow_list.specs.Placing.{RowLaid}
 use Rattle.flow_list.specs.Fragments.{continuing, laid_start, laid_to, stop_of, column_made, fragment_of}
 use Rattle.flow_laws.specs.Progress.{IsPlaceBefore, AtomAt, Contents, item_atoms, atoms_of_items, atoms_in}
 use Rattle.flow_laws.specs.Holding.{atoms_in_tree, atoms_in_trees}
+use Rattle.flow_laws.proofs.Places.{in-items}
 use Rattle.flow_laws.proofs.HoldingTrees.{Reads, column-reads}
 use Rattle.flow_laws.proofs.HoldingEnds.{taken_at, taken-start, taken, EndsAtSeam, EndsInRow, EndsFor, column-ends}
 use Rattle.flow_laws.proofs.HoldingLaid.{of_item, of_items, counted, items_to, seam-laid, row-laid}
-
-pub in-items : (d : FlowsData) (f : Flow) (t : Token) → IsPlaceBefore d f t → item_number t < length f.items
-in-items d f [] place = absurd place
-in-items d f (i ∷ []) place = place
-in-items d f (i ∷ (j ∷ rest)) place = place.0
 
 pub none-left : (c : Contents) (r : ℕ) (f : Flow) (t : Token) → is_end f t ≡ true → atoms_in c r f t ≡ []
 none-left c r f t e = rw (drop_all (item_number t) f.items (grind (arith, nat_tests))) refl

@@ -14,13 +14,13 @@ use Rattle.flow_data.specs.declared.data.FlowsData.{FlowsData}
 use Rattle.flow_data.specs.declared.data.Item.{Item}
 use Rattle.flow_data.specs.declared.data.Item.TheVariants.{Atom, Row}
 use Rattle.flow_data.specs.Flows.{row_of, flow_in, item_of, no_item, no_row, no_flow, row_in, rows_in}
-use Rattle.flow_data.specs.Soundness.{IsSound, IsSoundRow, IsSoundFlow, IsSoundItem, count_of}
+use Rattle.flow_data.specs.Soundness.{IsSound, IsSoundFlow, IsSoundItem, count_of}
 use Rattle.flow_list.specs.Tokens.{Token, row_start, item_number, within}
 use Rattle.flow_list.specs.Column.{Inner, Step, room}
 use Rattle.flow_list.specs.Placing.{RowLaid}
 use Rattle.flow_list.specs.Fragments.{continuing, laid_start, laid_to, stop_of, column_made, fragment_of}
 use Rattle.flow_laws.specs.Holding.{Part, atom_part, row_part, parts_in_tree, parts_in_trees, part_of, parts_of, items_before, parts_between, row_of_part}
-use Rattle.flow_laws.proofs.RowsAdvance.{rows-in-range}
+use Rattle.flow_laws.proofs.SoundRows.{rows-in-range}
 use Rattle.flow_laws.proofs.Totals.{sum-flat, count-cons}
 use Rattle.flow_laws.proofs.HoldingTrees.{Reads, column-reads}
 use Rattle.flow_laws.proofs.HoldingEnds.{taken_at, taken-start, taken, EndsAtSeam, EndsInRow, EndsFor, column-ends}
@@ -136,20 +136,31 @@ none-of n (m ∷ xs) none = both (differs (m == n) refl) (none-of n xs (omega (a
     both first rest zero e lt = first
     both first rest (suc k) e lt = rest k e (omega arith)
 
+pub count-own : (n : ℕ) (xs : List ℕ) → count_of n (n ∷ xs) ≡ 1 + count_of n xs
+count-own n xs = let yes : (n == n) ≡ true = grind (arith, nat_tests) in count-cons n n xs ∙ ap (λ b. cond b 1 0 + count_of n xs) yes
+
 distinct-once : (high : ℕ) (xs : List ℕ) → All (λ n. n < high) xs → ((n : ℕ) → n < high → count_of n xs ≤ 1) → AllPairs (λ a b. a ≢ b) xs
 distinct-once high [] known few = λ i j e lt in_list. absurd (omega arith)
 distinct-once high (x ∷ xs) known few =
     let x_known : x < high = known 0 x (omega arith) in
-    let yes : (x == x) ≡ true = grind (arith, nat_tests) in
-    let one : count_of x (x ∷ xs) ≡ 1 + count_of x xs = count-cons x x xs ∙ ap (λ b. cond b 1 0 + count_of x xs) yes in
+    let one = count-own x xs in
     let at_most = few x x_known in
     AllPairs-cons (λ a b. a ≢ b) x xs (none-of x xs (omega arith)) (distinct-once high xs (λ k e lt. known (suc k) e (omega arith)) (λ n lt. let a = few n lt in let b = count-cons n x xs in omega arith))
 
 -- items of a list have no more rows than all
-split-count : (m n : ℕ) (items : List Item) → count_of m (flat_map row_in (take n items)) + count_of m (flat_map row_in (drop n items)) ≡ count_of m (flat_map row_in items)
+pub split-count : (m n : ℕ) (items : List Item) → count_of m (flat_map row_in (take n items)) + count_of m (flat_map row_in (drop n items)) ≡ count_of m (flat_map row_in items)
 split-count m n items =
     sym (sum_by-append (λ k. cond (k == m) 1 0) (flat_map row_in (take n items)) (flat_map row_in (drop n items)))
     ∙ ap (count_of m) (sym (flat_map-append row_in (take n items) (drop n items))) ∙ ap (λ xs. count_of m (flat_map row_in xs)) (take-append-drop n items)
+
+-- in sound flows a row stands once at most in a row's flow
+pub once-in-row : (d : FlowsData) → IsSound d → (r : ℕ) → r < length d.rows → (m : ℕ) → m < length d.rows → count_of m (rows_in (flow_in d r)) ≤ 1
+once-in-row d sound r lt m known =
+    let row = sound.rows r no_row lt in
+    let belongs = sound.row_belongs m known in
+    let in_all : count_of m (rows_in (flow_in d r)) ≤ sum_by (λ f. count_of m (rows_in f)) d.flows = get_or-le-sum_by (λ f. count_of m (rows_in f)) d.flows (row_of d r).flow no_flow row.flow in
+    let all = sum-flat (λ k. cond (k == m) 1 0) rows_in d.flows in
+    omega arith
 
 -- In sound flows no row is twice among items of a row's flow.
 pub rows-apart : (d : FlowsData) → IsSound d → (r : ℕ) → r < length d.rows → (k i n : ℕ) (q : Token) → AllPairs (λ a b. a ≢ b) (flat_map row_of_part (parts_of k q (take n (drop i (flow_in d r).items))))
@@ -158,17 +169,12 @@ rows-apart d sound r lt k i n q =
     (distinct-once (length d.rows) (flat_map row_in (take n (drop i (flow_in d r).items)))
     (rows-in-range d (take n (drop i (flow_in d r).items)) (All-take (IsSoundItem d) n (drop i (flow_in d r).items) (All-drop (IsSoundItem d) i (flow_in d r).items flow.items))) once)
   where
-    row : IsSoundRow d (row_of d r)
-    row = sound.rows r no_row lt
-
     flow : IsSoundFlow d (flow_in d r)
-    flow = sound.flows (row_of d r).flow no_flow row.flow
+    flow = sound.flows (row_of d r).flow no_flow (sound.rows r no_row lt).flow
 
     once : (m : ℕ) → m < length d.rows → count_of m (flat_map row_in (take n (drop i (flow_in d r).items))) ≤ 1
     once m known =
-        let belongs = sound.row_belongs m known in
-        let in_all : count_of m (rows_in (flow_in d r)) ≤ sum_by (λ f. count_of m (rows_in f)) d.flows = get_or-le-sum_by (λ f. count_of m (rows_in f)) d.flows (row_of d r).flow no_flow row.flow in
-        let all = sum-flat (λ k. cond (k == m) 1 0) rows_in d.flows in
+        let all = once-in-row d sound r lt m known in
         let a = split-count m i (flow_in d r).items in
         let b = split-count m n (drop i (flow_in d r).items) in
         omega arith

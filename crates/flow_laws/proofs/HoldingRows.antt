@@ -2,7 +2,6 @@
 use Rattle.std.proofs.Common.{◌≡◌, ℕ, zero, suc, ◌+◌, ◌<◌, ◌≤◌, Bool, true, false, List, [], ◌∷◌, ◌++◌, length, get_or, Option, Some, refl, sym, subst, ◌∙◌, ap, arith, append_assoc, ◌⊎◌, inl, inr}
 use Rattle.std.specs.Prelude.{All}
 use Rattle.std.specs.List.{AllByRecursion as Each, flat_map}
-use Rattle.std.proofs.lemmas.Bool.Decides.{nat_tests}
 use Rattle.std.proofs.lemmas.List.{append-nil, drop_more}
 use Rattle.mc_base.specs.PlainTree.{PlainTree, plain_trees}
 use Rattle.flow_data.specs.declared.data.Flow.{Flow}
@@ -18,8 +17,9 @@ use Rattle.flow_list.specs.Placing.{RowLaid}
 use Rattle.flow_list.specs.Fragments.{column_made, fragment_of, fragments_from, row_fragments}
 use Rattle.flow_laws.specs.Progress.{IsPlaceBefore, Contents, atoms_in, contents_to}
 use Rattle.flow_laws.specs.Holding.{atoms_in_tree, atoms_in_trees}
-use Rattle.flow_laws.proofs.RowsAdvance.{good-rows}
-use Rattle.flow_laws.proofs.HoldingColumns.{in-items, none-left, item-some, RowHolds, ItemHolds, column-holds, column-reached, column-fewer}
+use Rattle.flow_laws.proofs.Places.{in-items, before-end}
+use Rattle.flow_laws.proofs.SoundRows.{good-rows}
+use Rattle.flow_laws.proofs.HoldingColumns.{none-left, item-some, RowHolds, ItemHolds, column-holds, column-reached, column-fewer}
 
 -- the end, or a place before it
 abbrev pub IsReached : FlowsData → Flow → Token → Type 0
@@ -121,9 +121,6 @@ module _ (d : FlowsData) (x : Inner) (c : Contents) (columns : RowLaid → List 
 
 -- ---- rows within rows
 
-not-end : (d : FlowsData) (f : Flow) (t : Token) → IsPlaceBefore d f t → is_end f t ≡ false
-not-end d f t place = let lt = in-items d f t place in grind (arith, nat_tests)
-
 -- all rows in this flow hold their atoms, where at most m rows stand one inside another
 abbrev pub RowsHold : FlowsData → ℕ → Flow → Type 0
 RowsHold d m f = Each (ItemHolds d (rows_to d m) (contents_to d m) (row_fragments d m)) f.items
@@ -136,7 +133,7 @@ row-holds d m s some columns holds = record {
   part = λ q a place. columns-hold d (rows_to d m) (contents_to d m) (row_fragments d m) s (flow_in d s) holds (Some a) (row_of d s).flow (row_of d s).n q (inr place);
   none = λ q a place e. none-left (contents_to d m) s (flow_in d s) (end_of q (columns_from d (rows_to d m) (contents_to d m) (row_fragments d m) s (flow_in d s) holds (Some a) (row_of d s).n q)) e;
   place = λ q a place e. before d (flow_in d s) (end_of q (columns_from d (rows_to d m) (contents_to d m) (row_fragments d m) s (flow_in d s) holds (Some a) (row_of d s).n q)) (columns-reached d (rows_to d m) (contents_to d m) (row_fragments d m) s (flow_in d s) holds (Some a) (row_of d s).n q (inr place)) e;
-  fewer = λ q a place e. some-fewer d (rows_to d m) (contents_to d m) (row_fragments d m) s (flow_in d s) holds (Some a) (row_of d s).n q columns place (not-end d (flow_in d s) q place);
+  fewer = λ q a place e. some-fewer d (rows_to d m) (contents_to d m) (row_fragments d m) s (flow_in d s) holds (Some a) (row_of d s).n q columns place (before-end d (flow_in d s) q place);
 }
 
 items-hold : (d : FlowsData) (m : ℕ) (P : ℕ → Type 0) → ((s : ℕ) → P s → RowHolds d (rows_to d m) (contents_to d m) (row_fragments d m) s) → (items : List Item) → All P (flat_map row_in items) →
@@ -147,12 +144,12 @@ items-hold d m P made (Row s ∷ items) all = (made s (all 0 s (omega arith)), i
 
 module _ (d : FlowsData) (sound : IsSound d) where
   -- a row of the data that has items, and stands in an earlier row
-  record IsWithin (outer s : ℕ) : Type 0 where
-    known : s < length d.rows
-    some : 0 < length (flow_in d s).items
-    later : outer < s
+  pub record IsWithin (outer s : ℕ) : Type 0 where
+    pub known : s < length d.rows
+    pub some : 0 < length (flow_in d s).items
+    pub later : outer < s
 
-  rows-within : (r : ℕ) → r < length d.rows → All (IsWithin r) (rows_in (flow_in d r))
+  pub rows-within : (r : ℕ) → r < length d.rows → All (IsWithin r) (rows_in (flow_in d r))
   rows-within r lt =
       let good = good-rows d sound r lt in
       λ k e in_rows. record { known = (good k e in_rows).0; some = (good k e in_rows).1; later = (sound.inner_rows r lt k e in_rows).later }

@@ -10,6 +10,7 @@ mod Holding
 mod HoldingColumns
 mod HoldingEnds
 mod HoldingLaid
+mod HoldingOnce
 mod HoldingParts
 mod HoldingRows
 mod HoldingStacks

@@ -8,10 +8,10 @@ use Rattle.flow_data.specs.declared.data.Item.{Item}
 use Rattle.flow_data.specs.declared.data.Item.TheVariants.{Atom, Row}
 use Rattle.flow_data.specs.Flows.{flow_of, flow_in, stack_of}
 use Rattle.flow_list.specs.Tokens.{Token, row_start, item_number, within}
-use Rattle.flow_list.specs.Rows.{columns_by, end_of}
+use Rattle.flow_list.specs.Rows.{end_of}
 use Rattle.flow_list.specs.RowHeights.{column_within, row_columns}
 use Rattle.flow_list.specs.Fragments.{column_fragment, fragments_from, row_fragments, stack_fragment}
-use Rattle.flow_laws.specs.Progress.{IsPlaceBefore, AtomAt, atoms_from, atoms_between}
+use Rattle.flow_laws.specs.Progress.{IsPlaceBefore, AtomAt, atoms_from, atoms_between, first_columns}
 
 -- ---- atoms, with those in rows within rows
 
@@ -81,19 +81,20 @@ pub record FragmentsHoldEachItem (d : FlowsData) (r : ℕ) : Type 0 where
       atoms_in_tree r (column_fragment d r h t) ≡ atoms_between d r t (column_within d (flow_in d r) h t).end
   -- so do the trees of any number of columns, each of which begins where the one before it ends
   pub columns_atoms : (n : ℕ) (t : Token) (h : Option ℕ) → IsPlaceBefore d (flow_in d r) t →
-      let columns = columns_by (column_within d (flow_in d r) h) (flow_in d r) n t in
-      atoms_in_trees r (plain_trees (fragments_from (column_fragment d r h) t columns)) ++ atoms_from d r (end_of t columns) ≡ atoms_from d r t
+      atoms_in_trees r (plain_trees (fragments_from (column_fragment d r h) t (first_columns d r n t h))) ++ atoms_from d r (end_of t (first_columns d r n t h)) ≡ atoms_from d r t
   -- the trees of all columns from the flow's start hold each of its atoms once, in order
   pub all_atoms : (h : Option ℕ) → atoms_in_trees r (plain_trees (fragments_from (column_fragment d r h) row_start (row_columns d r h))) ≡ atoms_from d r row_start
   -- so do the columns of a row that stands whole, at any height
   pub row_atoms : (height : ℕ) (h : Option ℕ) →
       atoms_in_trees r (plain_trees (row_fragments d (suc (length d.rows)) (record { row = r; from = row_start; height = height; made_at = h; filled = false }))) ≡ atoms_from d r row_start
+  -- no two atoms of a row, from a place on, are one
+  pub atoms_differ : (t : Token) → AllPairs (λ a b. a ≢ b) (atoms_from d r t)
   -- the items in a column's tree are those from its place to its end, each once and in order, a row that is cut with them
   pub column_parts : (t : Token) (h : Option ℕ) → IsPlaceBefore d (flow_in d r) t →
       parts_in_tree (column_fragment d r h t) ≡ parts_between (flow_in d r) t (column_within d (flow_in d r) h t).end
-  -- no row stands in a column's tree twice
+  -- no row is there twice
   pub rows_once : (t : Token) (h : Option ℕ) → IsPlaceBefore d (flow_in d r) t → AllPairs (λ a b. a ≢ b) (flat_map row_of_part (parts_in_tree (column_fragment d r h t)))
 
--- The tree of a stack holds each item of its flow once, in order, each row whole.
+-- The tree of a stack holds each item of its flow once, in order, and each row from its start.
 abbrev pub StackHoldsEachItem : FlowsData → ℕ → Type 0
 StackHoldsEachItem d s = parts_in_tree (stack_fragment d s) ≡ parts_of 0 row_start (flow_of d (stack_of d s).flow).items

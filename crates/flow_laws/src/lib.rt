@@ -47,8 +47,8 @@ pub fn columns_advance()
 
 /// In sound flows the tree of a column holds just the atoms from the column's place to its end, each once and in order, also those in inner
 /// rows that are cut. So the trees of columns hold the atoms up to the place where the last one ends, and those of all columns of a row all
-/// of its atoms. The items in the tree of a column are those from its place to its end, a row that is cut with them, and no row stands in
-/// it twice; those in the tree of a stack are all items of its flow.
+/// of its atoms; no two of these are one. The items in the tree of a column are those from its place to its end, a row that is cut with
+/// them, and no row stands in it twice; those in the tree of a stack are all items of its flow.
 pub fn fragments_hold_each_item()
     ensures columns { (d : FlowsData) → IsSound d → (r : ℕ) → r < length d.rows → FragmentsHoldEachItem d r }
     ensures stacks { (d : FlowsData) (s : ℕ) → StackHoldsEachItem d s }
