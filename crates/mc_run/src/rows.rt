@@ -87,3 +87,6 @@ pub fn rows_result(alloc: Global, bytes: &[u8]) -> Result<Text, Refusal>
         }),
     }
 }
+
+#[cfg(test)]
+mod tests;

@@ -17,14 +17,16 @@ fn text(alloc: Global, bytes: &[u8]) -> Result<Text, AllocError> {
     Ok(Text::of(bytes.to_vec(alloc)?))
 }
 
-/// Runs these words, separated by spaces, where `flow.txt` holds these bytes and these calls of the sinks fail.
-fn run_over(
-    alloc: Global,
-    words: &str,
-    flow: &[u8],
-    out_fail: SinkFail,
-    err_fail: SinkFail,
-) -> Result<Seen, Fail> {
+/// The calls that fail: the number of a read, from 1, and a call of each sink.
+#[derive(Clone, Copy)]
+struct Faults {
+    read: u64,
+    out: SinkFail,
+    err: SinkFail,
+}
+
+/// Runs these words, separated by spaces, where `flow.txt` holds these bytes and these calls fail.
+fn run_over(alloc: Global, words: &str, flow: &[u8], faults: Faults) -> Result<Seen, Fail> {
     let mut all = Vec::new(alloc);
     for word in words.split(' ') {
         all.push(String::from_str(alloc, word)?)?;
@@ -34,9 +36,9 @@ fn run_over(
         name: text(alloc, b"flow.txt")?,
         bytes: text(alloc, flow)?,
     })?;
-    let mut files = MemoryFiles::new(alloc, held, List::new(alloc));
-    let mut out = MemorySink::new(alloc, 1000, List::of(vec![in alloc; out_fail]?))?;
-    let mut err = MemorySink::new(alloc, 1000, List::of(vec![in alloc; err_fail]?))?;
+    let mut files = MemoryFiles::new(alloc, held, List::of(vec![in alloc; faults.read]?));
+    let mut out = MemorySink::new(alloc, 1000, List::of(vec![in alloc; faults.out]?))?;
+    let mut err = MemorySink::new(alloc, 1000, List::of(vec![in alloc; faults.err]?))?;
     let status = run(alloc, all.as_slice(), &mut files, &mut out, &mut err);
     Ok(Seen {
         status,
@@ -46,6 +48,12 @@ fn run_over(
 }
 
 const NEVER: SinkFail = SinkFail { call: 0, takes: 0 };
+
+const CALM: Faults = Faults {
+    read: 0,
+    out: NEVER,
+    err: NEVER,
+};
 
 const SIX: &str =
     "flow 1\nrow 3 100 110 - balance\na 20\n| 0\na 20\n| 0\na 20\n| 0\na 20\n| 0\na 20\n| 0\na 20\nend\n";
@@ -77,9 +85,20 @@ fn plain_flow_files_get_their_trees(rt: HostRuntime) -> Result<(), Fail> {
 3 atom 1 0 40 100 40\n2 col 1 110 0 100 100\n3 atom 2 110 0 100 40\n3 atom 3 110 40 100 40\n2 col 2 220 0 100 100\n\
 3 atom 4 220 0 100 40\n3 atom 5 220 40 100 40\n2 col 3 330 0 100 100\n3 atom 6 330 0 100 40\nend\n",
         ),
+        // as many columns as a row may have
+        (
+            "flow 1\nrow 32 100 110 - balance\nend\n",
+            "mcol 1\n0 stack 0 0 0 3510 0\n1 row 0 0 0 0 3510 0\nend\n",
+        ),
+        // the greatest length
+        (
+            "flow 1\nrow 2 100 110 - balance\na 16777216\nend\n",
+            "mcol 1\n0 stack 0 0 0 210 16777216\n1 row 0 0 0 0 210 16777216\n2 col 0 0 0 100 16777216\n\
+3 atom 0 0 0 100 16777216\nend\n",
+        ),
     ];
     for (flow, result) in cases {
-        let seen = run_over(rt.alloc(), "rows flow.txt", flow.as_bytes(), NEVER, NEVER)?;
+        let seen = run_over(rt.alloc(), "rows flow.txt", flow.as_bytes(), CALM)?;
         assert_eq!(rt; seen.status, 0, "{flow}");
         assert_eq!(rt; seen.out.as_slice(), result.as_bytes(), "{flow}");
         assert_eq!(rt; seen.err.len(), 0, "{flow}");
@@ -158,7 +177,7 @@ fn rows_of_atoms_get_their_trees(rt: HostRuntime) -> Result<(), Fail> {
         ),
     ];
     for (flow, result) in cases {
-        let seen = run_over(rt.alloc(), "rows flow.txt", flow.as_bytes(), NEVER, NEVER)?;
+        let seen = run_over(rt.alloc(), "rows flow.txt", flow.as_bytes(), CALM)?;
         assert_eq!(rt; seen.status, 0, "{flow}");
         assert_eq!(rt; seen.out.as_slice(), result.as_bytes(), "{flow}");
     }
@@ -240,6 +259,12 @@ fn flow_files_are_refused_for_their_first_fault_or_limit(rt: HostRuntime) -> Res
             6,
             "limit: nest 4 3\n",
         ),
+        // as many rows one inside another as there may be
+        (
+            "flow 1\nrow 2 100 110 - balance\nrow 2 45 55 0\nrow 2 20 25 0\na 10\nend\nend\nend\n",
+            5,
+            "construct: flow 0 unbuilt\n",
+        ),
         (
             "flow 1\nrow 2 100 110 - balance\nrow 2 45 55 0\na 10\nend\nend\n",
             5,
@@ -247,7 +272,7 @@ fn flow_files_are_refused_for_their_first_fault_or_limit(rt: HostRuntime) -> Res
         ),
     ];
     for (flow, status, line) in cases {
-        let seen = run_over(rt.alloc(), "rows flow.txt", flow.as_bytes(), NEVER, NEVER)?;
+        let seen = run_over(rt.alloc(), "rows flow.txt", flow.as_bytes(), CALM)?;
         assert_eq!(rt; seen.status, status, "{flow}");
         assert_eq!(rt; seen.out.len(), 0, "{flow}");
         assert_eq!(rt; seen.err.as_slice(), line.as_bytes(), "{flow}");
@@ -266,13 +291,17 @@ fn refusals_tell_their_cause(rt: HostRuntime) -> Result<(), Fail> {
         ("rows ", SIX, 1, USAGE),
     ];
     for (words, flow, status, line) in cases {
-        let seen = run_over(rt.alloc(), words, flow.as_bytes(), NEVER, NEVER)?;
+        let seen = run_over(rt.alloc(), words, flow.as_bytes(), CALM)?;
         assert_eq!(rt; seen.status, status, "{words}");
         assert_eq!(rt; seen.out.len(), 0, "{words}");
         assert_eq!(rt; seen.err.as_slice(), line.as_bytes(), "{words}");
     }
+    let full = vec![in rt.alloc(); b'a'; 4_194_304]?;
+    let seen = run_over(rt.alloc(), "rows flow.txt", full.as_slice(), CALM)?;
+    assert_eq!(rt; seen.status, 4);
+    assert_eq!(rt; seen.err.as_slice(), b"grammar: flow 0 w2\n".as_slice());
     let long = vec![in rt.alloc(); b'a'; 4_194_305]?;
-    let seen = run_over(rt.alloc(), "rows flow.txt", long.as_slice(), NEVER, NEVER)?;
+    let seen = run_over(rt.alloc(), "rows flow.txt", long.as_slice(), CALM)?;
     assert_eq!(rt; seen.status, 6);
     assert_eq!(rt;
         seen.err.as_slice(),
@@ -282,22 +311,47 @@ fn refusals_tell_their_cause(rt: HostRuntime) -> Result<(), Fail> {
 }
 
 #[test]
+fn a_fault_of_a_read_stops_before_the_result(rt: HostRuntime) -> Result<(), Fail> {
+    let faults = Faults { read: 1, ..CALM };
+    let seen = run_over(rt.alloc(), "rows flow.txt", SIX.as_bytes(), faults)?;
+    assert_eq!(rt; seen.status, 2);
+    assert_eq!(rt; seen.out.len(), 0);
+    assert_eq!(rt; seen.err.as_slice(), b"read: flow\n".as_slice());
+    Ok(())
+}
+
+#[test]
 fn failing_sinks_got_a_first_part(rt: HostRuntime) -> Result<(), Fail> {
-    for takes in [0u64, 1, 299] {
-        let fail = SinkFail { call: 1, takes };
-        let seen = run_over(rt.alloc(), "rows flow.txt", SIX.as_bytes(), fail, NEVER)?;
-        let most = (takes as usize).min(SIX_RESULT.len());
+    for takes in [0, 1, SIX_RESULT.len() - 1] {
+        let out = SinkFail {
+            call: 1,
+            takes: takes as u64,
+        };
+        let faults = Faults { out, ..CALM };
+        let seen = run_over(rt.alloc(), "rows flow.txt", SIX.as_bytes(), faults)?;
         assert_eq!(rt; seen.status, 3, "{takes}");
-        assert_eq!(rt;
-            seen.out.as_slice(),
-            SIX_RESULT.as_bytes().split_at(most).0,
+        assert_eq!(rt; seen.out.len(), takes);
+        assert!(rt;
+            SIX_RESULT.as_bytes().starts_with(seen.out.as_slice()),
             "{takes}"
         );
         assert_eq!(rt; seen.err.as_slice(), b"write\n".as_slice(), "{takes}");
     }
-    let fail = SinkFail { call: 1, takes: 2 };
-    let seen = run_over(rt.alloc(), "frobnicate", b"", NEVER, fail)?;
+    let err = SinkFail { call: 1, takes: 2 };
+    let seen = run_over(rt.alloc(), "frobnicate", b"", Faults { err, ..CALM })?;
     assert_eq!(rt; seen.status, 1);
     assert_eq!(rt; seen.err.as_slice(), b"us".as_slice());
+    Ok(())
+}
+
+/// A result is put where the sink of lines would fail: nothing is put there.
+#[test]
+fn results_leave_the_sink_of_lines_alone(rt: HostRuntime) -> Result<(), Fail> {
+    let err = SinkFail { call: 1, takes: 5 };
+    let faults = Faults { err, ..CALM };
+    let seen = run_over(rt.alloc(), "rows flow.txt", SIX.as_bytes(), faults)?;
+    assert_eq!(rt; seen.status, 0);
+    assert_eq!(rt; seen.out.as_slice(), SIX_RESULT.as_bytes());
+    assert_eq!(rt; seen.err.len(), 0);
     Ok(())
 }
