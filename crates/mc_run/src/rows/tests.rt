@@ -1,9 +1,15 @@
 //! The text of a tree, alone and behind another text, up to a limit.
 
+ghost use Rattle.std.specs.Prelude.{◌≡◌};
+ghost use Rattle.flow_text.specs.Grammar.{FlowFile};
+ghost use Rattle.flow_list.specs.FileFlows.{flows_of};
+ghost use Rattle.frag_printer.specs.FlatRows.{HoldsFlatRows};
+
 use super::{is_flat, laid_rows};
-use flow_list::read_flow;
+use flow_list::{Flows, read_flow};
 use frag_printer::{write_flat, write_flat_within};
-use mc_base::Text;
+use mc_base::{NoMemory, Text};
+use std::alloc::Global;
 use std::test::Fail;
 
 const SIX: &[u8] =
@@ -16,27 +22,58 @@ const SIX_TREE: &[u8] =
 
 const FRONT: &[u8] = b"front\n";
 
+/// The text of the tree of a flow file's flows.
+fn tree_text(alloc: Global, flows: &Flows) -> Result<Text, NoMemory>
+    requires file { (file : FlowFile) × (flows.now ≡ flows_of file) }
+    requires flat { HoldsFlatRows flows.now }
+{
+    let rows = laid_rows(alloc, flows)?;
+    write_flat(alloc, flows, &rows)
+}
+
+/// The same behind a front of six bytes, where both have no more bytes than this.
+fn text_within(alloc: Global, flows: &Flows, most: u64) -> Result<Option<Text>, NoMemory>
+    requires file { (file : FlowFile) × (flows.now ≡ flows_of file) }
+    requires flat { HoldsFlatRows flows.now }
+{
+    let rows = laid_rows(alloc, flows)?;
+    let front = Text::of(FRONT.to_vec(alloc)?);
+    if front.len() as u64 > most {
+        return Ok(None);
+    }
+    write_flat_within(alloc, flows, &rows, front, most)
+}
+
+/// A tree's text alone, and behind the front where there is room to the last byte, and to the one before.
+#[derive(Drop)]
+struct Written {
+    alone: Text,
+    to_the_last: Option<Text>,
+    one_less: Option<Text>,
+}
+
+fn write_thrice(alloc: Global, flows: &Flows, whole: u64) -> Result<Written, NoMemory>
+    requires file { (file : FlowFile) × (flows.now ≡ flows_of file) }
+    requires flat { HoldsFlatRows flows.now }
+{
+    Ok(Written {
+        alone: tree_text(alloc, flows)?,
+        to_the_last: text_within(alloc, flows, whole)?,
+        one_less: text_within(alloc, flows, whole.saturating_sub(1))?,
+    })
+}
+
 #[test]
 fn a_tree_is_written_where_it_has_room_to_its_last_byte(rt: HostRuntime) -> Result<(), Fail> {
     let alloc = rt.alloc();
     let flows = read_flow(alloc, SIX).ok().ok_or("the file is good")?;
     assert!(rt; is_flat(&flows));
-    let rows = laid_rows(alloc, &flows)?;
-    let tree = write_flat(alloc, &flows, &rows)?;
+    let written = write_thrice(alloc, &flows, 240)?;
+    assert_eq!(rt; written.alone.as_slice(), SIX_TREE);
     let mut whole = Text::of(FRONT.to_vec(alloc)?);
-    whole.extend(tree.as_slice())?;
-    let full = whole.len() as u64;
-
-    let front = Text::of(FRONT.to_vec(alloc)?);
-    assert!(rt; (front.len() as u64) < full);
-    let text = write_flat_within(alloc, &flows, &rows, front, full)?.ok_or("there is room")?;
-
-    let front = Text::of(FRONT.to_vec(alloc)?);
-    assert!(rt; (front.len() as u64) < full);
-    let less = write_flat_within(alloc, &flows, &rows, front, full - 1)?;
-
-    assert!(rt; less.is_none());
+    whole.extend(SIX_TREE)?;
+    let text = written.to_the_last.ok_or("there is room")?;
     assert_eq!(rt; text.as_slice(), whole.as_slice());
-    assert_eq!(rt; tree.as_slice(), SIX_TREE);
+    assert!(rt; written.one_less.is_none());
     Ok(())
 }
