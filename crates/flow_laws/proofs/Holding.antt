@@ -1,5 +1,5 @@
 -- What stands in the trees of columns, of all columns of a row, and of a row that stands whole.
-use Rattle.std.proofs.Common.{◌≡◌, ℕ, suc, ◌-◌, ◌<◌, ◌≤◌, false, List, [], ◌∷◌, ◌++◌, length, take, Option, Some, None, refl, sym, subst, ◌∙◌, ap, arith, ◌⊎◌, inl, inr, length-append}
+use Rattle.std.proofs.Common.{◌≡◌, ℕ, suc, ◌-◌, ◌<◌, ◌≤◌, false, List, [], ◌∷◌, ◌++◌, length, take, Option, Some, None, refl, sym, subst, ◌∙◌, ap, arith, inr, length-append}
 use Rattle.std.specs.Prelude.{AllPairs, ◌≢◌, flat_map}
 use Rattle.std.proofs.Math.Seq.{take-append_seam}
 use Rattle.mc_base.specs.PlainTree.{PlainTree, plain_trees}

@@ -108,7 +108,7 @@ row-moves d sound (suc n) r (suc m) nests le lt =
     record { fills = λ q a at. fill-moves d m r q a (some-column d sound r lt) moves at }
 
 -- so do the rows in any flow of the data
-flow-moves : (d : FlowsData) → IsSound d → (f : ℕ) → f < length d.flows → ItemsMove d (rows_to d (length d.rows)) (contents_to d (length d.rows)) (flow_of d f).items
+pub flow-moves : (d : FlowsData) → IsSound d → (f : ℕ) → f < length d.flows → ItemsMove d (rows_to d (length d.rows)) (contents_to d (length d.rows)) (flow_of d f).items
 flow-moves d sound f lt =
     items-move d (rows_to d (length d.rows)) (contents_to d (length d.rows)) (λ s. s < length d.rows)
     (λ s known. row-moves d sound (length d.rows - s) s (length d.rows) (nests-by-number d sound (length d.rows - s) s known (omega arith)) (omega arith) known) (flow_of d f).items (rows-of-data d sound f lt)
@@ -138,13 +138,13 @@ module _ (d : FlowsData) (sound : IsSound d) (r : ℕ) (lt : r < length d.rows) 
   filled-is-later (suc k) some t h place =
       later-is t _ (columns-later d (rows_to d (length d.rows)) (contents_to d (length d.rows)) r (flow_in d r) (column_within d (flow_in d r) (Some h)) (all-move (Some h)) k t place)
 
-  fill-is-later : (t : Token) (h : ℕ) → IsPlaceBefore d (flow_in d r) t → IsLater d r t ((all_rows d).fill r t h).end
+  pub fill-is-later : (t : Token) (h : ℕ) → IsPlaceBefore d (flow_in d r) t → IsLater d r t ((all_rows d).fill r t h).end
   unfolding all_rows rows_to fill_in
   fill-is-later t h place =
       let P : Filled → Type 0 = λ filled. IsLater d r t filled.end in
       subst P (sym ((sound-alike d sound r (length d.rows) (suc (length d.rows)) lt (omega arith) (omega arith)).fill t h)) (filled-is-later (row_of d r).n (some-column d sound r lt) t h place)
 
-  columns-reach : (n : ℕ) (t : Token) (h : Option ℕ) → IsPlaceBefore d (flow_in d r) t → left_in (all_rows d) (flow_in d r) t ≤ n → is_end (flow_in d r) (end_of t (first_columns d r n t h)) ≡ true
+  pub columns-reach : (n : ℕ) (t : Token) (h : Option ℕ) → IsPlaceBefore d (flow_in d r) t → left_in (all_rows d) (flow_in d r) t ≤ n → is_end (flow_in d r) (end_of t (first_columns d r n t h)) ≡ true
   unfolding all_rows
   columns-reach n t h place le = columns-end d (rows_to d (length d.rows)) (contents_to d (length d.rows)) r (flow_in d r) (column_within d (flow_in d r) h) (all-move h) n t place le
 

@@ -33,7 +33,7 @@ module _ (stops : Column → Bool) (kept : (a b : Column) → ColumnStays a b �
   rest-below : (h : ℕ) (c : Column) (cs : List Column) → stops c ≡ false → IsBelowEach h (bounds_of (up_to stops (c ∷ cs))) → IsBelowEach h (bounds_of (up_to stops cs))
   rest-below h c cs n b = rw n at ((IsBelowEach-append h c.bounds _ b).1)
 
-  cons-stay : (c c' : Column) (cs cs' : List Column) → ColumnStays c c' → (o : Bool) → stops c ≡ o → (o ≡ false → StayUpTo cs cs') → StayUpTo (c ∷ cs) (c' ∷ cs')
+  pub cons-stay : (c c' : Column) (cs cs' : List Column) → ColumnStays c c' → (o : Bool) → stops c ≡ o → (o ≡ false → StayUpTo cs cs') → StayUpTo (c ∷ cs) (c' ∷ cs')
   cons-stay c c' cs cs' e true k rest = ends k e
   cons-stay c c' cs cs' e false k rest = more k e (rest refl)
 

@@ -56,7 +56,7 @@ reach-total inner d f total q all =
 
 module _ (d : FlowsData) where
   -- the size of a row is no more than all that stands in it
-  size-total : (m r : ℕ) (q : Token) → (rows_to d m).size r q ≤ row_total d (height_in d) m r
+  pub size-total : (m r : ℕ) (q : Token) → (rows_to d m).size r q ≤ row_total d (height_in d) m r
   unfolding rows_to
   size-total zero r q = omega arith
   size-total (suc m) r q =
