@@ -8,8 +8,6 @@ mod collapsing;
 mod content;
 mod places;
 mod styles;
-#[cfg(test)]
-mod tests;
 
 pub use collapsing::collapse;
 pub use content::{Kind, Piece, RunStyle, Runs};

@@ -10,8 +10,6 @@ mod height;
 mod line;
 mod measures;
 mod places;
-#[cfg(test)]
-mod tests;
 
 pub use breaking::break_lines;
 pub use line::Line;
