@@ -1,4 +1,5 @@
 pub mod PlainTree
+pub mod Places
 pub mod Outside
 pub mod Memory
 pub mod SoundText
