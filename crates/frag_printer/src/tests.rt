@@ -114,7 +114,7 @@ fn a_row_has_its_lines(rt: HostRuntime) -> Result<(), Fail> {
         w: 210,
         h: 40,
         extent: 40,
-        feet: 0,
+        bottoms: 0,
     };
     let mut out = empty(rt.alloc());
     put_row(rt.alloc(), &mut out, &flows, at, 0, &row)
