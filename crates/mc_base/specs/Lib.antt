@@ -2,4 +2,5 @@ pub mod PlainTree
 pub mod Places
 pub mod Outside
 pub mod Memory
+pub mod Reading
 pub mod SoundText
