@@ -1,3 +1,4 @@
 pub mod NameCounts
 pub mod PutParts
+pub mod ReadSteps
 pub mod SoundBytes

@@ -1,6 +1,6 @@
 -- The ranges that are given for a row reject by their reasons, and follow one another up to its size or the top.
-use Rattle.std.proofs.Common.{◌≡◌, ℕ, zero, suc, ◌+◌, ◌-◌, ◌*◌, ◌/◌, ◌<◌, ◌≤◌, Bool, true, false, cond, ◌||◌, List, [], ◌∷◌, ◌++◌, length, drop, max, min, Option, Some, None, refl, sym, ◌∙◌, ap, arith, ◌⊎◌, inl, inr}
-use Rattle.std.specs.Prelude.{nat_lt, fold, All}
+use Rattle.std.proofs.Common.{◌≡◌, ℕ, zero, suc, ◌+◌, ◌-◌, ◌*◌, ◌/◌, ◌<◌, ◌≤◌, Bool, true, false, cond, ◌||◌, List, [], ◌∷◌, ◌++◌, length, drop, max, min, Option, Some, None, refl, sym, subst, ◌∙◌, ap, arith, ◌⊎◌, inl, inr}
+use Rattle.std.specs.Prelude.{nat_lt, fold, All, IfSome}
 use Rattle.std.specs.List.{list_any}
 use Rattle.std.proofs.lemmas.Bool.{or_from, or_left, or_right, cases_lt}
 use Rattle.std.proofs.lemmas.Bool.Decides.{nat_tests}
@@ -19,9 +19,9 @@ use Rattle.flow_list.specs.Rows.{columns, end_of, fits, fails, most_columns, rea
 use Rattle.flow_list.specs.Ranges.{Range, Reason, tall, area, left, bad, over, FailsAt, LeavesRest, RangeRejects, Tallest, taller, loose_atom, tallest_of, tallest_from, atoms_height, spread, reason_of, least_bound, is_past, searched, range_up_to, top_of, ranges, judged, bounds_of, lines_of}
 use Rattle.flow_list.proofs.Fitting.{size-least, size-reach}
 use Rattle.flow_laws.specs.Constant.{IsBelowEach}
-use Rattle.flow_laws.specs.Rejection.{TallAndAreaReject}
-use Rattle.flow_laws.specs.Rejecting.{FollowOn, told_of, ranged_to, RangesAccount}
-use Rattle.flow_laws.proofs.Rejecting.{fails-unfit, leaves-unfit, judged-fits, range-rejects, unfit-to}
+use Rattle.flow_laws.specs.TallAndArea.{TallAndAreaReject}
+use Rattle.flow_laws.specs.RangeLaws.{FollowOn, told_of, ranged_to, RangesAccount}
+use Rattle.flow_laws.proofs.OneRange.{fails-unfit, leaves-unfit, judged-fits, range-rejects, unfit-to}
 use Rattle.flow_laws.proofs.BoundsAbove.{judged-above}
 
 -- ---- the reason of columns
@@ -95,8 +95,8 @@ fold-above : (low n : ℕ) (bs : List ℕ) → low < n → IsBelowEach low bs �
 fold-above low n [] lt below = lt
 fold-above low n (x ∷ xs) lt below = let k = below.0 in fold-above low (min n x) xs (omega arith) below.1
 
-least-of-each : (top : Option ℕ) (bs : List ℕ) → All (λ b. least_bound top bs ≤ b) bs
-least-of-each None [] = All-nil (λ b. 0 ≤ b)
+least-of-each : (top : Option ℕ) (bs : List ℕ) → IfSome (least_bound top bs) (λ high. All (λ b. high ≤ b) bs)
+least-of-each None [] = tt
 least-of-each (Some t) [] = All-nil (λ b. t ≤ b)
 least-of-each None (b ∷ bs) = let k = fold-least b bs in All-cons (λ x. fold min b bs ≤ x) b bs k.0 k.1
 least-of-each (Some t) (b ∷ bs) =
@@ -104,18 +104,23 @@ least-of-each (Some t) (b ∷ bs) =
     let le = k.0 in
     All-cons (λ x. fold min (min t b) bs ≤ x) b bs (omega arith) k.1
 
-least-of-top : (t : ℕ) (bs : List ℕ) → least_bound (Some t) bs ≤ t
+least-of-top : (t : ℕ) (bs : List ℕ) → IfSome (least_bound (Some t) bs) (λ high. high ≤ t)
 least-of-top t [] = omega arith
 least-of-top t (b ∷ bs) = let le = (fold-least (min t b) bs).0 in omega arith
 
-least-above : (top : Option ℕ) (bs : List ℕ) (low : ℕ) → is_past top low ≡ false → IsBelowEach low bs → (bs ≡ [] → ⊥) → low < least_bound top bs
-least-above None [] low past below some = absurd (some refl)
-least-above (Some t) [] low past below some = grind (arith, nat_tests)
-least-above None (b ∷ bs) low past below some = fold-above low b bs below.0 below.1
-least-above (Some t) (b ∷ bs) low past below some =
+least-above : (top : Option ℕ) (bs : List ℕ) (low : ℕ) → is_past top low ≡ false → IsBelowEach low bs → IfSome (least_bound top bs) (λ high. low < high)
+least-above None [] low past below = tt
+least-above (Some t) [] low past below = grind (arith, nat_tests)
+least-above None (b ∷ bs) low past below = fold-above low b bs below.0 below.1
+least-above (Some t) (b ∷ bs) low past below =
     let k = below.0 in
     let lt : low < t = grind (arith, nat_tests) in
     fold-above low (min t b) bs (omega arith) below.1
+
+least-some : (top : Option ℕ) (bs : List ℕ) → (bs ≡ [] → ⊥) → least_bound top bs ≡ None → ⊥
+least-some top [] some e = some refl
+least-some None (b ∷ bs) some e = cc
+least-some (Some t) (b ∷ bs) some e = cc
 
 -- ---- heights up to the top
 
@@ -132,9 +137,9 @@ capped-past : (top : Option ℕ) (low h : ℕ) → is_past top low ≡ true → 
 capped-past None low h e le = cc
 capped-past (Some t) low h e le = let past : t ≤ low = grind (arith, nat_tests) in omega arith
 
-capped-least : (top : Option ℕ) (bs : List ℕ) → capped top (least_bound top bs) ≡ least_bound top bs
-capped-least None bs = refl
-capped-least (Some t) bs = let le = least-of-top t bs in omega arith
+capped-least : (top : Option ℕ) (bs : List ℕ) (high : ℕ) → least_bound top bs ≡ Some high → capped top high ≡ high
+capped-least None bs high is = refl
+capped-least (Some t) bs high is = let le : high ≤ t = subst (λ o. IfSome o (λ h. h ≤ t)) is (least-of-top t bs) in omega arith
 
 ranged-capped : (available : Option ℕ) (size : ℕ) → ranged_to available size ≡ capped (top_of available) size
 ranged-capped None size = refl
@@ -309,17 +314,15 @@ module _ (d : FlowsData) (r : ℕ) (q : Token) (law : TallAndAreaReject d r q) w
       cc
 
   step-accounts : (top : Option ℕ) (low : ℕ) (reason : Reason) → is_past top low ≡ false → low ≤ size → IsJudged (flow_in d r) 1 q (judged (all_rows d) d r q low) (Some reason) →
-      (high : ℕ) → high ≡ least_bound top (bounds_of (judged (all_rows d) d r q low)) → (rest : List Range) → (lines : List ColumnLine) → lines ≡ lines_of (judged (all_rows d) d r q low) →
+      (high : ℕ) → least_bound top (bounds_of (judged (all_rows d) d r q low)) ≡ Some high → (rest : List Range) → (lines : List ColumnLine) → lines ≡ lines_of (judged (all_rows d) d r q low) →
       (low < high → high ≤ size → Accounts (capped top high) (capped top size) rest) → Accounts (capped top low) (capped top size) (record { low = low; high = high; reason = reason; lines = lines } ∷ rest)
   step-accounts top low reason past le j high is rest lines told again =
       let bs = bounds_of (judged (all_rows d) d r q low) in
-      let none = reason-unfit low reason j in
-      let above : low < least_bound top bs = least-above top bs low past (judged-above d r q low) (some-bound low none le bs refl) in
-      let lt : low < high = omega arith in
-      let bounds : All (λ b. high ≤ b) bs = rw is (least-of-each top bs) in
+      let lt : low < high = subst (λ o. IfSome o (λ h. low < h)) is (least-above top bs low past (judged-above d r q low)) in
+      let bounds : All (λ b. high ≤ b) bs = subst (λ o. IfSome o (λ h. All (λ b. h ≤ b) bs)) is (least-of-each top bs) in
       let rejects = reason-rejects low high reason j bounds in
       let at = capped-below top low past in
-      let next : capped top high ≡ high = rw is (capped-least top bs) in
+      let next = capped-least top bs high is in
       let tail : Accounts high (capped top size) rest = rw next at (again lt (up-to-size low high reason rejects le)) in
       accounts-more (capped top low) (capped top size) (record { low = low; high = high; reason = reason; lines = lines }) rest (sym at) (omega arith) rejects (told ∙ reason-tells low reason j) tail
 
@@ -333,14 +336,23 @@ module _ (d : FlowsData) (r : ℕ) (q : Token) (law : TallAndAreaReject d r q) w
           Accounts (capped top low) (capped top size) (elim o [
             | None ↦ []
             | Some reason ↦
-                let high = least_bound top (bounds_of (judged (all_rows d) d r q low)) in
-                record { low = low; high = high; reason = reason; lines = lines_of (judged (all_rows d) d r q low) } ∷ searched (all_rows d) d r q top n high
+                elim (least_bound top (bounds_of (judged (all_rows d) d r q low))) [
+                  | None ↦ []
+                  | Some high ↦ record { low = low; high = high; reason = reason; lines = lines_of (judged (all_rows d) d r q low) } ∷ searched (all_rows d) d r q top n high
+                ]
           ])
       next again past None j = accounts-none (capped top low) (capped top size) (ap (capped top) (fits-is-size low (judged-fits (all_rows d) d r q low j.0 j.1) le))
-      next again past (Some reason) j =
-          step-accounts top low reason past le j (least_bound top (bounds_of (judged (all_rows d) d r q low))) refl
-          (searched (all_rows d) d r q top n (least_bound top (bounds_of (judged (all_rows d) d r q low)))) (lines_of (judged (all_rows d) d r q low)) refl
-          (λ lt high. again (least_bound top (bounds_of (judged (all_rows d) d r q low))) high (omega arith))
+      next again past (Some reason) j = by_bound (least_bound top (bounds_of (judged (all_rows d) d r q low))) refl
+        where
+          by_bound : (o : Option ℕ) → least_bound top (bounds_of (judged (all_rows d) d r q low)) ≡ o →
+              Accounts (capped top low) (capped top size) (elim o [
+                | None ↦ []
+                | Some high ↦ record { low = low; high = high; reason = reason; lines = lines_of (judged (all_rows d) d r q low) } ∷ searched (all_rows d) d r q top n high
+              ])
+          by_bound None is = absurd (least-some top _ (some-bound low (reason-unfit low reason j) le _ refl) is)
+          by_bound (Some high) is =
+              step-accounts top low reason past le j high is (searched (all_rows d) d r q top n high) (lines_of (judged (all_rows d) d r q low)) refl
+              (λ lt le. again high le (omega arith))
 
       go : ((high : ℕ) → high ≤ size → size < high + n → Accounts (capped top high) (capped top size) (searched (all_rows d) d r q top n high)) → (p : Bool) → is_past top low ≡ p →
           Accounts (capped top low) (capped top size) (elim p [
@@ -350,8 +362,10 @@ module _ (d : FlowsData) (r : ℕ) (q : Token) (law : TallAndAreaReject d r q) w
                 elim (reason_of (flow_in d r) 1 q cs) [
                   | None ↦ []
                   | Some reason ↦
-                      let high = least_bound top (bounds_of cs) in
-                      record { low = low; high = high; reason = reason; lines = lines_of cs } ∷ searched (all_rows d) d r q top n high
+                      elim (least_bound top (bounds_of cs)) [
+                        | None ↦ []
+                        | Some high ↦ record { low = low; high = high; reason = reason; lines = lines_of cs } ∷ searched (all_rows d) d r q top n high
+                      ]
                 ]
           ])
       go again true e = accounts-none (capped top low) (capped top size) (capped-past top low size e le)

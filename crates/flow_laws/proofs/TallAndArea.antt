@@ -16,11 +16,10 @@ use Rattle.flow_list.specs.Atoms.{IsAtom}
 use Rattle.flow_data.specs.Flows.{row_of, flow_in, item_of, seam_of, no_item, no_flow, no_row, atom_height}
 use Rattle.flow_data.specs.Soundness.{IsSound, IsSoundFlow}
 use Rattle.flow_list.specs.Strip.{Strip, lay_all}
-use Rattle.flow_list.specs.Tokens.{Token, row_start, item_number, within, is_end}
+use Rattle.flow_list.specs.Tokens.{Token, row_start, item_number, within, is_end, IsPlaceBefore}
 use Rattle.flow_list.specs.Column.{Column, Inner, Step, Place, Cut, cut, longer, step_at, steps, strip_behind, is_forced, start_strip, steps_from, seams_before, seams_between, inside, inside_place, alone_place, whole_place, is_cut, room, best, choose, last_place, no_place, fill_in_room, column, column_over, column_up_to, avoids_at, loose_need}
 use Rattle.flow_list.specs.Rows.{columns, end_of, fits, fails, most_columns, all_rows}
-use Rattle.flow_laws.specs.Progress.{IsPlaceBefore}
-use Rattle.flow_laws.specs.Rejection.{TallAndAreaReject}
+use Rattle.flow_laws.specs.TallAndArea.{TallAndAreaReject}
 use Rattle.flow_laws.proofs.Needs.{IsGoodStep, AreGoodSteps, column-steps}
 use Rattle.flow_laws.proofs.Places.{in-items, before-end, at-end}
 use Rattle.flow_laws.proofs.RowsAdvance.{by-zero, column-is-later}

@@ -13,8 +13,8 @@ use Rattle.flow_list.specs.Column.{Column, Inner}
 use Rattle.flow_list.specs.Rows.{columns, end_of, fits, fails, most_columns, up_to, all_rows}
 use Rattle.flow_list.specs.Ranges.{Reason, tall, area, left, bad, over, FailsAt, LeavesRest, RangeRejects, judged, bounds_of}
 use Rattle.flow_laws.specs.Constant.{IsBelowEach}
-use Rattle.flow_laws.specs.Rejection.{TallAndAreaReject}
-use Rattle.flow_laws.specs.Rejecting.{RangesReject}
+use Rattle.flow_laws.specs.TallAndArea.{TallAndAreaReject}
+use Rattle.flow_laws.specs.RangeLaws.{RangesReject}
 use Rattle.flow_laws.proofs.RowsStay.{breaks-stay}
 
 pub below-each : (high h : ℕ) (bs : List ℕ) → All (λ b. high ≤ b) bs → h < high → IsBelowEach h bs
