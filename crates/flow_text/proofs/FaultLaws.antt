@@ -16,7 +16,7 @@ use Rattle.flow_text.specs.Structure as structure
 use Rattle.flow_text.specs.Structure.{unless, fault_of_due, fault_of_rows, what_is_due, fault_of_ending, is_solid}
 use Rattle.mc_base.specs.SoundText.{sound_len}
 use Rattle.mc_base.specs.Reading.{◌>>=◌, fault}
-use Rattle.mc_base.proofs.ReadSteps.{seen, failed}
+use Rattle.mc_base.proofs.ReadSteps.{seen as seen_result, failed}
 use Rattle.flow_text.specs.Text.{line_len, first_bad, bad_byte, cuts, or_fault, no_byte_bad, line_of, line_at, read_on, ended_at, lines_in, lines_of}
 use Rattle.flow_text.specs.Run.{run}
 use Rattle.flow_text.specs.Faults.{fault_at, IsFront, seen, Begins, ending_fault, byte_fault, ShapeFault, NoLine, IsCutShort, IsMisshapen, IsMisplaced, IsFaultOfLines, IsFirstFault}
@@ -201,7 +201,7 @@ fault_takes (suc n) at (b ∷ bytes) r front so_far size g le h e =
     let some : 0 < length (b ∷ bytes) = omega arith in
     let one = rw (first_line at (b ∷ bytes) some) at e in
     let shorter : length (drop (suc (line_len (b ∷ bytes))) (b ∷ bytes)) ≤ n = simp length-drop (omega arith) in
-    by_line one (seen (line_at r at (take (line_len (b ∷ bytes)) (b ∷ bytes)) (not (eqb (length (drop (line_len (b ∷ bytes)) (b ∷ bytes))) 0))))
+    by_line one (seen_result (line_at r at (take (line_len (b ∷ bytes)) (b ∷ bytes)) (not (eqb (length (drop (line_len (b ∷ bytes)) (b ∷ bytes))) 0))))
     (λ next l more. fault_takes n (at + line_len (b ∷ bytes) + 1) (drop (suc (line_len (b ∷ bytes))) (b ∷ bytes)) next (front ++ l ∷ []) (so_far ++ l ∷ []) size g shorter (one_more front r l h ∙ more))
   where
     all : List ℕ
@@ -225,7 +225,7 @@ fault_takes (suc n) at (b ∷ bytes) r front so_far size g le h e =
 
     by_line : ((line_at r at (take (line_len (b ∷ bytes)) (b ∷ bytes)) (not (eqb (length (drop (line_len (b ∷ bytes)) (b ∷ bytes))) 0)) >>= λ l. structure.take r l >>= λ next. read_on next (so_far ++ l ∷ []) (cuts (at + line_len (b ∷ bytes) + 1) (drop (suc (line_len (b ∷ bytes))) (b ∷ bytes)))) >>= ended_at size) ≡ failed_lines g
         → ((x : Line) × (line_at r at (take (line_len (b ∷ bytes)) (b ∷ bytes)) (not (eqb (length (drop (line_len (b ∷ bytes)) (b ∷ bytes))) 0)) ≡ Ok x)) ⊎ ((f : Fault) × (line_at r at (take (line_len (b ∷ bytes)) (b ∷ bytes)) (not (eqb (length (drop (line_len (b ∷ bytes)) (b ∷ bytes))) 0)) ≡ Err f)) → Deeper → Reached at (b ∷ bytes) front size g
-    by_line e (inl s) deeper = by_place s.0 s.1 (rw s.1 at e) (seen (structure.take r s.0)) deeper
+    by_line e (inl s) deeper = by_place s.0 s.1 (rw s.1 at e) (seen_result (structure.take r s.0)) deeper
     by_line e (inr s) deeper =
         let e' : failed_lines s.0 ≡ failed_lines g = rw s.1 at e in
         let same : g ≡ s.0 = is_the_fault s.0 g e' in

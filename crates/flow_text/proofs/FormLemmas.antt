@@ -17,8 +17,8 @@ use Rattle.std.proofs.lemmas.Int.Digits.{digits_value-lt}
 use Rattle.std.proofs.lemmas.Fmt.{digits_decimal, digits_value-decimal, decimal-digits_value, decimal_nonempty, first_decimal, length-decimal-le, decimal_digit}
 use Rattle.mc_base.specs.declared.level.Level.{Level}
 use Rattle.mc_base.specs.declared.level.Level.TheVariants.{Forced, L0, L1, L2}
-use Rattle.mc_base.specs.Reading.{◌>>?◌}
-use Rattle.mc_base.proofs.ReadSteps.{some_step}
+use Rattle.mc_base.specs.Finding.{◌>>=◌}
+use Rattle.mc_base.proofs.FindSteps.{some_step}
 use Rattle.flow_text.specs.declared.line.Form.{Form}
 use Rattle.flow_text.specs.declared.line.Form.TheVariants.{Flow, First, Margin, Solid, Wall, Start, End, Atom, Row, Break, Close}
 use Rattle.flow_text.specs.Numbers.{IsNumber, field, digits_len, is_numeral, number_at, field_at}
@@ -142,7 +142,7 @@ last_takes bytes u h = some_step (field_at bytes) _ u h (λ x e g.
 
 pub last_again : (u : ℕ) → IsNumber u → last_field (field u) ≡ pass u
 unfolding last_field
-last_again u fits = ap (λ (t : List ℕ). field_at t >>? λ f. alone f.0 f.1) (sym (append-nil (field u))) ∙ rw (number_again u [] fits tt) refl
+last_again u fits = ap (λ (t : List ℕ). field_at t >>= λ f. alone f.0 f.1) (sym (append-nil (field u))) ∙ rw (number_again u [] fits tt) refl
 
 level_is : (c : ℕ) (level : Level) → level_of c ≡ pass level → 32 ∷ c ∷ [] ≡ level_text level
 level_is c level h =
@@ -193,7 +193,7 @@ inside_takes : (bytes : List ℕ) (x : Bool × List ℕ) → inside_at bytes ≡
 unfolding inside_at
 inside_takes bytes x h = by_word (behind (codes " auto") bytes) refl h
   where
-    by_word : (o : Option (List ℕ)) → behind (codes " auto") bytes ≡ o → or_else (o >>? λ rest. Some (false, rest)) (behind (codes " avoid") bytes >>? λ rest. Some (true, rest)) ≡ pass x → bytes ≡ inside_text x.0 ++ x.1
+    by_word : (o : Option (List ℕ)) → behind (codes " auto") bytes ≡ o → or_else (o >>= λ rest. Some (false, rest)) (behind (codes " avoid") bytes >>= λ rest. Some (true, rest)) ≡ pass x → bytes ≡ inside_text x.0 ++ x.1
     by_word (Some rest) is e = behind_takes (codes " auto") bytes rest is ∙ ap (λ (y : Bool × List ℕ). inside_text y.0 ++ y.1) (some_is (false, rest) x e)
     by_word None is e = some_step (behind (codes " avoid") bytes) _ x e (λ rest i g. behind_takes (codes " avoid") bytes rest i ∙ ap (λ (y : Bool × List ℕ). inside_text y.0 ++ y.1) (some_is (true, rest) x g))
 
@@ -262,7 +262,7 @@ end_takes n w st (x, []) front form some n1 n2 n3 n4 h whole =
     let P : Form → Type 0 = λ f. IsForm f front in
     subst P (some_is _ form h) (some, n1, n2, n3, n4, whole (field x) (append-nil (field x)))
 end_takes n w st (x, b ∷ bytes) front form some n1 n2 n3 n4 h whole =
-    let r = refused (ltb x 64) (fill_at (b ∷ bytes) >>? λ auto. Some (First n w st (Some x) auto)) form h in
+    let r = refused (ltb x 64) (fill_at (b ∷ bytes) >>= λ auto. Some (First n w st (Some x) auto)) form h in
     some_step (fill_at (b ∷ bytes)) _ form r.1 (λ auto e g.
     let P : Form → Type 0 = λ f. IsForm f front in
     subst P (some_is _ form g) (some, n1, n2, n3, (ltb-false x 64 r.0, n4), whole (field x ++ fill_text auto) (ap (λ (t : List ℕ). field x ++ t) (fill_takes (b ∷ bytes) auto e))))
@@ -329,7 +329,7 @@ word_takes text form h =
     some_step (behind (codes "row") text) _ form h (λ rest i g. subst (IsForm form) (sym (behind_takes (codes "row") text rest i)) (row_takes rest form g)))))
 
 -- a line of one number
-one_takes : (make : ℕ → Form) (b c : ℕ) (rest : List ℕ) (form : Form) → ((u : ℕ) → IsNumber u → c ∷ rest ≡ c ∷ field u → IsForm (make u) (c ∷ rest)) → eqb b c ≡ true → (last_field rest >>? λ u. Some (make u)) ≡ pass form → IsForm form (b ∷ rest)
+one_takes : (make : ℕ → Form) (b c : ℕ) (rest : List ℕ) (form : Form) → ((u : ℕ) → IsNumber u → c ∷ rest ≡ c ∷ field u → IsForm (make u) (c ∷ rest)) → eqb b c ≡ true → (last_field rest >>= λ u. Some (make u)) ≡ pass form → IsForm form (b ∷ rest)
 one_takes make b c rest form says is e = some_step (last_field rest) _ form e (λ u i g.
     let l = last_takes rest u i in
     subst (λ (d : ℕ). IsForm form (d ∷ rest)) (sym (eqb-true b c is)) (subst (λ (f : Form). IsForm f (c ∷ rest)) (some_is (make u) form g) (says u l.0 (ap (λ (t : List ℕ). c ∷ t) l.1))))

@@ -4,7 +4,7 @@ use Rattle.std.specs.List.{starts_with}
 use Rattle.std.specs.Str.{bytes_eq}
 use Rattle.mc_base.specs.declared.level.Level.{Level}
 use Rattle.mc_base.specs.declared.level.Level.TheVariants.{Forced, L0, L1, L2}
-use Rattle.mc_base.specs.Reading.{◌>>?◌}
+use Rattle.mc_base.specs.Finding.{◌>>=◌}
 use Rattle.flow_text.specs.declared.line.Form.{Form}
 use Rattle.flow_text.specs.declared.line.Form.TheVariants.{Flow, First, Margin, Solid, Wall, Start, End, Atom, Row, Break, Close}
 use Rattle.flow_text.specs.Numbers.{IsNumber, field, field_at}
@@ -62,7 +62,7 @@ alone x [] = Some x
 alone x (b ∷ bytes) = None
 
 unfoldable pub last_field : List ℕ → Option ℕ
-last_field bytes = field_at bytes >>? λ f. alone f.0 f.1
+last_field bytes = field_at bytes >>= λ f. alone f.0 f.1
 
 abbrev pub last_byte : List ℕ → Option ℕ
 last_byte [] = None
@@ -74,7 +74,7 @@ abbrev pub level_of : ℕ → Option Level
 level_of c = if c == 70 then Some Forced else (if c == 48 then Some L0 else (if c == 49 then Some L1 else (if c == 50 then Some L2 else None)))
 
 unfoldable pub level_at : List ℕ → Option Level
-level_at bytes = last_byte bytes >>? level_of
+level_at bytes = last_byte bytes >>= level_of
 
 unfoldable pub fill_at : List ℕ → Option Bool
 fill_at bytes = if bytes_eq bytes (codes " balance") then Some false else (if bytes_eq bytes (codes " auto") then Some true else None)
@@ -84,10 +84,10 @@ or_else None other = other
 or_else (Some x) other = Some x
 
 unfoldable pub inside_at : List ℕ → Option (Bool × List ℕ)
-inside_at bytes = or_else (behind (codes " auto") bytes >>? λ rest. Some (false, rest)) (behind (codes " avoid") bytes >>? λ rest. Some (true, rest))
+inside_at bytes = or_else (behind (codes " auto") bytes >>= λ rest. Some (false, rest)) (behind (codes " avoid") bytes >>= λ rest. Some (true, rest))
 
 abbrev pub both_at : List ℕ → Option (ℕ × ℕ)
-both_at bytes = field_at bytes >>? λ top. last_field top.1 >>? λ bottom. Some (top.0, bottom)
+both_at bytes = field_at bytes >>= λ top. last_field top.1 >>= λ bottom. Some (top.0, bottom)
 
 unfoldable pub amounts_at : List ℕ → Option (ℕ × ℕ)
 amounts_at [] = Some (0, 0)
@@ -95,39 +95,39 @@ amounts_at (b ∷ bytes) = both_at (b ∷ bytes)
 
 unfoldable pub start_at : List ℕ → Option Form
 start_at bytes =
-    field_at bytes >>? λ number. field_at number.1 >>? λ x. field_at x.1 >>? λ w. inside_at w.1 >>? λ inside. amounts_at inside.1 >>? λ amounts.
+    field_at bytes >>= λ number. field_at number.1 >>= λ x. field_at x.1 >>= λ w. inside_at w.1 >>= λ inside. amounts_at inside.1 >>= λ amounts.
     Some (Start number.0 x.0 w.0 inside.0 amounts.0 amounts.1)
 
 -- behind a fourth number: nothing, or how the row is filled
 abbrev pub row_end : ℕ → ℕ → ℕ → ℕ × List ℕ → Option Form
 row_end n w step (x, []) = Some (Row n w step x)
-row_end n w step (x, b ∷ bytes) = if nat_lt x 64 then None else (fill_at (b ∷ bytes) >>? λ auto. Some (First n w step (Some x) auto))
+row_end n w step (x, b ∷ bytes) = if nat_lt x 64 then None else (fill_at (b ∷ bytes) >>= λ auto. Some (First n w step (Some x) auto))
 
 abbrev pub row_open : ℕ → ℕ → ℕ → Option (List ℕ) → List ℕ → Option Form
-row_open n w step (Some rest) bytes = fill_at rest >>? λ auto. Some (First n w step None auto)
-row_open n w step None bytes = field_at bytes >>? row_end n w step
+row_open n w step (Some rest) bytes = fill_at rest >>= λ auto. Some (First n w step None auto)
+row_open n w step None bytes = field_at bytes >>= row_end n w step
 
 unfoldable pub row_behind : ℕ → ℕ → ℕ → List ℕ → Option Form
 row_behind n w step bytes = row_open n w step (behind (codes " -") bytes) bytes
 
 unfoldable pub row_at : List ℕ → Option Form
-row_at bytes = field_at bytes >>? λ n. (if n.0 == 0 then None else (field_at n.1 >>? λ w. field_at w.1 >>? λ step. row_behind n.0 w.0 step.0 step.1))
+row_at bytes = field_at bytes >>= λ n. (if n.0 == 0 then None else (field_at n.1 >>= λ w. field_at w.1 >>= λ step. row_behind n.0 w.0 step.0 step.1))
 
 unfoldable pub word_of : List ℕ → Option Form
 word_of text =
     if bytes_eq text (codes "w") then Some Wall else
     (if bytes_eq text (codes "end") then Some Close else
     (if bytes_eq text (codes "flow 1") then Some Flow else
-    (behind (codes "row") text >>? row_at)))
+    (behind (codes "row") text >>= row_at)))
 
 -- what a line says
 unfoldable pub form_of : List ℕ → Option Form
 form_of [] = None
 form_of (b ∷ rest) =
-    if b == 97 then (last_field rest >>? λ u. Some (Atom u)) else
-    (if b == 109 then (last_field rest >>? λ u. Some (Margin u)) else
-    (if b == 115 then (last_field rest >>? λ u. Some (Solid u)) else
-    (if b == 124 then (level_at rest >>? λ level. Some (Break level)) else
+    if b == 97 then (last_field rest >>= λ u. Some (Atom u)) else
+    (if b == 109 then (last_field rest >>= λ u. Some (Margin u)) else
+    (if b == 115 then (last_field rest >>= λ u. Some (Solid u)) else
+    (if b == 124 then (level_at rest >>= λ level. Some (Break level)) else
     (if b == 40 then start_at rest else
-    (if b == 41 then (last_field rest >>? λ u. Some (End u)) else
+    (if b == 41 then (last_field rest >>= λ u. Some (End u)) else
     word_of (b ∷ rest))))))

@@ -7,8 +7,8 @@ use Rattle.std.specs.Str.{bytes_eq}
 use Rattle.std.specs.Str.Parse.{digits_value, digits_value_after}
 use Rattle.std.proofs.lemmas.Bool.{ne_eqb, eqb-true, eqb-false, leb-true, ltb-true, ltb-false, lt-ltb, le-ltb, le-leb}
 use Rattle.std.proofs.lemmas.Slice.Eq.{bytes_eq-Decides}
-use Rattle.mc_base.specs.Reading.{◌>>?◌}
-use Rattle.mc_base.proofs.ReadSteps.{some_step}
+use Rattle.mc_base.specs.Finding.{◌>>=◌}
+use Rattle.mc_base.proofs.FindSteps.{some_step}
 use lib.Utf8.{scalar, scalar_cases}
 use Rattle.font_table.specs.declared.fonts.Advance.{Advance}
 use Rattle.font_table.specs.declared.fonts.Face.{Face}
@@ -50,7 +50,7 @@ word_again [] rest h = refl
 word_again (b ∷ word) rest h = rw (h.0, word_again word rest h.1) refl
 
 first_is : (b : ℕ) (bs word rest : List ℕ) (r : Bool) → eqb b 32 ≡ r → ((w t : List ℕ) → word_at bs ≡ Some (w, t) → bs ≡ spaced w t)
-    → cond {A = Option (List ℕ × List ℕ)} r (Some ([], bs)) (word_at bs >>? λ x. Some (b ∷ x.0, x.1)) ≡ Some (word, rest) → b ∷ bs ≡ spaced word rest
+    → cond {A = Option (List ℕ × List ℕ)} r (Some ([], bs)) (word_at bs >>= λ x. Some (b ∷ x.0, x.1)) ≡ Some (word, rest) → b ∷ bs ≡ spaced word rest
 first_is b bs word rest true is_space deeper e =
     let pair : ([], bs) ≡ (word, rest) = some_is {A = List ℕ × List ℕ} ([], bs) (word, rest) e in
     let w-is : [] ≡ word = ap (λ (x : List ℕ × List ℕ). x.0) pair in

@@ -3,7 +3,7 @@ use Rattle.std.specs.Prelude.{ℕ, ◌+◌, ◌*◌, Bool, true, false, ◌&&◌
 use Rattle.std.specs.List.{list_all}
 use Rattle.std.specs.Str.{bytes_eq}
 use Rattle.std.specs.Char.{digit_value}
-use Rattle.mc_base.specs.Reading.{◌>>?◌}
+use Rattle.mc_base.specs.Finding.{◌>>=◌}
 use lib.Utf8.{scalar}
 use Rattle.font_table.specs.declared.fonts.Advance.{Advance}
 use Rattle.font_table.specs.declared.fonts.Face.{Face}
@@ -12,7 +12,7 @@ use Rattle.font_table.specs.Table.{is_digit, is_hex_digit, is_name_byte}
 -- the word in front of the first space, and what follows the space
 abbrev pub word_at : List ℕ → Option (List ℕ × List ℕ)
 word_at [] = None
-word_at (b ∷ bs) = if b == 32 then Some ([], bs) else (word_at bs >>? λ x. Some (b ∷ x.0, x.1))
+word_at (b ∷ bs) = if b == 32 then Some ([], bs) else (word_at bs >>= λ x. Some (b ∷ x.0, x.1))
 
 abbrev pub base : Bool → ℕ
 base false = 10
@@ -38,7 +38,7 @@ scalar_of n = if scalar n then Some n else None
 
 -- a character's code
 unfoldable pub code_at : List ℕ → Option ℕ
-code_at bytes = if (slice_index bytes 0 == 48) && nat_lt 1 (length bytes) then None else (number_at true 0x10FFFF bytes >>? scalar_of)
+code_at bytes = if (slice_index bytes 0 == 48) && nat_lt 1 (length bytes) then None else (number_at true 0x10FFFF bytes >>= scalar_of)
 
 -- what follows a first word that is this one
 unfoldable pub behind_keyword : List ℕ → List ℕ → Option (List ℕ)

@@ -1,5 +1,5 @@
 use crate::dom::Attribute;
-use mc_base::{List, Text};
+use mc_base::{Fault, List, Text};
 
 /// A text, and the byte of the input at which it begins.
 #[derive(Drop)]

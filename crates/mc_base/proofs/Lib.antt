@@ -1,3 +1,4 @@
+pub mod FindSteps
 pub mod NameCounts
 pub mod PutParts
 pub mod ReadSteps

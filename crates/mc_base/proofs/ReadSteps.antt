@@ -1,7 +1,7 @@
 -- What is known of reading in steps.
-use Rattle.std.proofs.Common.{◌≡◌, ℕ, Bool, true, false, cond, Option, Some, None, Result, Ok, Err, refl, ◌⊎◌, inl, inr}
+use Rattle.std.proofs.Common.{◌≡◌, ℕ, Bool, true, false, cond, Result, Ok, Err, refl, ◌⊎◌, inl, inr}
 use Rattle.mc_base.specs.declared.read_error.Fault.{Fault}
-use Rattle.mc_base.specs.Reading.{◌>>=◌, ◌>>?◌, fault}
+use Rattle.mc_base.specs.Reading.{◌>>=◌, fault}
 
 -- what was read, and what was not
 abbrev pub given : {A : Type 0} → A → Result A Fault
@@ -28,10 +28,6 @@ seen (Err f) = inr (f, refl)
 pub step : {A B P : Type 0} (r : Result A Fault) (f : A → Result B Fault) (y : B) → (r >>= f) ≡ Ok y → ((x : A) → r ≡ Ok x → f x ≡ Ok y → P) → P
 step (Ok x) f y e go = go x refl e
 step (Err d) f y e go = absurd cc
-
-pub some_step : {A B P : Type 0} (r : Option A) (f : A → Option B) (y : B) → (r >>? f) ≡ Some y → ((x : A) → r ≡ Some x → f x ≡ Some y → P) → P
-some_step (Some x) f y e go = go x refl e
-some_step None f y e go = absurd cc
 
 -- a test that stood before what was read
 pub no_fault : {A : Type 0} (b : Bool) (f : Fault) (r : Result A Fault) (y : A) → cond b (Err f) r ≡ Ok y → r ≡ Ok y

@@ -1,3 +1,4 @@
+pub mod Finding
 pub mod PlainTree
 pub mod Places
 pub mod Outside

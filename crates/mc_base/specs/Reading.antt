@@ -1,5 +1,5 @@
 -- Reading a text in steps: the first that can't be made is the text's first fault. All exact readers share this.
-use Rattle.std.specs.Prelude.{◌≡◌, ℕ, Option, Some, None, Result, Ok, Err}
+use Rattle.std.specs.Prelude.{◌≡◌, ℕ, Result, Ok, Err}
 use Rattle.mc_base.specs.declared.read_error.Fault.{Fault}
 use Rattle.mc_base.specs.declared.read_error.ReadError.{ReadError}
 use Rattle.mc_base.specs.declared.read_error.ReadError.TheVariants as errors
@@ -9,12 +9,6 @@ infixl 10 ◌>>=◌
 abbrev pub ◌>>=◌ : {A B E : Type 0} → Result A E → (A → Result B E) → Result B E
 (Ok x) >>= f = f x
 (Err e) >>= f = Err e
-
--- the same of a step that gives something or nothing
-infixl 10 ◌>>?◌
-abbrev pub ◌>>?◌ : {A B : Type 0} → Option A → (A → Option B) → Option B
-None >>? f = None
-(Some x) >>? f = f x
 
 -- a fault at a byte, by the number of its rule
 abbrev pub fault : {A : Type 0} → ℕ → ℕ → Result A Fault
