@@ -4,6 +4,7 @@
 //! its bytes, and that reading and writing answer a fault only where a count of faults rose.
 #![tactic(auto)]
 
+mod decimal;
 mod disk;
 mod level;
 mod list;
@@ -16,6 +17,7 @@ mod sound_text;
 mod text;
 mod units;
 
+pub use decimal::Decimal;
 pub use disk::{DiskFiles, StdSink};
 pub use level::Level;
 pub use list::List;
