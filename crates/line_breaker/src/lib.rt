@@ -7,6 +7,7 @@
 mod ahead;
 mod breaking;
 mod height;
+mod laws;
 mod line;
 mod measures;
 mod places;
@@ -14,4 +15,5 @@ mod places;
 mod tests;
 
 pub use breaking::break_lines;
+pub use laws::a_run_has_one_list_of_lines;
 pub use line::Line;
