@@ -20,9 +20,9 @@ mod Laying
 pub mod Needs
 pub mod PlacedSums
 mod Places
-mod Rejecting
-mod RejectingRanges
-mod Rejects
+mod OneRange
+mod AllRanges
+mod TallAndArea
 pub mod RowHeightBounds
 mod RowsAdvance
 mod RowsStay

@@ -4,7 +4,7 @@ use Rattle.std.specs.Prelude.{◌⊎◌}
 use Rattle.std.proofs.lemmas.List.Elements.{All-nil, All-cons}
 use Rattle.mc_base.specs.declared.refusal.Refusal.{Refusal}
 use Rattle.mc_base.specs.declared.refusal.Refusal.TheVariants as refusals
-use Rattle.flow_text.specs.declared.fault.Fault.{Fault}
+use Rattle.mc_base.specs.declared.read_error.Fault.{Fault}
 use Rattle.flow_text.specs.declared.line.Line.{Line}
 use Rattle.flow_text.specs.Answer.{IsAnswer, IsRead, IsRefused, faulty, refusal_of, within_limits}
 use Rattle.flow_text.specs.Faults.{IsFirstFault}

@@ -1,7 +1,7 @@
 //! Reading flow files.
 
 ghost use Rattle.std.specs.Prelude.{◌≡◌, ◌^◌, ◌≤◌, ◌⊎◌, length, None, Some, IfOk, IfErr, MatchResult};
-ghost use Rattle.flow_text.specs.declared.fault.Fault.{Fault};
+ghost use Rattle.mc_base.specs.declared.read_error.Fault.{Fault};
 ghost use Rattle.flow_text.specs.Answer.{IsAnswer, refusal_of};
 ghost use Rattle.flow_text.specs.Faults.{IsFirstFault};
 ghost use Rattle.flow_text.specs.Grammar.{FlowFile};

@@ -4,7 +4,7 @@ use Rattle.std.specs.Prelude.{IfErr, IfOk, IsErrOf}
 use Rattle.mc_base.specs.declared.refusal.Refusal.{Refusal}
 use Rattle.mc_base.specs.declared.refusal.Refusal.TheVariants as refusals
 use Rattle.flow_text.specs.declared.line.Line.{Line}
-use Rattle.flow_text.specs.declared.fault.Fault.{Fault}
+use Rattle.mc_base.specs.declared.read_error.Fault.{Fault}
 use Rattle.flow_text.specs.Text.{IsText, lines_of}
 use Rattle.flow_text.specs.Grammar.{FlowFile, IsFlowFile}
 use Rattle.mc_base.specs.declared.refusal.LimitName.TheVariants.{Items}

@@ -4,13 +4,15 @@ use Rattle.std.specs.Prelude.{◌⊎◌, MatchBool}
 use Rattle.flow_text.specs.declared.line.Line.{Line}
 use Rattle.flow_text.specs.declared.line.Form.{Form}
 use Rattle.flow_text.specs.declared.line.Form.TheVariants as forms
-use Rattle.flow_text.specs.declared.fault.Fault.{Fault}
+use Rattle.mc_base.specs.declared.read_error.Fault.{Fault}
 use Rattle.flow_text.specs.declared.structure.Due.{Due}
 use Rattle.flow_text.specs.declared.structure.Reading.{Reading}
 use Rattle.flow_text.specs.declared.structure.Reading.TheVariants as readings
 use Rattle.flow_text.specs.Forms.{IsForm}
 use Rattle.flow_text.specs.Structure as structure
-use Rattle.flow_text.specs.Structure.{◌>>=◌, fault, unless, fault_of_ending}
+use Rattle.flow_text.specs.Structure.{unless, fault_of_ending}
+use Rattle.mc_base.specs.Reading.{◌>>=◌, fault}
+use Rattle.mc_base.proofs.ReadSteps.{seen as seen_result}
 use Rattle.mc_base.specs.SoundText.{sound_len}
 use Rattle.flow_text.specs.Grammar.{FlowFile, IsFlowFile}
 use Rattle.flow_text.specs.Text.{IsText, line_len, cuts, line_at, read_on, ended_at, lines_in, lines_of}
@@ -20,8 +22,8 @@ use Rattle.flow_text.proofs.Complete.{passed, file_is_read}
 use Rattle.flow_text.proofs.Sound.{read_is_file}
 use Rattle.flow_text.proofs.TextLemmas.{first_line}
 use Rattle.flow_text.proofs.TextLaws.{lines_are, text_again, front_again, line_takes, feed_at, may_end}
-use Rattle.flow_text.proofs.FaultLaws.{failed_lines, line_seen, cut_short, misshapen, line_reads}
-use Rattle.flow_text.proofs.Stands.{is_front, no_front, failed, why, one_more}
+use Rattle.flow_text.proofs.FaultLaws.{failed_lines, cut_short, misshapen, line_reads}
+use Rattle.flow_text.proofs.Stands.{is_front, no_front, why, one_more}
 
 -- ---- what a line breaks is one fault
 
@@ -107,7 +109,7 @@ first_read r front at rest some = rw (first_line at rest some) refl
 
 told_misshapen : (front : List Line) (r : Reading) (at : ℕ) (rest : List ℕ) (size : ℕ) (g : Fault) → run readings.Opening front ≡ passed r → IsMisshapen front at rest g → Told r front at rest size g
 told_misshapen front r at rest size g h bad =
-    by_line (line_seen (line_at r at (take (line_len rest) rest) (not (eqb (length (drop (line_len rest) rest)) 0))))
+    by_line (seen_result (line_at r at (take (line_len rest) rest) (not (eqb (length (drop (line_len rest) rest)) 0))))
   where
     by_line : ((x : Line) × (line_at r at (take (line_len rest) rest) (not (eqb (length (drop (line_len rest) rest)) 0)) ≡ Ok x)) ⊎ ((f : Fault) × (line_at r at (take (line_len rest) rest) (not (eqb (length (drop (line_len rest) rest)) 0)) ≡ Err f))
         → Told r front at rest size g
@@ -123,7 +125,7 @@ some_bytes : (text more rest : List ℕ) → rest ≡ text ++ 10 ∷ more → 0 
 some_bytes text more rest e = let n = length-append text (10 ∷ more) in rw e (omega (arith, n))
 
 told_misplaced : (front : List Line) (r : Reading) (at : ℕ) (rest : List ℕ) (size : ℕ) (g : Fault) → run readings.Opening front ≡ passed r → IsMisplaced front at rest g → Told r front at rest size g
-told_misplaced front r at rest size g h (l, text, more, at_is, form, rest_is, no_more, fault_is) = by_place (line_seen (structure.take r l))
+told_misplaced front r at rest size g h (l, text, more, at_is, form, rest_is, no_more, fault_is) = by_place (seen_result (structure.take r l))
   where
     some : 0 < length rest
     some = some_bytes text more rest rest_is
@@ -147,7 +149,7 @@ told front r at rest size g h (inr (inl bad)) = told_misshapen front r at rest s
 told front r at rest size g h (inr (inr out)) = told_misplaced front r at rest size g h out
 
 told_in_lines : (text : List ℕ) (g : Fault) → IsFaultOfLines text g → lines_in text ≡ failed_lines g
-told_in_lines text g h = by_front (line_seen (run readings.Opening h.front))
+told_in_lines text g h = by_front (seen_result (run readings.Opening h.front))
   where
     by_front : ((x : Reading) × (run readings.Opening h.front ≡ Ok x)) ⊎ ((f : Fault) × (run readings.Opening h.front ≡ Err f)) → lines_in text ≡ failed_lines g
     by_front (inl s) =

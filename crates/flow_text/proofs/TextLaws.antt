@@ -15,16 +15,18 @@ use Rattle.mc_base.specs.declared.level.Level.TheVariants.{Forced, L0, L1, L2}
 use Rattle.flow_text.specs.declared.line.Line.{Line}
 use Rattle.flow_text.specs.declared.line.Form.{Form}
 use Rattle.flow_text.specs.declared.line.Form.TheVariants.{Flow, First, Margin, Solid, Wall, Start, End, Atom, Row, Break, Close}
-use Rattle.flow_text.specs.declared.fault.Fault.{Fault}
+use Rattle.mc_base.specs.declared.read_error.Fault.{Fault}
 use Rattle.flow_text.specs.declared.structure.Due.{Due}
 use Rattle.flow_text.specs.declared.structure.Reading.{Reading}
 use Rattle.flow_text.specs.declared.structure.Reading.TheVariants as readings
 use Rattle.flow_text.specs.Numbers.{IsNumber, field}
 use Rattle.flow_text.specs.Forms.{level_text, available_text, fill_text, inside_text, IsAmounts, IsForm, form_of}
 use Rattle.flow_text.specs.Structure as structure
-use Rattle.flow_text.specs.Structure.{◌>>=◌, fault, unless, fault_of_due, fault_of_rows, what_is_due, fault_of_ending}
+use Rattle.flow_text.specs.Structure.{unless, fault_of_due, fault_of_rows, what_is_due, fault_of_ending}
 use Rattle.mc_base.specs.SoundText.{sound_len}
 use Rattle.mc_base.proofs.SoundBytes.{IsSafe, sound_text}
+use Rattle.mc_base.specs.Reading.{◌>>=◌, fault}
+use Rattle.mc_base.proofs.ReadSteps.{step, no_fault}
 use Rattle.flow_text.specs.Text.{IsText, line_len, cuts, line_of, line_at, Read, read_on, ended_at, lines_of}
 use Rattle.flow_text.specs.Run.{run}
 use Rattle.flow_text.specs.Faults.{Begins}
@@ -118,11 +120,6 @@ lines_are lines = Ok lines
 abbrev read_is : Reading → List Line → Result Read Fault
 read_is r lines = Ok (record { reading = r; lines = lines })
 
--- one step of a chain
-then_ok : {A B P : Type 0} (r : Result A Fault) (f : A → Result B Fault) (y : B) → (r >>= f) ≡ Ok y → ((x : A) → r ≡ Ok x → f x ≡ Ok y → P) → P
-then_ok (Err e) f y h k = absurd cc
-then_ok (Ok x) f y h k = k x refl h
-
 -- lines that stand at the front are read so, and reading goes on behind them
 pub front_again : (lines : List Line) (at : ℕ) (bytes : List ℕ) (end : ℕ) (rest : List ℕ) (r next : Reading) (so_far : List Line) → Begins at lines bytes end rest → run r lines ≡ answer next
     → read_on r so_far (cuts at bytes) ≡ read_on next (so_far ++ lines) (cuts end rest)
@@ -130,7 +127,7 @@ unfolding read_on cuts
 front_again [] at bytes end rest r next so_far h e =
     let same : r ≡ next = cc in
     rw (h.0, h.1, append-nil) (ap (λ (x : Reading). read_on x so_far (cuts at bytes)) same)
-front_again (line ∷ lines) at bytes end rest r next so_far h e = then_ok (structure.take r line) _ next e (λ middle taken more.
+front_again (line ∷ lines) at bytes end rest r next so_far h e = step (structure.take r line) _ next e (λ middle taken more.
     let cut = cut_again at h.1 h.2 (printable_form line.form h.1 h.3) in
     let form = form_again line.form h.1 h.3 in
     let deeper = front_again lines (at + length h.1 + 1) h.2 end rest middle next (so_far ++ line ∷ []) h.5 more in
@@ -240,8 +237,8 @@ read_takes zero at (b ∷ bytes) r so_far out le h = absurd (omega arith)
 read_takes (suc n) at (b ∷ bytes) r so_far out le h =
     let shorter : length (drop (suc (line_len (b ∷ bytes))) (b ∷ bytes)) ≤ n = simp length-drop (omega arith) in
     let one = rw (first_line at (b ∷ bytes) (omega arith)) at h in
-    then_ok (line_at r at (take (line_len (b ∷ bytes)) (b ∷ bytes)) (not (eqb (length (drop (line_len (b ∷ bytes)) (b ∷ bytes))) 0))) _ out one (λ l is more.
-    then_ok (structure.take r l) _ out more (λ next taken rest.
+    step (line_at r at (take (line_len (b ∷ bytes)) (b ∷ bytes)) (not (eqb (length (drop (line_len (b ∷ bytes)) (b ∷ bytes))) 0))) _ out one (λ l is more.
+    step (structure.take r l) _ out more (λ next taken rest.
     let t = line_takes r at (take (line_len (b ∷ bytes)) (b ∷ bytes)) _ l is in
     one_line at (b ∷ bytes) r next so_far out l t.0 t.1 t.2 taken (read_takes n (at + line_len (b ∷ bytes) + 1) (drop (suc (line_len (b ∷ bytes))) (b ∷ bytes)) next (so_far ++ l ∷ []) out shorter rest)))
 
@@ -259,14 +256,10 @@ unless_ok : {A : Type 0} (f : Option Fault) (x y : A) → unless f (Ok x) ≡ Ok
 unless_ok None x y h = (refl, cc)
 unless_ok (Some f) x y h = absurd cc
 
-no_fault : {A : Type 0} (b : Bool) (at : ℕ) (r : Result A Fault) (y : A) → cond b (fault at 1) r ≡ Ok y → r ≡ Ok y
-no_fault true at r y h = absurd cc
-no_fault false at r y h = h
-
 pub text_takes : (text : List ℕ) (lines : List Line) → lines_of text ≡ lines_are lines → IsText 0 lines text × (run readings.Opening lines ≡ answer readings.Ended)
 unfolding lines_of
 text_takes text lines h =
-    then_ok (read_on readings.Opening [] (cuts 0 text)) (ended_at (length text)) lines (no_fault (ltb (sound_len text) (length text)) _ _ lines h) (λ out is more.
+    step (read_on readings.Opening [] (cuts 0 text)) (ended_at (length text)) lines (no_fault (ltb (sound_len text) (length text)) _ _ lines h) (λ out is more.
     let e = unless_ok (fault_of_ending out.reading (length text)) out.lines lines more in
     let t = read_takes (length text) 0 text readings.Opening [] out (omega arith) is in
     let same : t.0 ≡ lines = sym t.1 ∙ e.1 in

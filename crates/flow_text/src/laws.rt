@@ -1,7 +1,7 @@
 //! What the reader's functions on lists mean: laws, each the contract of a function without a body.
 
 ghost use Rattle.std.specs.Prelude.{◌≡◌, ℕ, List, [], ◌∷◌, ◌++◌, nat_lt, Ok, Err, Some};
-ghost use Rattle.flow_text.specs.declared.fault.Fault.{Fault};
+ghost use Rattle.mc_base.specs.declared.read_error.Fault.{Fault};
 ghost use Rattle.flow_text.specs.declared.line.Form.{Form};
 ghost use Rattle.flow_text.specs.Forms.{IsForm, form_of};
 ghost use Rattle.flow_text.specs.declared.line.Line.{Line};

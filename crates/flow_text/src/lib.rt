@@ -28,6 +28,3 @@ pub use laws::{
 pub use line::{Form, Line};
 pub use pile::Pile;
 pub use reading::read;
-
-#[cfg(test)]
-mod tests;

@@ -9,8 +9,6 @@ mod content;
 mod laws;
 mod places;
 mod styles;
-#[cfg(test)]
-mod tests;
 
 pub use collapsing::{collapse, is_blank};
 pub use content::{Kind, Piece, RunStyle, Runs};

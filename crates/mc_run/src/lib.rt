@@ -18,8 +18,6 @@ mod answer;
 mod inputs;
 mod rows;
 mod stop;
-#[cfg(test)]
-mod tests;
 mod words;
 
 use mc_base::{Files, Sink};
