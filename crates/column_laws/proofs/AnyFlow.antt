@@ -1,17 +1,17 @@
 -- Columns of any flow of sound data advance, stay small, and hold each item once.
-use Rattle.std.proofs.Common.{◌≡◌, ℕ, ◌<◌, ◌≤◌, ◌^◌, true, List, [], ◌∷◌, ◌++◌, length, Option, Some, None, arith, ◌⊎◌, inl, inr}
+use Rattle.std.proofs.Common.{◌≡◌, ℕ, ◌<◌, ◌≤◌, true, [], ◌∷◌, ◌++◌, length, Option, Some, None, arith, inr}
 use Rattle.std.specs.Prelude.{AllPairs, ◌≢◌, flat_map}
 use Rattle.mc_base.specs.PlainTree.{plain_trees}
 use Rattle.flow_data.specs.declared.data.Flow.{Flow}
 use Rattle.flow_data.specs.declared.data.FlowsData.{FlowsData}
 use Rattle.flow_data.specs.Flows.{flow_of, no_flow}
 use Rattle.flow_data.specs.Soundness.{IsSound}
-use Rattle.flow_list.specs.Tokens.{Token, item_number, is_end}
+use Rattle.flow_list.specs.Tokens.{Token, item_number, is_end, IsPlaceBefore}
 use Rattle.flow_list.specs.Column.{steps_from}
 use Rattle.flow_list.specs.Rows.{end_of, left_in, reach, rows_to, all_rows}
 use Rattle.flow_list.specs.RowHeights.{column_within}
 use Rattle.flow_list.specs.Fragments.{fragments_from}
-use Rattle.flow_laws.specs.Progress.{IsPlaceBefore, contents_to}
+use Rattle.flow_laws.specs.Progress.{contents_to}
 use Rattle.flow_laws.specs.Holding.{atoms_in_tree, atoms_in_trees, parts_in_tree, parts_between, row_of_part}
 use Rattle.flow_laws.proofs.Advance.{Later}
 use Rattle.flow_laws.proofs.Holding.{flow-atoms, flow-columns, flow-parts, flow-rows-once}
@@ -19,7 +19,7 @@ use Rattle.flow_laws.proofs.Needs.{column-steps}
 use Rattle.flow_laws.proofs.Places.{in-items}
 use Rattle.flow_laws.proofs.RowsAdvance.{columns-end, flow-advances}
 use Rattle.flow_laws.proofs.Small.{within-reach, needs-small, needs-rise, loose-reach, extent-le}
-use Rattle.column_laws.specs.AnyFlow.{atoms_of_flow, flow_fragment, flow_columns, IsLaterIn, FlowAdvances, FlowIsSmall, FlowHolds, FlowIsSound}
+use Rattle.column_laws.specs.AnyFlow.{atoms_of_flow, flow_fragment, flow_columns, IsLaterIn, FlowAdvances, FlowIsSmall, FlowIsSound}
 use Rattle.column_laws.proofs.Bounds.{reach-small, bounds-small}
 
 module _ (d : FlowsData) (sound : IsSound d) (f : ℕ) (lt : f < length d.flows) where

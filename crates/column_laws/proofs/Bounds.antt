@@ -1,7 +1,7 @@
 -- The bounds of a column are no more than all that stands in its flow, with what stands in the rows within it: also those of fills.
 use Rattle.std.proofs.Common.{◌≡◌, ℕ, zero, suc, ◌+◌, ◌-◌, ◌^◌, ◌==◌, ◌<◌, ◌≤◌, ◌∙◌, Bool, true, false, cond, ◌&&◌, List, [], ◌∷◌, ◌++◌, map, length, get_or, Option, Some, None, refl, sym, subst, ap, arith, sum_by, ◌⊎◌, inl, inr}
-use Rattle.std.specs.Prelude.{nat_lt, All}
-use Rattle.std.specs.List.{flat_map, AllByRecursion as Each}
+use Rattle.std.specs.Prelude.{nat_lt}
+use Rattle.std.specs.List.{AllByRecursion as Each}
 use Rattle.std.proofs.lemmas.Bool.{cases_lt}
 use Rattle.std.proofs.lemmas.List.{length-map}
 use Rattle.std.proofs.lemmas.List.Sums.{sum_by-append}
@@ -12,14 +12,14 @@ use Rattle.flow_data.specs.declared.data.Item.TheVariants.{Atom, Row}
 use Rattle.flow_data.specs.declared.data.RowInfo.{RowInfo}
 use Rattle.flow_data.specs.declared.data.Stack.{Stack}
 use Rattle.flow_data.specs.Flows.{row_of, flow_of, flow_in, stack_of, item_of, seam_of, rows_in, boxes_in, open_at, no_row, no_stack}
-use Rattle.flow_data.specs.Soundness.{IsSound, NestsAtMost, count_of, flow_owners, flow_height}
+use Rattle.flow_data.specs.Soundness.{IsSound, count_of, flow_owners, flow_height}
 use Rattle.flow_data.proofs.BoxSums.{open_at-le}
 use Rattle.flow_data.proofs.OpenBoxes.{some-index}
-use Rattle.flow_list.specs.ClonedEdges.{open_across, tops, bottoms}
+use Rattle.flow_list.specs.ClonedEdges.{open_across, bottoms}
 use Rattle.flow_list.specs.Strip.{Strip, put, lay_all}
 use Rattle.flow_list.specs.Tokens.{Token, row_start, item_number, within, is_end}
-use Rattle.flow_list.specs.Column.{Column, Inner, Step, cut, step_at, steps, strip_behind, steps_from, start_strip, row_from, is_forced, height_of, room, is_cut, fill_in_room, bounds_at, column, column_up_to, avoids_at}
-use Rattle.flow_list.specs.Rows.{columns, columns_by, up_to, fill_in, filled_by, to_overflow, rows_to, all_rows, reach}
+use Rattle.flow_list.specs.Column.{Column, Inner, Step, cut, steps, strip_behind, steps_from, start_strip, row_from, is_forced, height_of, room, is_cut, fill_in_room, bounds_at, column, column_up_to, avoids_at}
+use Rattle.flow_list.specs.Rows.{columns, columns_by, up_to, fill_in, rows_to, all_rows, reach}
 use Rattle.flow_list.specs.Ranges.{bounds_of}
 use Rattle.flow_list.proofs.Fitting.{open_across-le, strip-start}
 use Rattle.flow_list.proofs.PlaceBounds.{Each-append}
@@ -47,8 +47,8 @@ module _ (inner : Inner) (d : FlowsData) (f : Flow) (total : ℕ → ℕ) (sizes
   -- what an item needs, and where its row would end with all that stands in it
   record IsUnder (s : Step) : Type 0 where
     need : s.need ≤ top
-    cut : s.x + s.feet + s.height ≤ top
-    row : (u : ℕ × Token) → s.row ≡ Some u → s.x + s.feet + total u.0 ≤ top
+    cut : s.y + s.bottoms + s.height ≤ top
+    row : (u : ℕ × Token) → s.row ≡ Some u → s.y + s.bottoms + total u.0 ≤ top
 
   height-share : (item : Item) (q : Token) → height_of inner item q ≤ item_share total item
   height-share (Atom height kind) q = omega arith
@@ -95,17 +95,17 @@ module _ (inner : Inner) (d : FlowsData) (f : Flow) (total : ℕ → ℕ) (sizes
     stop-bounds : (h : ℕ) (s : Step) (row : Option (ℕ × Token)) → s.row ≡ row → IsUnder s → NoMore top (bounds_at s h (fill_in_room inner row (room s h)))
     stop-bounds h s None is under = (under.need, tt)
     stop-bounds h s (Some u) is under =
-        (under.need, no-more-both top (cond (nat_lt 0 s.height && nat_lt h (s.x + s.feet)) ((s.x + s.feet) ∷ []) []) (cond (is_cut s h) inside []) (begins (nat_lt 0 s.height && nat_lt h (s.x + s.feet))) (cuts (is_cut s h)))
+        (under.need, no-more-both top (cond (nat_lt 0 s.height && nat_lt h (s.y + s.bottoms)) ((s.y + s.bottoms) ∷ []) []) (cond (is_cut s h) inside []) (begins (nat_lt 0 s.height && nat_lt h (s.y + s.bottoms))) (cuts (is_cut s h)))
       where
         inside : List ℕ
-        inside = (s.x + s.feet + s.height) ∷ map (λ b. s.x + s.feet + b) (inner.fill u.0 u.1 (room s h)).bounds
+        inside = (s.y + s.bottoms + s.height) ∷ map (λ b. s.y + s.bottoms + b) (inner.fill u.0 u.1 (room s h)).bounds
 
-        begins : (b : Bool) → NoMore top (cond b ((s.x + s.feet) ∷ []) [])
+        begins : (b : Bool) → NoMore top (cond b ((s.y + s.bottoms) ∷ []) [])
         begins true = let c = under.cut in (omega arith, tt)
         begins false = tt
 
         cuts : (b : Bool) → NoMore top (cond b inside [])
-        cuts true = (under.cut, shifted (s.x + s.feet) (total u.0) top (inner.fill u.0 u.1 (room s h)).bounds (under.row u is) (fills u.0 u.1 (room s h)))
+        cuts true = (under.cut, shifted (s.y + s.bottoms) (total u.0) top (inner.fill u.0 u.1 (room s h)).bounds (under.row u is) (fills u.0 u.1 (room s h)))
         cuts false = tt
 
     up-to-bounds : (avoids : ℕ → Bool) (h : ℕ) (before : List Step) (stop : Option Step) → OfStop IsUnder stop → NoMore top (column_up_to inner avoids h before stop).bounds

@@ -1,24 +1,23 @@
 -- Places have few numbers, and there are few columns.
-use Rattle.std.proofs.Common.{◌≡◌, ℕ, zero, suc, ◌+◌, ◌-◌, ◌*◌, ◌<◌, ◌≤◌, ◌^◌, Bool, true, false, not, ◌&&◌, List, [], ◌∷◌, ◌++◌, length, get_or, Option, Some, None, refl, sym, subst, ◌∙◌, ap, arith, ◌⊎◌, inl, inr, mul-le-mul_left, mul-one}
-use Rattle.std.specs.Prelude.{nat_le, All}
+use Rattle.std.proofs.Common.{◌≡◌, ℕ, zero, suc, ◌-◌, ◌*◌, ◌<◌, ◌≤◌, true, false, not, ◌&&◌, [], ◌∷◌, length, get_or, Option, Some, sym, ◌∙◌, ap, arith, ◌⊎◌, inl, inr, mul-le-mul_left, mul-one}
+use Rattle.std.specs.Prelude.{nat_le}
 use Rattle.std.specs.List.{list_any}
 use Rattle.std.proofs.lemmas.Bool.{cases_lt}
 use Rattle.flow_data.specs.declared.data.Flow.{Flow}
 use Rattle.flow_data.specs.declared.data.FlowsData.{FlowsData}
-use Rattle.flow_data.specs.declared.data.Item.TheVariants.{Row}
-use Rattle.flow_data.specs.Flows.{row_of, flow_of, flow_in, item_of, rows_in, no_row}
-use Rattle.flow_data.specs.Soundness.{IsSound, NestsAtMost, item_total}
-use Rattle.flow_list.specs.Tokens.{Token, item_number, within, is_end}
-use Rattle.flow_list.specs.Column.{Column, column}
-use Rattle.flow_list.specs.Rows.{columns, columns_by, end_of, fails, most_columns, fits, left_in, rows_to, all_rows}
+use Rattle.flow_data.specs.Flows.{row_of, flow_in, rows_in, no_row}
+use Rattle.flow_data.specs.Soundness.{IsSound, NestsAtMost}
+use Rattle.flow_list.specs.Tokens.{Token, item_number, within, is_end, IsPlaceBefore}
+use Rattle.flow_list.specs.Column.{column}
+use Rattle.flow_list.specs.Rows.{end_of, fails, most_columns, fits, left_in, rows_to, all_rows}
 use Rattle.flow_list.specs.RowHeights.{column_within}
 use Rattle.flow_list.specs.Certificate.{columns_from}
 use Rattle.flow_list.specs.Fragments.{column_fragment, fragments_from, row_fragments}
-use Rattle.flow_laws.specs.Progress.{IsPlaceBefore, first_columns, IsLater}
+use Rattle.flow_laws.specs.Progress.{first_columns, IsLater}
 use Rattle.flow_laws.proofs.HeldSums.{count_in, row-count, counts-le, items-part}
 use Rattle.flow_laws.proofs.RowsAdvance.{column-is-later, fill-is-later, columns-reach}
 use Rattle.flow_laws.proofs.SoundRows.{rows-of-data, some-column, nests-by-number}
-use Rattle.flow_laws.proofs.Totals.{up, row_total, total-more, total-same, total-up}
+use Rattle.flow_laws.proofs.Totals.{row_total, total-more, total-same, total-up}
 use Rattle.column_laws.specs.Following.{columns_of_fills, fragments_of_fills}
 use Rattle.column_laws.specs.Counting.{PlacesAreShort, ColumnsAreFew}
 use Rattle.column_laws.proofs.Depths.{fragments-are}

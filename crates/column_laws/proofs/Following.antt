@@ -1,7 +1,7 @@
 -- Columns one after another, and what is told of them.
-use Rattle.std.proofs.Common.{◌≡◌, ℕ, zero, suc, ◌+◌, ◌-◌, ◌*◌, ◌<◌, ◌≤◌, max, min, Bool, true, false, cond, not, ◌||◌, ◌&&◌, List, [], ◌∷◌, ◌++◌, length, Option, Some, None, refl, sym, subst, ◌∙◌, ap, arith, ◌⊎◌, inl, inr, zero-add, length-append, zero-mul, suc-mul, add_comm, append_assoc}
-use Rattle.std.specs.Prelude.{fold, nat_lt, nat_le}
-use Rattle.std.specs.List.{list_any, flat_map}
+use Rattle.std.proofs.Common.{◌≡◌, ℕ, zero, suc, ◌+◌, ◌-◌, ◌*◌, ◌<◌, ◌≤◌, max, min, Bool, true, false, cond, not, ◌||◌, ◌&&◌, List, [], ◌∷◌, ◌++◌, length, Option, Some, refl, sym, subst, ◌∙◌, ap, arith, ◌⊎◌, inl, inr, zero-add, length-append, zero-mul, suc-mul, add_comm}
+use Rattle.std.specs.Prelude.{fold, nat_le}
+use Rattle.std.specs.List.{list_any}
 use Rattle.std.proofs.lemmas.Bool.{cases_lt}
 use Rattle.std.proofs.lemmas.Bool.Decides.{nat_tests}
 use Rattle.std.proofs.lemmas.List.{append-nil}
@@ -15,7 +15,7 @@ use Rattle.flow_data.specs.Flows.{row_of, flow_in}
 use Rattle.flow_list.specs.Tokens.{Token, is_end}
 use Rattle.flow_list.specs.Column.{Column, ColumnLine, Inner, column}
 use Rattle.flow_list.specs.Rows.{columns, columns_by, end_of, fails, reach_end, most_columns, fits, up_to, to_overflow}
-use Rattle.flow_list.specs.RowHeights.{is_unforced, greatest_extent}
+use Rattle.flow_list.specs.RowHeights.{is_unforced}
 use Rattle.flow_list.specs.Ranges.{judged, to_failure, bounds_of, lines_of}
 use Rattle.flow_list.specs.Fragments.{fragments_from}
 use Rattle.flow_list.specs.Folds.{Folded, shortage, folded_by}

@@ -1,16 +1,16 @@
 -- Breaks stay constant below what a shortage adds to a height.
-use Rattle.std.proofs.Common.{◌≡◌, ℕ, zero, suc, ◌+◌, ◌-◌, ◌<◌, ◌≤◌, max, min, Bool, true, false, cond, not, ◌||◌, ◌&&◌, List, [], ◌∷◌, ◌++◌, length, Option, Some, None, refl, sym, subst, ◌∙◌, ap, arith}
+use Rattle.std.proofs.Common.{◌≡◌, ℕ, ◌-◌, ◌<◌, ◌≤◌, min, Bool, true, false, cond, not, ◌||◌, ◌&&◌, List, [], ◌∷◌, length, refl, sym, subst, ◌∙◌, ap, arith}
 use Rattle.std.specs.Prelude.{fold, nat_lt}
-use Rattle.std.specs.List.{list_any, flat_map}
+use Rattle.std.specs.List.{list_any}
 use Rattle.flow_data.specs.declared.data.Flow.{Flow}
 use Rattle.flow_data.specs.declared.data.FlowsData.{FlowsData}
 use Rattle.flow_list.specs.Tokens.{Token, is_end}
 use Rattle.flow_list.specs.Column.{Column, Inner, column}
-use Rattle.flow_list.specs.Rows.{columns, end_of, fails, reach_end, up_to, to_overflow, filled_by, rows_to}
+use Rattle.flow_list.specs.Rows.{columns, end_of, fails, reach_end, to_overflow, rows_to}
 use Rattle.flow_list.specs.RowHeights.{is_unforced}
 use Rattle.flow_list.specs.Ranges.{to_failure, bounds_of}
 use Rattle.flow_list.specs.Folds.{Folding, every, fitting, shortage, folded_by, columns_made}
-use Rattle.flow_laws.specs.Constant.{IsBelowEach, ColumnStays, ColumnsStay, FillsStay}
+use Rattle.flow_laws.specs.Constant.{IsBelowEach, ColumnsStay, FillsStay}
 use Rattle.flow_laws.proofs.RowsStay.{column-stays, StayUpTo, none, ends, more, cons-stay, columns-stay, lines-stay, any-stays, end-stays, level-stays, each-stays, overflows, overflow-kept, fails-kept, fails-fine, rows_to-stay}
 use Rattle.column_laws.specs.Staying.{IsShortOf, FoldStays, ShortagesHold}
 

@@ -1,5 +1,5 @@
 -- What is so of all rows that stand in a flow, and of the uses of their fills, is so of all uses of the flow's columns.
-use Rattle.std.proofs.Common.{◌≡◌, ℕ, zero, suc, ◌+◌, ◌-◌, ◌==◌, ◌<◌, ◌≤◌, Bool, true, false, cond, List, [], ◌∷◌, ◌++◌, length, get_or, refl, subst, arith, Option, Some, None}
+use Rattle.std.proofs.Common.{◌≡◌, ℕ, zero, suc, ◌+◌, ◌-◌, ◌==◌, ◌≤◌, Bool, true, false, cond, List, [], ◌∷◌, ◌++◌, length, get_or, refl, subst, arith, Option, Some, None}
 use Rattle.std.specs.Prelude.{nat_lt, All}
 use Rattle.std.specs.List.{flat_map, AllByRecursion as Each}
 use Rattle.flow_data.specs.declared.data.Flow.{Flow}

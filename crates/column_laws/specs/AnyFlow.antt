@@ -1,18 +1,18 @@
 -- What is true of the flow of each row is true of any flow of the data, also of those of stacks: columns advance, all that is computed stays
 -- small, and fragments hold each item once (CSS Fragmentation 3, sections 2 and 4.5; the bounds are this project's own).
-use Rattle.std.specs.Prelude.{◌≡◌, ℕ, ◌<◌, ◌≤◌, ◌^◌, true, List, [], ◌∷◌, ◌++◌, length, flat_map, Option, AllPairs, ◌≢◌, ◌⊎◌}
+use Rattle.std.specs.Prelude.{◌≡◌, ℕ, ◌<◌, ◌≤◌, ◌^◌, true, List, ◌++◌, length, flat_map, Option, AllPairs, ◌≢◌}
 use Rattle.std.specs.List.{AllByRecursion as Each}
 use Rattle.mc_base.specs.PlainTree.{PlainTree, plain_trees}
 use Rattle.flow_data.specs.declared.data.Flow.{Flow}
 use Rattle.flow_data.specs.declared.data.FlowsData.{FlowsData}
 use Rattle.flow_data.specs.Flows.{flow_of}
-use Rattle.flow_list.specs.Tokens.{Token, is_end}
+use Rattle.flow_list.specs.Tokens.{Token, is_end, IsPlaceBefore, IsPlace}
 use Rattle.flow_list.specs.Column.{Column, column, steps_from, loose_need}
 use Rattle.flow_list.specs.Rows.{columns_by, end_of, left_in, reach, all_rows}
 use Rattle.flow_list.specs.RowHeights.{column_within}
 use Rattle.flow_list.specs.Fragments.{fragment_of, fragments_from, row_fragments}
 use Rattle.flow_laws.specs.Bounds.{NeedsRise, NeedsAreSmall}
-use Rattle.flow_laws.specs.Progress.{IsPlaceBefore, AtomAt, EndsWith, atoms_in, contents_to}
+use Rattle.flow_laws.specs.Progress.{AtomAt, EndsWith, atoms_in, contents_to}
 use Rattle.flow_laws.specs.Holding.{atoms_in_tree, atoms_in_trees, parts_in_tree, parts_between, row_of_part}
 
 -- the atoms in a flow from a place on, in order, with those in the rows within it; the flow's own are told as those of row r
@@ -30,7 +30,7 @@ flow_columns d f n t h = columns_by (column_within d (flow_of d f) h) (flow_of d
 -- place u of a flow comes after place t: it is the end or a place before it, fewer items are left there, and the atoms from it on are the last
 -- ones of those from t on
 pub record IsLaterIn (d : FlowsData) (f : Flow) (t u : Token) : Type 0 where
-  pub place : (u ≡ length f.items ∷ []) ⊎ IsPlaceBefore d f u
+  pub place : IsPlace d f u
   pub fewer : left_in (all_rows d) f u < left_in (all_rows d) f t
   pub rest : (r : ℕ) → EndsWith (atoms_of_flow d r f u) (atoms_of_flow d r f t)
 

@@ -1,17 +1,16 @@
 -- How long places are, and how many columns there are, in sound data; so all columns of a row, its fills one after another, and the heights
 -- that fit it (this project's own: the limits are).
-use Rattle.std.specs.Prelude.{◌≡◌, ℕ, suc, ◌<◌, ◌≤◌, ◌^◌, ◌&&◌, not, length, nat_le, Option, Some}
+use Rattle.std.specs.Prelude.{◌≡◌, ℕ, ◌<◌, ◌≤◌, ◌^◌, ◌&&◌, not, length, nat_le, Option, Some}
 use Rattle.std.specs.List.{list_any}
 use Rattle.flow_data.specs.declared.data.FlowsData.{FlowsData}
 use Rattle.flow_data.specs.Flows.{row_of, flow_in}
 use Rattle.flow_data.specs.Soundness.{NestsAtMost}
-use Rattle.flow_list.specs.Tokens.{Token}
+use Rattle.flow_list.specs.Tokens.{Token, IsPlaceBefore}
 use Rattle.flow_list.specs.Rows.{fails, most_columns, fits, left_in, all_rows}
 use Rattle.flow_list.specs.RowHeights.{column_within}
-use Rattle.flow_list.specs.Placing.{RowLaid}
 use Rattle.flow_list.specs.Certificate.{columns_from}
 use Rattle.flow_list.specs.Fragments.{column_fragment, row_fragments}
-use Rattle.flow_laws.specs.Progress.{IsPlaceBefore, first_columns}
+use Rattle.flow_laws.specs.Progress.{first_columns}
 use Rattle.column_laws.specs.Following.{columns_of_fills, fragments_of_fills}
 
 -- The law: a place in a row of which at most n stand one inside another has n numbers at most.

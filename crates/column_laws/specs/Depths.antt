@@ -1,8 +1,7 @@
 -- How many rows stand one inside another doesn't matter, once it is counted deep enough, to fragments, to the sizes that lines rest on, to the
 -- content of rows and to what is entered in a book either (this project's own: each of these is defined by recursion on a depth).
-use Rattle.std.specs.Prelude.{◌≡◌, ℕ, ◌<◌, ◌≤◌, List, length, Option}
+use Rattle.std.specs.Prelude.{◌≡◌, ℕ, ◌<◌, ◌≤◌, List, length}
 use Rattle.std.specs.List.{AllByRecursion as Each}
-use Rattle.mc_base.specs.PlainTree.{PlainTree}
 use Rattle.flow_data.specs.declared.data.FlowsData.{FlowsData}
 use Rattle.flow_data.specs.Flows.{row_of, flow_in}
 use Rattle.flow_data.specs.Soundness.{NestsAtMost}

@@ -8,7 +8,7 @@ use Rattle.flow_data.specs.declared.data.FlowsData.{FlowsData}
 use Rattle.flow_data.specs.Flows.{row_of, flow_in}
 use Rattle.flow_list.specs.Tokens.{Token, is_end}
 use Rattle.flow_list.specs.Column.{Column, Inner}
-use Rattle.flow_list.specs.Rows.{columns, columns_by, end_of, fails, reach_end, most_columns, fits, left_in, all_rows}
+use Rattle.flow_list.specs.Rows.{columns, columns_by, end_of, fails, reach_end, most_columns, fits}
 use Rattle.flow_list.specs.Ranges.{judged, to_failure}
 use Rattle.flow_list.specs.Fragments.{fragments_from}
 use Rattle.flow_list.specs.Folds.{Folded, folded_by}

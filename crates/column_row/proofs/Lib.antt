@@ -2,4 +2,4 @@ pub mod ColumnLoops
 pub mod ColumnWalk
 pub mod Passages
 pub mod RowColumns
-pub mod Rejected
+pub mod HeightsBelow

@@ -5,7 +5,8 @@ ghost use Rattle.flow_list.specs.Atoms.{HoldsAtoms};
 ghost use Rattle.flow_list.specs.Column.{better_place, column, is_forced, place_in, rank};
 ghost use Rattle.flow_data.specs.Flows.{flow_of};
 ghost use Rattle.flow_list.specs.Rows.{all_rows};
-ghost use Rattle.column_row.specs.Ending.{IsAcross, IsBelow, considered, place_of, place_opt};
+ghost use Rattle.column_row.specs.Ending.{IsAcross, considered, place_of, place_opt};
+ghost use Rattle.flow_list.specs.Ranges.{IsBelow};
 
 use crate::cloned::Cloned;
 use crate::passing::{Beginning, before_first, past_head, past_item};

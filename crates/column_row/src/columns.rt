@@ -4,10 +4,11 @@ ghost use Rattle.std.specs.Prelude.{ℕ, ◌≡◌, ◌+◌, ◌<◌, ◌≤◌,
 ghost use Rattle.std.specs.List.{list_any};
 ghost use Rattle.flow_list.specs.Atoms.{HoldsAtoms};
 ghost use Rattle.flow_data.specs.Flows.{flow_in, flow_of, row_of};
-ghost use Rattle.flow_list.specs.RowHeights.{before_items, ends_of, greatest_extent, is_unforced};
+ghost use Rattle.flow_list.specs.RowHeights.{before_items, ends_of, greatest_extent, is_unforced, any_unforced};
 ghost use Rattle.flow_list.specs.Rows.{all_rows, columns, most_columns as most_of, reach_end};
 ghost use Rattle.flow_list.specs.Tokens.{row_start};
-ghost use Rattle.column_row.specs.Ending.{IsAcross, IsBelow, any_unforced};
+ghost use Rattle.column_row.specs.Ending.{IsAcross};
+ghost use Rattle.flow_list.specs.Ranges.{IsBelow};
 
 use crate::cloned::Cloned;
 use crate::column::{Ending, column_at, is_forced_at};

@@ -3,9 +3,8 @@
 ghost use Rattle.std.specs.Prelude.{◌≡◌, ◌<◌, IfOk, Some, false, length, true};
 ghost use Rattle.flow_list.specs.Atoms.{HoldsAtoms};
 ghost use Rattle.flow_data.specs.Flows.{flow_in, row_of};
-ghost use Rattle.flow_list.specs.RowHeights.{balanced_height, before_items, columns_of_row, ends_of, greatest_extent, height_fits, row_columns, row_height, size_of};
+ghost use Rattle.flow_list.specs.RowHeights.{balanced_height, before_items, columns_of_row, ends_of, greatest_extent, height_fits, row_columns, row_height, size_of, any_unforced, filled_to, is_all_of, items_of, fill_limit};
 ghost use Rattle.flow_list.specs.Tokens.{row_start};
-ghost use Rattle.column_row.specs.Ending.{any_unforced, filled_to, is_all_of, items_of, limit};
 
 use crate::bounds::first_height;
 use crate::columns::{Made, columns_at, most_columns, try_height};
@@ -137,7 +136,7 @@ fn balanced_row(
 
 /// The height of the columns of a row with `column-fill: auto`: what is available, or more than any column needs.
 fn limit_of(available: Option<Units>) -> Units
-    ensures { result ≡ limit available }
+    ensures { result ≡ fill_limit available }
 {
     match available {
         None => Units::MAX,

@@ -200,6 +200,7 @@ pub record IsSound (d : FlowsData) : Type 0 where
   pub row_count : length d.rows < 2 ^ 32
   pub box_count : length d.boxes < 2 ^ 32
   pub stack_count : length d.stacks < 2 ^ 32
+  pub some_stack : 0 < length d.stacks
   pub flows : All (IsSoundFlow d) d.flows
   pub rows : All (IsSoundRow d) d.rows
   pub boxes : All (λ (b : BoxInfo). (b.x < 2 ^ 60) × (b.w < 2 ^ 60)) d.boxes

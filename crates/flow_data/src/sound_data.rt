@@ -23,7 +23,7 @@ const TOO_MANY: usize = 1 << 32;
 ///
 /// Data is sound where all of this is so:
 ///
-/// - There are fewer than 2^32 flows, rows, boxes and stacks. Each number names one that is there.
+/// - There are fewer than 2^32 flows, rows, boxes and stacks, and at least one stack. Each number names one that is there.
 /// - A flow has fewer than 2^32 items, and one seam more than items. Boxes start in heads and end in tails.
 /// - No box stands twice in one flow: boxes that are open at its start, and those that start in it, are all different.
 ///   They are well nested, and none of them is empty there.
@@ -43,7 +43,7 @@ const TOO_MANY: usize = 1 << 32;
 pub fn sound(alloc: Global, parts: &FlowsData) -> Result<bool, NoMemory>
     ensures { IfOk result (λ found. (found ≡ true) ↔ IsSound parts.now) }
 {
-    if !are_few(parts) {
+    if !has_such_counts(parts) {
         return Ok(false);
     }
     if !are_in_range(parts) {
@@ -64,13 +64,16 @@ pub fn sound(alloc: Global, parts: &FlowsData) -> Result<bool, NoMemory>
     fits_across(alloc, parts)
 }
 
-fn are_few(parts: &FlowsData) -> bool
-    ensures { (result ≡ true) ↔ ((length parts.now.flows < 2 ^ 32) × (length parts.now.rows < 2 ^ 32) × (length parts.now.boxes < 2 ^ 32) × (length parts.now.stacks < 2 ^ 32)) }
+/// Whether there are fewer than 2^32 flows, rows, boxes and stacks, and a stack.
+fn has_such_counts(parts: &FlowsData) -> bool
+    ensures { (result ≡ true) ↔ ((length parts.now.flows < 2 ^ 32) × (length parts.now.rows < 2 ^ 32) × (length parts.now.boxes < 2 ^ 32)
+        × (length parts.now.stacks < 2 ^ 32) × (0 < length parts.now.stacks)) }
 {
     parts.flows.len() < TOO_MANY
         && parts.rows.len() < TOO_MANY
         && parts.boxes.len() < TOO_MANY
         && parts.stacks.len() < TOO_MANY
+        && !parts.stacks.is_empty()
 }
 
 fn are_in_range(parts: &FlowsData) -> bool

@@ -8,11 +8,11 @@ use Rattle.flow_data.specs.declared.data.FlowsData.{FlowsData}
 use Rattle.flow_data.specs.declared.data.Item.{Item}
 use Rattle.flow_data.specs.declared.data.Item.TheVariants.{Atom, Row}
 use Rattle.flow_data.specs.Flows.{flow_in, item_of, seam_of, no_item}
-use Rattle.flow_list.specs.Tokens.{Token, row_start, item_number, within}
+use Rattle.flow_list.specs.Tokens.{Token, row_start, item_number, within, IsPlaceBefore}
 use Rattle.flow_list.specs.Strip.{Strip, lay_all}
 use Rattle.flow_list.specs.Column.{Filled, Inner, Step, Place, Cut, cut, longer, steps, steps_from, start_strip, strip_behind, is_forced, row_from, fill_in_room, room, seams_before, seams_between, inside, inside_place, alone_place, whole_place, is_cut, best, choose, last_place, no_place, column, column_over, column_up_to, avoids_at, endless_column}
 use Rattle.flow_list.specs.Rows.{item_left, items_left, left_in}
-use Rattle.flow_laws.specs.Progress.{IsPlaceBefore, AtomAt, Contents, item_atoms, atoms_of_items, atoms_in, EndsWith}
+use Rattle.flow_laws.specs.Progress.{AtomAt, Contents, item_atoms, atoms_of_items, atoms_in, EndsWith}
 use Rattle.flow_laws.proofs.Places.{in-items, some-left, IsReached, start-reached}
 
 -- ---- what is left of a list of items

@@ -29,12 +29,12 @@ module _ (inner : Inner) (above : FillsAbove inner) where
   stop-above : (h : ℕ) (s : Step) (row : Option (ℕ × Token)) → h < s.need → IsBelowEach h (bounds_at s h (fill_in_room inner row (room s h)))
   stop-above h s None lt = (lt, tt)
   stop-above h s (Some row) lt =
-      (lt, below-append h (cond (nat_lt 0 s.height && nat_lt h (s.x + s.feet)) ((s.x + s.feet) ∷ []) []) (cond (is_cut s h) within []) (place (nat_lt 0 s.height && nat_lt h (s.x + s.feet)) refl) (inside (is_cut s h) refl))
+      (lt, below-append h (cond (nat_lt 0 s.height && nat_lt h (s.y + s.bottoms)) ((s.y + s.bottoms) ∷ []) []) (cond (is_cut s h) within []) (place (nat_lt 0 s.height && nat_lt h (s.y + s.bottoms)) refl) (inside (is_cut s h) refl))
     where
       within : List ℕ
-      within = (s.x + s.feet + s.height) ∷ map (λ b. s.x + s.feet + b) (inner.fill row.0 row.1 (room s h)).bounds
+      within = (s.y + s.bottoms + s.height) ∷ map (λ b. s.y + s.bottoms + b) (inner.fill row.0 row.1 (room s h)).bounds
 
-      place : (b : Bool) → (nat_lt 0 s.height && nat_lt h (s.x + s.feet)) ≡ b → IsBelowEach h (cond b ((s.x + s.feet) ∷ []) [])
+      place : (b : Bool) → (nat_lt 0 s.height && nat_lt h (s.y + s.bottoms)) ≡ b → IsBelowEach h (cond b ((s.y + s.bottoms) ∷ []) [])
       place true e = (above-place s h e, tt)
       place false e = tt
 
@@ -42,7 +42,7 @@ module _ (inner : Inner) (above : FillsAbove inner) where
       inside true e =
           let from = cut-from s h e in
           let lack = cut-room s h e in
-          (omega arith, shifted-above h (s.x + s.feet) (room s h) (inner.fill row.0 row.1 (room s h)).bounds (omega arith) (above row.0 row.1 (room s h)))
+          (omega arith, shifted-above h (s.y + s.bottoms) (room s h) (inner.fill row.0 row.1 (room s h)).bounds (omega arith) (above row.0 row.1 (room s h)))
       inside false e = tt
 
   -- the stop needs more than there is

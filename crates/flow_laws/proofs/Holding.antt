@@ -9,13 +9,13 @@ use Rattle.flow_data.specs.declared.data.Item.{Item}
 use Rattle.flow_data.specs.declared.data.Item.TheVariants.{Row}
 use Rattle.flow_data.specs.Flows.{row_of, flow_of, flow_in, item_of, no_row}
 use Rattle.flow_data.specs.Soundness.{IsSound}
-use Rattle.flow_list.specs.Tokens.{Token, row_start, item_number, within}
+use Rattle.flow_list.specs.Tokens.{Token, row_start, item_number, within, IsPlaceBefore}
 use Rattle.flow_list.specs.Column.{Column, Inner}
 use Rattle.flow_list.specs.Rows.{columns_by, end_of, left_in, rows_to, all_rows}
 use Rattle.flow_list.specs.RowHeights.{column_within, row_columns}
 use Rattle.flow_list.specs.Placing.{RowLaid}
 use Rattle.flow_list.specs.Fragments.{column_made, fragment_of, column_fragment, fragments_from, row_fragments}
-use Rattle.flow_laws.specs.Progress.{first_columns, IsPlaceBefore, AtomAt, Contents, atoms_in, contents_to, atoms_from, atoms_between}
+use Rattle.flow_laws.specs.Progress.{first_columns, AtomAt, Contents, atoms_in, contents_to, atoms_from, atoms_between}
 use Rattle.flow_laws.specs.Holding.{atoms_in_tree, atoms_in_trees, Part, parts_in_tree, items_before, parts_between, row_of_part, FragmentsHoldEachItem}
 use Rattle.flow_laws.proofs.Places.{in-items, IsReached, start-reached}
 use Rattle.flow_laws.proofs.HoldingEnds.{taken}

@@ -10,12 +10,12 @@ use Rattle.flow_data.specs.declared.data.FlowsData.{FlowsData}
 use Rattle.flow_data.specs.declared.data.Item.{Item}
 use Rattle.flow_data.specs.declared.data.Item.TheVariants.{Atom, Row}
 use Rattle.flow_data.specs.Flows.{flow_in, item_of, no_item}
-use Rattle.flow_list.specs.Tokens.{Token, row_start, item_number, within, is_end}
+use Rattle.flow_list.specs.Tokens.{Token, row_start, item_number, within, is_end, IsPlaceBefore}
 use Rattle.flow_list.specs.Column.{Inner, Step, room}
 use Rattle.flow_list.specs.Rows.{item_left, items_left, left_in}
 use Rattle.flow_list.specs.Placing.{RowLaid}
 use Rattle.flow_list.specs.Fragments.{continuing, laid_start, laid_to, stop_of, column_made, fragment_of}
-use Rattle.flow_laws.specs.Progress.{IsPlaceBefore, AtomAt, Contents, item_atoms, atoms_of_items, atoms_in}
+use Rattle.flow_laws.specs.Progress.{AtomAt, Contents, item_atoms, atoms_of_items, atoms_in}
 use Rattle.flow_laws.specs.Holding.{atoms_in_tree, atoms_in_trees}
 use Rattle.flow_laws.proofs.Places.{in-items, IsReached, start-reached}
 use Rattle.flow_laws.proofs.HoldingTrees.{Reads, column-reads}

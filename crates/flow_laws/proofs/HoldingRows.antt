@@ -10,12 +10,12 @@ use Rattle.flow_data.specs.declared.data.Item.{Item}
 use Rattle.flow_data.specs.declared.data.Item.TheVariants.{Atom, Row}
 use Rattle.flow_data.specs.Flows.{row_of, flow_of, flow_in, row_in, rows_in, no_item, no_row}
 use Rattle.flow_data.specs.Soundness.{IsSound}
-use Rattle.flow_list.specs.Tokens.{Token, item_number, within, is_end}
+use Rattle.flow_list.specs.Tokens.{Token, item_number, within, is_end, IsPlaceBefore}
 use Rattle.flow_list.specs.Column.{Column, Inner}
 use Rattle.flow_list.specs.Rows.{columns_by, end_of, items_left, left_in, fill_in, rows_to}
 use Rattle.flow_list.specs.Placing.{RowLaid}
 use Rattle.flow_list.specs.Fragments.{column_made, fragment_of, fragments_from, row_fragments}
-use Rattle.flow_laws.specs.Progress.{IsPlaceBefore, Contents, atoms_in, contents_to}
+use Rattle.flow_laws.specs.Progress.{Contents, atoms_in, contents_to}
 use Rattle.flow_laws.specs.Holding.{atoms_in_tree, atoms_in_trees}
 use Rattle.flow_laws.proofs.Places.{in-items, before-end, IsReached}
 use Rattle.flow_laws.proofs.SoundRows.{good-rows, rows-of-data}

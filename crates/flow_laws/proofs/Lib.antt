@@ -20,9 +20,9 @@ pub mod Laying
 pub mod Needs
 pub mod PlacedSums
 pub mod Places
-pub mod Rejecting
-pub mod RejectingRanges
-pub mod Rejects
+pub mod OneRange
+pub mod AllRanges
+pub mod TallAndArea
 pub mod RowHeightBounds
 pub mod RowsAdvance
 pub mod RowsStay

@@ -12,13 +12,12 @@ use Rattle.flow_list.specs.Atoms.{IsAtom}
 use Rattle.flow_data.specs.Flows.{box_of, item_of, seam_of, no_seam, atom_height, started, open_at}
 use Rattle.flow_list.specs.ClonedEdges.{open_across, tops, bottoms}
 use Rattle.flow_data.specs.Soundness.{IsSoundFlow}
-use Rattle.flow_list.specs.Tokens.{Token, row_start, item_number, within}
+use Rattle.flow_list.specs.Tokens.{Token, row_start, item_number, within, IsPlaceBefore}
 use Rattle.flow_list.specs.Strip.{Strip, strip_at, put, lay_all}
 use Rattle.flow_list.specs.Column.{Inner, Step, height_of, strip_behind, step_at, steps, steps_from, start_strip, unforced_start, loose_need, is_forced}
 use Rattle.flow_list.proofs.AtomFlows.{atom-row}
 use Rattle.flow_list.proofs.OpenAcross.{across-sum, at-sum-next}
 use Rattle.flow_data.proofs.OpenBoxes.{at-sum-first}
-use Rattle.flow_laws.specs.Progress.{IsPlaceBefore}
 use Rattle.flow_laws.proofs.Places.{in-items}
 use Rattle.flow_laws.proofs.Laying.{put-rises, lay_all-rises, IsLower, put-lower, lay_all-lower, starts-lower, TopsFollow, head-lays, BottomsPrecede, tail-lays}
 

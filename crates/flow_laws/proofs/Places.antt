@@ -5,8 +5,7 @@ use Rattle.std.proofs.lemmas.Bool.Decides.{nat_tests}
 use Rattle.flow_data.specs.declared.data.Flow.{Flow}
 use Rattle.flow_data.specs.declared.data.FlowsData.{FlowsData}
 use Rattle.flow_data.specs.declared.data.Item.{Item}
-use Rattle.flow_list.specs.Tokens.{Token, row_start, item_number, is_end}
-use Rattle.flow_laws.specs.Progress.{IsPlaceBefore}
+use Rattle.flow_list.specs.Tokens.{Token, row_start, item_number, is_end, IsPlaceBefore}
 
 pub in-items : (d : FlowsData) (f : Flow) (t : Token) → IsPlaceBefore d f t → item_number t < length f.items
 in-items d f [] place = absurd place

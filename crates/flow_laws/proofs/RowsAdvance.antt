@@ -11,12 +11,12 @@ use Rattle.flow_data.specs.declared.data.FlowsData.{FlowsData}
 use Rattle.flow_data.specs.declared.data.Item.{Item}
 use Rattle.flow_data.specs.declared.data.Item.TheVariants.{Atom, Row}
 use Rattle.flow_data.specs.Flows.{row_of, flow_of, flow_in, row_in, no_row}
-use Rattle.flow_list.specs.Tokens.{Token, item_number, within, is_end}
+use Rattle.flow_list.specs.Tokens.{Token, item_number, within, is_end, IsPlaceBefore}
 use Rattle.flow_list.specs.Column.{Column, Filled, Inner, column}
 use Rattle.flow_list.specs.Rows.{columns, columns_by, end_of, left_in, items_left, fill_in, filled_by, rows_to, all_rows}
 use Rattle.flow_list.specs.RowHeights.{column_within}
 use Rattle.flow_data.specs.Soundness.{IsSound, NestsAtMost}
-use Rattle.flow_laws.specs.Progress.{IsPlaceBefore, AtomAt, Contents, contents_to, atoms_from, EndsWith, atoms_between, held_by, first_columns, IsLater, ColumnsAdvance}
+use Rattle.flow_laws.specs.Progress.{AtomAt, Contents, contents_to, atoms_from, EndsWith, atoms_between, held_by, first_columns, IsLater, ColumnsAdvance}
 use Rattle.flow_laws.proofs.Advance.{ends-trans, item_left-some, FillMoves, RowMoves, ItemsMove, Later, column-later, endless-later}
 use Rattle.flow_laws.proofs.DepthSame.{sound-alike}
 use Rattle.flow_laws.proofs.Places.{in-items, before-end, at-end, some-left, IsReached}

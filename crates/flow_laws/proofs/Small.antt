@@ -93,9 +93,9 @@ module _ (inner : Inner) (d : FlowsData) (f : Flow) (top : ℕ) where
   -- what is so of an item in a column that may reach top
   pub record IsWithinTop (s : Step) : Type 0 where
     pub need : s.need ≤ top
-    pub place : s.x + s.feet ≤ top
-    pub cut : s.x + s.height + s.feet ≤ top
-    pub behind : (a : ℕ) → a ≤ s.height → tail_from (s.x + a) s.tail + s.feet_after ≤ top
+    pub place : s.y + s.bottoms ≤ top
+    pub cut : s.y + s.height + s.bottoms ≤ top
+    pub behind : (a : ℕ) → a ≤ s.height → tail_from (s.y + a) s.tail + s.bottoms_after ≤ top
 
   pub AllWithinTop : List Step → Type 0
   AllWithinTop [] = Unit {0}
@@ -111,7 +111,7 @@ module _ (inner : Inner) (d : FlowsData) (f : Flow) (top : ℕ) where
       let a = put_le s (height_of inner (item_of f k) q) in
       let c = lay_all_le (put s (height_of inner (item_of f k) q)) (seam_of f (k + 1)).tail in
       let m = lay_all_le (strip_behind inner f s k q) (seam_of f (k + 1)).head in
-      let feet : bottoms d (open_across f (k + 1)) ≤ bottoms d (boxes_in f) = open_across-le _ f (k + 1) in
+      let below : bottoms d (open_across f (k + 1)) ≤ bottoms d (boxes_in f) = open_across-le _ f (k + 1) in
       let at : bottoms d (open_at f k) ≤ bottoms d (boxes_in f) = open_at-le _ f k in (
         record {
           need = omega arith;
@@ -188,7 +188,7 @@ module _ (inner : Inner) (d : FlowsData) (f : Flow) (top : ℕ) where
   inside-reach : (avoids : Bool) (s : Step) (a : ℕ) (filled : Filled) → IsWithinTop s → a ≤ s.height → (inside_place avoids s a filled).extent ≤ top
   inside-reach avoids s a filled w le = go filled.at_end
     where
-      go : (b : Bool) → cond b (tail_from (s.x + a) s.tail + s.feet_after) (s.x + a + s.feet) ≤ top
+      go : (b : Bool) → cond b (tail_from (s.y + a) s.tail + s.bottoms_after) (s.y + a + s.bottoms) ≤ top
       go true = w.behind a le
       go false = let c = w.cut in omega arith
 

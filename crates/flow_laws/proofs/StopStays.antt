@@ -148,50 +148,50 @@ below-shifted : (h x : ℕ) (bs : List ℕ) → x ≤ h → IsBelowEach h (map (
 below-shifted h x [] le b = tt
 below-shifted h x (y ∷ ys) le b = let k = b.0 in (omega arith, below-shifted h x ys le b.1)
 
-room-is : (s : Step) (h : ℕ) → room s h ≡ h - (s.x + s.feet)
+room-is : (s : Step) (h : ℕ) → room s h ≡ h - (s.y + s.bottoms)
 room-is s h = omega arith
 
-cuts-at : (s : Step) (h : ℕ) → s.x + s.feet ≤ h → room s h < s.height → is_cut s h ≡ true
+cuts-at : (s : Step) (h : ℕ) → s.y + s.bottoms ≤ h → room s h < s.height → is_cut s h ≡ true
 cuts-at s h a b = grind (arith, nat_tests)
 
-pub cut-from : (s : Step) (h : ℕ) → is_cut s h ≡ true → s.x + s.feet ≤ h
+pub cut-from : (s : Step) (h : ℕ) → is_cut s h ≡ true → s.y + s.bottoms ≤ h
 cut-from s h e = grind (arith, nat_tests)
 
 pub cut-room : (s : Step) (h : ℕ) → is_cut s h ≡ true → room s h < s.height
 cut-room s h e = grind (arith, nat_tests)
 
-pub above-place : (s : Step) (h : ℕ) → (nat_lt 0 s.height && nat_lt h (s.x + s.feet)) ≡ true → h < s.x + s.feet
+pub above-place : (s : Step) (h : ℕ) → (nat_lt 0 s.height && nat_lt h (s.y + s.bottoms)) ≡ true → h < s.y + s.bottoms
 above-place s h e = grind (arith, nat_tests)
 
-fits-whole : (s : Step) (h : ℕ) → is_cut s h ≡ false → (nat_lt 0 s.height && nat_lt h (s.x + s.feet)) ≡ false → s.height ≤ room s h
+fits-whole : (s : Step) (h : ℕ) → is_cut s h ≡ false → (nat_lt 0 s.height && nat_lt h (s.y + s.bottoms)) ≡ false → s.height ≤ room s h
 fits-whole s h e z = grind (arith, nat_tests)
 
-uncut-above : (s : Step) (h : ℕ) → h < s.x + s.feet → is_cut s h ≡ false
+uncut-above : (s : Step) (h : ℕ) → h < s.y + s.bottoms → is_cut s h ≡ false
 uncut-above s h low = grind (arith, nat_tests)
 
 uncut-whole : (s : Step) (h : ℕ) → s.height ≤ room s h → is_cut s h ≡ false
 uncut-whole s h small = grind (arith, nat_tests)
 
-no-room : (s : Step) (h : ℕ) → h < s.x + s.feet → room s h ≡ 0
+no-room : (s : Step) (h : ℕ) → h < s.y + s.bottoms → room s h ≡ 0
 no-room s h low = omega arith
 
 stop-stays : (inner : Inner) (law : FillsStay inner) (avoids : Bool) (lo h : ℕ) (before : List Step) (s : Step) (r : ℕ) (q : Token) → lo ≤ h →
-    (t : Bool) → is_cut s lo ≡ t → (z : Bool) → (nat_lt 0 s.height && nat_lt lo (s.x + s.feet)) ≡ z →
-    IsBelowEach h (cond z ((s.x + s.feet) ∷ []) [] ++ cond t ((s.x + s.feet + s.height) ∷ map (λ b. s.x + s.feet + b) (inner.fill r q (room s lo)).bounds) []) →
+    (t : Bool) → is_cut s lo ≡ t → (z : Bool) → (nat_lt 0 s.height && nat_lt lo (s.y + s.bottoms)) ≡ z →
+    IsBelowEach h (cond z ((s.y + s.bottoms) ∷ []) [] ++ cond t ((s.y + s.bottoms + s.height) ∷ map (λ b. s.y + s.bottoms + b) (inner.fill r q (room s lo)).bounds) []) →
     ColumnStays (stopped avoids lo before s (Some (inner.fill r q (room s lo)))) (stopped avoids h before s (Some (inner.fill r q (room s h))))
 stop-stays inner law avoids lo h before s r q le true e z ez b =
-    let k = (IsBelowEach-append h (cond z ((s.x + s.feet) ∷ []) []) _ b).1 in
-    let top : h < s.x + s.feet + s.height = k.0 in
-    let from : s.x + s.feet ≤ lo = cut-from s lo e in
+    let k = (IsBelowEach-append h (cond z ((s.y + s.bottoms) ∷ []) []) _ b).1 in
+    let top : h < s.y + s.bottoms + s.height = k.0 in
+    let from : s.y + s.bottoms ≤ lo = cut-from s lo e in
     let left : room s lo < s.height = cut-room s lo e in
     let now : is_cut s h ≡ true = cuts-at s h (omega arith) (omega arith) in
-    let inner_below : IsBelowEach (room s h) (inner.fill r q (room s lo)).bounds = rw (room-is s h) (below-shifted h (s.x + s.feet) (inner.fill r q (room s lo)).bounds (omega arith) k.1) in
+    let inner_below : IsBelowEach (room s h) (inner.fill r q (room s lo)).bounds = rw (room-is s h) (below-shifted h (s.y + s.bottoms) (inner.fill r q (room s lo)).bounds (omega arith) k.1) in
     cut-stay avoids lo h before s (inner.fill r q (room s lo)) (inner.fill r q (room s h)) (is_cut s lo) (is_cut s h) (nat_lt (room s lo) s.height) (nat_lt (room s h) s.height)
     _ _ _ _ e now (lt-ltb _ _ left) (lt-ltb _ _ (omega arith))
     (law r q (room s lo) (room s h) (omega arith) inner_below)
 stop-stays inner law avoids lo h before s r q le false e true ez b =
-    let low : lo < s.x + s.feet = above-place s lo ez in
-    let top : h < s.x + s.feet = b.0 in
+    let low : lo < s.y + s.bottoms = above-place s lo ez in
+    let top : h < s.y + s.bottoms = b.0 in
     uncut-stay avoids lo h before s (inner.fill r q (room s lo)) (inner.fill r q (room s h)) (is_cut s lo) (is_cut s h) (nat_lt (room s lo) s.height) (nat_lt (room s h) s.height)
     _ _ _ _ e (uncut-above s h top) (ap (λ n. nat_lt n s.height) (no-room s h top ∙ sym (no-room s lo low)))
 stop-stays inner law avoids lo h before s r q le false e false ez b =
@@ -203,7 +203,7 @@ stop-stays inner law avoids lo h before s r q le false e false ez b =
 row-stays : (inner : Inner) (law : FillsStay inner) (avoids : Bool) (lo h : ℕ) (before : List Step) (s : Step) → lo ≤ h → (row : Option (ℕ × Token)) →
     IsBelowEach h (bounds_at s lo (fill_in_room inner row (room s lo))) → ColumnStays (stopped avoids lo before s (fill_in_room inner row (room s lo))) (stopped avoids h before s (fill_in_room inner row (room s h)))
 row-stays inner law avoids lo h before s le None b = record { lines = refl; overflow = refl; end = λ _. refl; level = λ _. refl }
-row-stays inner law avoids lo h before s le (Some p) b = stop-stays inner law avoids lo h before s p.0 p.1 le (is_cut s lo) refl (nat_lt 0 s.height && nat_lt lo (s.x + s.feet)) refl b.1
+row-stays inner law avoids lo h before s le (Some p) b = stop-stays inner law avoids lo h before s p.0 p.1 le (is_cut s lo) refl (nat_lt 0 s.height && nat_lt lo (s.y + s.bottoms)) refl b.1
 
 below-need : (s : Step) (lo h : ℕ) (filled : Option Filled) → IsBelowEach h (bounds_at s lo filled) → h < s.need
 below-need s lo h None b = b.0

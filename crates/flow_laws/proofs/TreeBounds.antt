@@ -343,7 +343,7 @@ module _ (d : FlowsData) (sound : IsSound d) where
       continued_from d 0 f.opened ++ places_from (length laid + 1) (tops d f.opened) laid
 
   abbrev stack_frame : (s x y : ℕ) → Frame
-  stack_frame s x y = record { x = x; y = y; w = (stack_of d s).w; h = stack_height d s; extent = stack_extent d (stack_of d s).bound (flow_of d (stack_of d s).flow); feet = 0 }
+  stack_frame s x y = record { x = x; y = y; w = (stack_of d s).w; h = stack_height d s; extent = stack_extent d (stack_of d s).bound (flow_of d (stack_of d s).flow); bottoms = 0 }
 
   stacks-small : (n : ℕ) → StacksSmall (lines_of_stack d n)
   unfolding lines_of_stack StacksSmall stack_fragment lines_of_tree

@@ -3,11 +3,10 @@
 use Rattle.std.specs.Prelude.{ℕ, ◌+◌, ◌<◌, ◌≤◌, ◌^◌, List, [], ◌∷◌, length, Option}
 use Rattle.flow_data.specs.declared.data.FlowsData.{FlowsData}
 use Rattle.flow_data.specs.Flows.{flow_in}
-use Rattle.flow_list.specs.Tokens.{Token}
+use Rattle.flow_list.specs.Tokens.{Token, IsPlaceBefore}
 use Rattle.flow_list.specs.Column.{Step, steps_from, loose_need}
 use Rattle.flow_list.specs.Rows.{all_rows}
 use Rattle.flow_list.specs.RowHeights.{size_of, column_within}
-use Rattle.flow_laws.specs.Progress.{IsPlaceBefore}
 
 -- each of these items needs as much as the one before it at least, and the first as much as this
 abbrev pub NeedsRise : ℕ → List Step → Type 0
@@ -17,7 +16,7 @@ NeedsRise need (s ∷ ss) = (need ≤ s.need) × NeedsRise s.need ss
 -- each of these items needs less than 2^60, and begins below it
 abbrev pub NeedsAreSmall : List Step → Type 0
 NeedsAreSmall [] = Unit {0}
-NeedsAreSmall (s ∷ ss) = (s.need < 2 ^ 60) × (s.x + s.feet < 2 ^ 60) × NeedsAreSmall ss
+NeedsAreSmall (s ∷ ss) = (s.need < 2 ^ 60) × (s.y + s.bottoms < 2 ^ 60) × NeedsAreSmall ss
 
 -- The law, of row r of sound flows.
 pub record NeedsAndBounds (d : FlowsData) (r : ℕ) : Type 0 where

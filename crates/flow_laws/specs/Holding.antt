@@ -7,11 +7,11 @@ use Rattle.flow_data.specs.declared.data.FlowsData.{FlowsData}
 use Rattle.flow_data.specs.declared.data.Item.{Item}
 use Rattle.flow_data.specs.declared.data.Item.TheVariants.{Atom, Row}
 use Rattle.flow_data.specs.Flows.{flow_of, flow_in, stack_of}
-use Rattle.flow_list.specs.Tokens.{Token, row_start, item_number, within}
+use Rattle.flow_list.specs.Tokens.{Token, row_start, item_number, within, IsPlaceBefore}
 use Rattle.flow_list.specs.Rows.{end_of}
 use Rattle.flow_list.specs.RowHeights.{column_within, row_columns}
 use Rattle.flow_list.specs.Fragments.{column_fragment, fragments_from, row_fragments, stack_fragment}
-use Rattle.flow_laws.specs.Progress.{IsPlaceBefore, AtomAt, atoms_from, atoms_between, first_columns}
+use Rattle.flow_laws.specs.Progress.{AtomAt, atoms_from, atoms_between, first_columns}
 
 -- ---- atoms, with those in rows within rows
 

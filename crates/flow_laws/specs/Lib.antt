@@ -5,5 +5,5 @@ pub mod Holding
 pub mod LeastHeight
 pub mod Progress
 pub mod Rectangles
-pub mod Rejecting
-pub mod Rejection
+pub mod RangeLaws
+pub mod TallAndArea

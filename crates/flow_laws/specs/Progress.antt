@@ -1,21 +1,15 @@
 -- Columns advance: each ends later than it begins, so they hold the content once as far as they go (CSS Fragmentation 3, section 4.5,
 -- asks for progress).
-use Rattle.std.specs.Prelude.{◌≡◌, ℕ, zero, suc, ◌-◌, ◌<◌, ◌≤◌, true, List, [], ◌∷◌, ◌++◌, length, take, drop, Option, ◌⊎◌}
+use Rattle.std.specs.Prelude.{◌≡◌, ℕ, zero, suc, ◌-◌, ◌<◌, ◌≤◌, true, List, [], ◌∷◌, ◌++◌, length, take, drop, Option}
 use Rattle.flow_data.specs.declared.data.Flow.{Flow}
 use Rattle.flow_data.specs.declared.data.FlowsData.{FlowsData}
 use Rattle.flow_data.specs.declared.data.Item.{Item}
 use Rattle.flow_data.specs.declared.data.Item.TheVariants.{Atom, Row}
-use Rattle.flow_data.specs.Flows.{flow_in, item_of}
-use Rattle.flow_list.specs.Tokens.{Token, row_start, item_number, within, is_end}
+use Rattle.flow_data.specs.Flows.{flow_in}
+use Rattle.flow_list.specs.Tokens.{Token, row_start, item_number, within, is_end, IsPlace, IsPlaceBefore}
 use Rattle.flow_list.specs.Column.{Column}
 use Rattle.flow_list.specs.Rows.{columns_by, end_of, left_in, all_rows}
 use Rattle.flow_list.specs.RowHeights.{column_within}
-
--- a place in a flow before its end: an item, or a place before the end of a row that an item is
-abbrev pub IsPlaceBefore : FlowsData → Flow → Token → Type 0
-IsPlaceBefore d f [] = ⊥
-IsPlaceBefore d f (i ∷ []) = i < length f.items
-IsPlaceBefore d f (i ∷ (j ∷ rest)) = (i < length f.items) × (r : ℕ) × (item_of f i ≡ Row r) × IsPlaceBefore d (flow_in d r) (j ∷ rest)
 
 -- ---- the content of a row from a place on
 
@@ -57,7 +51,7 @@ EndsWith xs ys = (held : List AtomAt) × (ys ≡ held ++ xs)
 -- Place u of row r comes after place t: it is the end or a place before it, fewer items are left there, and the atoms
 -- from it on are the last ones of those from t on.
 pub record IsLater (d : FlowsData) (r : ℕ) (t u : Token) : Type 0 where
-  pub place : (u ≡ length (flow_in d r).items ∷ []) ⊎ IsPlaceBefore d (flow_in d r) u
+  pub place : IsPlace d (flow_in d r) u
   pub fewer : left_in (all_rows d) (flow_in d r) u < left_in (all_rows d) (flow_in d r) t
   pub rest : EndsWith (atoms_from d r u) (atoms_from d r t)
 

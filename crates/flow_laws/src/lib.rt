@@ -11,12 +11,12 @@ ghost use Rattle.flow_laws.specs.Constant.{BreaksAreConstant};
 ghost use Rattle.flow_laws.specs.Depth.{DepthChangesNothing};
 ghost use Rattle.flow_laws.specs.Holding.{FragmentsHoldEachItem, StackHoldsEachItem};
 ghost use Rattle.flow_laws.specs.LeastHeight.{SizesAreLeast};
-ghost use Rattle.flow_laws.specs.Progress.{ColumnsAdvance, IsPlaceBefore};
+ghost use Rattle.flow_laws.specs.Progress.{ColumnsAdvance};
 ghost use Rattle.flow_laws.specs.Rectangles.{RectanglesAreBounded};
-ghost use Rattle.flow_laws.specs.Rejecting.{RangesReject, RangesAccount};
-ghost use Rattle.flow_laws.specs.Rejection.{TallAndAreaReject};
+ghost use Rattle.flow_laws.specs.RangeLaws.{RangesReject, RangesAccount};
+ghost use Rattle.flow_laws.specs.TallAndArea.{TallAndAreaReject};
 ghost use Rattle.flow_data.specs.Flows.{flow_in};
-ghost use Rattle.flow_list.specs.Tokens.{Token};
+ghost use Rattle.flow_list.specs.Tokens.{Token, IsPlaceBefore};
 ghost use Rattle.flow_data.specs.Soundness.{IsSound};
 
 /// Breaks are constant over a range of heights: each bound of a column is above its height, and up to the least its lines and

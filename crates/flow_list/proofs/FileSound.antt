@@ -162,6 +162,7 @@ sound_data f rest small sound =
       row_count = omega arith;
       box_count = omega arith;
       stack_count = omega arith;
+      some_stack = omega arith;
       flows = sound;
       rows = All-cons (IsSoundRow d) (row_0 f) (rows_from 1 rest) (first_row_sound f rest small) (sound_rows d rest 1 low (omega arith));
       boxes = near_boxes (boxes_from rest) boxes;

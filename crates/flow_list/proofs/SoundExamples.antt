@@ -85,6 +85,7 @@ in_a_box-is_sound = record {
   row_count = omega arith;
   box_count = omega arith;
   stack_count = omega arith;
+  some_stack = omega arith;
   flows = All-from_recursion (IsSoundFlow in_a_box) in_a_box.flows (outer_sound in_a_box (omega arith), (box_flow, tt));
   rows = all_from_one (IsSoundRow in_a_box) (row_of in_a_box 0) (record {
     flow = omega arith;

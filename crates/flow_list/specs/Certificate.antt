@@ -21,7 +21,8 @@ Use = ℕ × Token
 
 -- ---- the sizes that each line rests on
 
--- For each line of what a row makes of a height from a place on: the rows among the items of the line's column, through its stop.
+-- For each line of what a row makes of a height from a place on: the rows among the items of the line's column, through its stop. The
+-- k-th list belongs to the k-th line.
 pub record Owned : Type 0 where
   pub fill : ℕ → Token → ℕ → List (List Use)
 
@@ -49,7 +50,7 @@ owned_to d (suc depth) =
     let inner = rows_to d depth in
     record { fill = λ r q a. columns_owned (λ t. column_owned (owned_to d depth) inner d (flow_in d r) t a) q (to_overflow (columns inner d (flow_in d r) (row_of d r).n q a)) }
 
--- for each line of a range of row r from a place on: the sizes that it rests on
+-- for each line of a range of row r from a place on: the sizes that it rests on, those of the k-th line in the k-th list
 unfoldable pub range_owned : FlowsData → ℕ → Token → Range → List (List Use)
 range_owned d r q range = columns_owned (λ t. column_owned (owned_to d (length d.rows)) (all_rows d) d (flow_in d r) t range.low) q (judged (all_rows d) d r q range.low)
 

@@ -75,20 +75,20 @@ row_from (Atom height kind) q = None
 row_from (Row r) q = Some (r, q)
 
 -- An item as it stands in a column, by what depends on no height: its number, the level of the seam before it, where it
--- begins (x), its height, and what the column needs to hold it with the tail of the seam after it and the cloned edges
+-- begins (y), its height, and what the column needs to hold it with the tail of the seam after it and the cloned edges
 -- there. Then its row with the place from which that is taken, the tail and the level of the seam after it (0 where that
--- is forced or the flow's end), and the cloned edges below the boxes open at the item (feet) and across that seam.
+-- is forced or the flow's end), and the cloned edges below the boxes open at the item (bottoms) and across that seam.
 pub record Step : Type 0 where
   pub item : ℕ
   pub level : Level
-  pub x : ℕ
+  pub y : ℕ
   pub height : ℕ
   pub need : ℕ
   pub row : Option (ℕ × Token)
   pub tail : List Edge
   pub next : ℕ
-  pub feet : ℕ
-  pub feet_after : ℕ
+  pub bottoms : ℕ
+  pub bottoms_after : ℕ
 
 -- the strip behind item k, which is taken from q, and the tail of the seam after it
 abbrev pub strip_behind : Inner → Flow → Strip → ℕ → Token → Strip
@@ -99,14 +99,14 @@ abbrev pub step_at : Inner → FlowsData → Flow → Strip → ℕ → Token �
 step_at inner d f s k q = record {
   item = k;
   level = (seam_of f k).level;
-  x = begins s;
+  y = begins s;
   height = height_of inner (item_of f k) q;
   need = (strip_behind inner f s k q).y + bottoms d (open_across f (k + 1));
   row = row_from (item_of f k) q;
   tail = (seam_of f (k + 1)).tail;
   next = cond (k + 1 == length f.items) 0 (rank (seam_of f (k + 1)).level);
-  feet = bottoms d (open_at f k);
-  feet_after = bottoms d (open_across f (k + 1));
+  bottoms = bottoms d (open_at f k);
+  bottoms_after = bottoms d (open_across f (k + 1));
 }
 
 -- the items from item k on, of which n are left, up to the next forced seam or the end
@@ -179,11 +179,11 @@ seams_between (s ∷ ss) = seams_before s.need ss
 -- the height that is left for an item above the cloned edges of the boxes open at it, at a column's height h; 0 where it
 -- begins too low
 abbrev pub room : Step → ℕ → ℕ
-room s h = h - s.x - s.feet
+room s h = h - s.y - s.bottoms
 
 -- whether an item begins within the height h, and needs more than the room that is left
 abbrev pub is_cut : Step → ℕ → Bool
-is_cut s h = nat_le (s.x + s.feet) h && nat_lt (room s h) s.height
+is_cut s h = nat_le (s.y + s.bottoms) h && nat_lt (room s h) s.height
 
 -- how far a seam's tail reaches that is laid from y on, with nothing pending
 abbrev pub tail_from : ℕ → List Edge → ℕ
@@ -196,8 +196,8 @@ abbrev pub inside_place : Bool → Step → ℕ → Filled → Place
 inside_place avoids s a filled = record {
   level = cond avoids 2 filled.level;
   end = cond filled.at_end ((s.item + 1) ∷ []) (s.item ∷ filled.end);
-  extent = cond filled.at_end (tail_from (s.x + a) s.tail + s.feet_after) (s.x + a + s.feet);
-  overflow = filled.at_end && nat_lt s.feet (tail_from 0 s.tail + s.feet_after);
+  extent = cond filled.at_end (tail_from (s.y + a) s.tail + s.bottoms_after) (s.y + a + s.bottoms);
+  overflow = filled.at_end && nat_lt s.bottoms (tail_from 0 s.tail + s.bottoms_after);
 }
 
 -- what the row of an item makes in a room
@@ -243,9 +243,9 @@ inner_lines cuts (Some filled) = cond cuts (map deeper filled.lines) []
 abbrev pub bounds_at : Step → ℕ → Option Filled → List ℕ
 bounds_at s h None = s.need ∷ []
 bounds_at s h (Some filled) =
-    let x = s.x + s.feet in
-    s.need ∷ cond (nat_lt 0 s.height && nat_lt h x) (x ∷ []) []
-    ++ cond (is_cut s h) ((x + s.height) ∷ map (λ b. x + b) filled.bounds) []
+    let y = s.y + s.bottoms in
+    s.need ∷ cond (nat_lt 0 s.height && nat_lt h y) (y ∷ []) []
+    ++ cond (is_cut s h) ((y + s.height) ∷ map (λ b. y + b) filled.bounds) []
 
 -- the rows among these items, with the places from which they are taken
 abbrev pub row_list : Option (ℕ × Token) → List (ℕ × Token)

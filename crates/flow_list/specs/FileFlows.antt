@@ -5,7 +5,7 @@ use Rattle.mc_base.specs.declared.level.Level.{Level}
 use Rattle.mc_base.specs.declared.level.Level.TheVariants.{L0}
 use Rattle.mc_base.specs.declared.refusal.Refusal.{Refusal}
 use Rattle.mc_base.specs.declared.refusal.Refusal.TheVariants as refusals
-use Rattle.flow_text.specs.declared.fault.Fault.{Fault}
+use Rattle.mc_base.specs.declared.read_error.Fault.{Fault}
 use Rattle.flow_text.specs.declared.line.Line.{Line}
 use Rattle.flow_text.specs.declared.line.Form.{Form}
 use Rattle.flow_text.specs.declared.line.Form.TheVariants as forms

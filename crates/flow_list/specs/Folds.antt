@@ -1,14 +1,13 @@
 -- What is told of columns that were made one after another at a height: of those that a fold makes, and of those of a fill (this project's
 -- own).
 use Rattle.std.specs.Prelude.{ℕ, ◌-◌, min, Bool, List, [], ◌∷◌, length, fold, Option, Some, None}
-use Rattle.std.specs.List.{list_any}
 use Rattle.flow_data.specs.declared.data.Flow.{Flow}
 use Rattle.flow_data.specs.declared.data.FlowsData.{FlowsData}
 use Rattle.flow_data.specs.Flows.{row_of, flow_in}
 use Rattle.flow_list.specs.Tokens.{Token}
 use Rattle.flow_list.specs.Column.{Column, ColumnLine, Inner}
 use Rattle.flow_list.specs.Rows.{columns, reach_end, filled_by}
-use Rattle.flow_list.specs.RowHeights.{is_unforced, greatest_extent}
+use Rattle.flow_list.specs.RowHeights.{any_unforced, greatest_extent}
 use Rattle.flow_list.specs.Ranges.{to_failure}
 
 -- how far the least of these bounds is above a height; none where there is no bound
@@ -38,7 +37,7 @@ folded_by f q h cs = record {
   end = (filled_by f q cs).end;
   at_end = (filled_by f q cs).at_end;
   fits = reach_end f q cs;
-  unforced = list_any (λ (c : Column). is_unforced f c.end) cs;
+  unforced = any_unforced f cs;
   level = (filled_by f q cs).level;
   overflow = (filled_by f q cs).overflow;
   extent = greatest_extent cs;

@@ -83,7 +83,7 @@ laid_filled (Some h) (Some s) = filled_row s.row (room s h)
 abbrev pub strip_filled : Option ℕ → Option Step → Strip
 strip_filled None stop = strip_at 0 false
 strip_filled (Some h) None = strip_at 0 false
-strip_filled (Some h) (Some s) = strip_at (s.x + room s h) false
+strip_filled (Some h) (Some s) = strip_at (s.y + room s h) false
 
 -- the items from k on before a row that is filled, with the head before it
 abbrev pub laid_before : Inner → Flow → Strip → ℕ → Token → ℕ → List Laid

@@ -1,6 +1,6 @@
 -- Ranges of heights that don't fit a row, with the reason why (this project's own: CSS Multi-column 1, section 7.1, leaves the height of
 -- balanced columns open).
-use Rattle.std.specs.Prelude.{◌≡◌, ℕ, zero, suc, ◌+◌, ◌-◌, ◌*◌, ◌/◌, ◌<◌, ◌≤◌, max, min, Bool, true, false, cond, List, [], ◌∷◌, ◌++◌, length, drop, nat_lt, nat_le, fold, sum_by, Option, Some, None, All}
+use Rattle.std.specs.Prelude.{◌≡◌, ℕ, zero, suc, ◌+◌, ◌-◌, ◌*◌, ◌/◌, ◌<◌, ◌≤◌, max, min, Bool, true, false, cond, List, [], ◌∷◌, ◌++◌, length, drop, nat_lt, nat_le, fold, sum_by, Option, Some, None, IfSome, All}
 use Rattle.std.specs.List.{flat_map}
 use Rattle.flow_data.specs.declared.data.Flow.{Flow}
 use Rattle.flow_data.specs.declared.data.FlowsData.{FlowsData}
@@ -25,6 +25,10 @@ judged inner d r q h = to_failure (columns inner d (flow_in d r) (most_columns (
 -- the greater heights at which one of these columns may change
 abbrev pub bounds_of : List Column → List ℕ
 bounds_of cs = flat_map (λ (c : Column). c.bounds) cs
+
+-- a height is below a bound, where there is one
+abbrev pub IsBelow : ℕ → Option ℕ → Type 0
+IsBelow h bound = IfSome bound (λ b. h < b)
 
 -- how these columns came to be
 abbrev pub lines_of : List Column → List ColumnLine
@@ -107,12 +111,11 @@ abbrev pub reason_of : Flow → (c : ℕ) → Token → List Column → Option R
 reason_of f c q [] = cond (is_end f q) None (Some (left q))
 reason_of f c q (first ∷ cs) = cond first.overflow (Some (over c)) (cond (nat_lt 0 first.level) (Some (bad c)) (reason_of f (c + 1) first.end cs))
 
--- the least of these, no more than top where that is given
-abbrev pub least_bound : Option ℕ → List ℕ → ℕ
-least_bound None [] = 0
-least_bound (Some top) [] = top
-least_bound None (b ∷ bs) = fold min b bs
-least_bound (Some top) (b ∷ bs) = fold min (min top b) bs
+-- the least of these and of top, where that is given: none where there is neither
+abbrev pub least_bound : Option ℕ → List ℕ → Option ℕ
+least_bound top [] = top
+least_bound None (b ∷ bs) = Some (fold min b bs)
+least_bound (Some top) (b ∷ bs) = Some (fold min (min top b) bs)
 
 abbrev pub is_past : Option ℕ → ℕ → Bool
 is_past None h = false
@@ -129,8 +132,10 @@ searched inner d r q top (suc n) low = elim (is_past top low) [
       elim (reason_of (flow_in d r) 1 q cs) [
         | None ↦ []
         | Some reason ↦
-            let high = least_bound top (bounds_of cs) in
-            record { low = low; high = high; reason = reason; lines = lines_of cs } ∷ searched inner d r q top n high
+            elim (least_bound top (bounds_of cs)) [
+              | None ↦ []
+              | Some high ↦ record { low = low; high = high; reason = reason; lines = lines_of cs } ∷ searched inner d r q top n high
+            ]
       ]
 ]
 

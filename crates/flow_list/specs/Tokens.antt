@@ -1,6 +1,10 @@
 -- Places in a flow, where a column begins or ends (this project's own; CSS calls a place to go on from a break token).
-use Rattle.std.specs.Prelude.{ℕ, Bool, List, [], ◌∷◌, length, nat_le}
+use Rattle.std.specs.Prelude.{◌≡◌, ℕ, ◌<◌, Bool, List, [], ◌∷◌, length, nat_le, ◌⊎◌}
 use Rattle.flow_data.specs.declared.data.Flow.{Flow}
+use Rattle.flow_data.specs.declared.data.FlowsData.{FlowsData}
+use Rattle.flow_data.specs.declared.data.Item.TheVariants.{Row}
+use Rattle.flow_data.specs.Flows.{flow_in, item_of}
+pub use Rattle.mc_base.specs.Places.{item_number}
 
 -- The number of an item, and where that item is a row that is entered, the place within it. In a flow of n items the
 -- place n is the end.
@@ -11,11 +15,6 @@ Token = List ℕ
 abbrev pub row_start : Token
 row_start = 0 ∷ []
 
--- the item of a place
-abbrev pub item_number : Token → ℕ
-item_number [] = 0
-item_number (i ∷ within) = i
-
 -- the place within the item, which is the item's start where it isn't entered
 abbrev pub within : Token → Token
 within [] = row_start
@@ -25,3 +24,13 @@ within (i ∷ (j ∷ rest)) = j ∷ rest
 -- whether a place is the flow's end
 abbrev pub is_end : Flow → Token → Bool
 is_end f t = nat_le (length f.items) (item_number t)
+
+-- a place in a flow before its end: an item, or a place before the end of a row that an item is
+abbrev pub IsPlaceBefore : FlowsData → Flow → Token → Type 0
+IsPlaceBefore d f [] = ⊥
+IsPlaceBefore d f (i ∷ []) = i < length f.items
+IsPlaceBefore d f (i ∷ (j ∷ rest)) = (i < length f.items) × (r : ℕ) × (item_of f i ≡ Row r) × IsPlaceBefore d (flow_in d r) (j ∷ rest)
+
+-- a place in a flow: its end, or a place before that
+abbrev pub IsPlace : FlowsData → Flow → Token → Type 0
+IsPlace d f t = (t ≡ length f.items ∷ []) ⊎ IsPlaceBefore d f t

@@ -46,20 +46,20 @@ pub record Frame : Type 0 where
   pub w : ℕ
   pub h : ℕ
   pub extent : ℕ
-  pub feet : ℕ
+  pub bottoms : ℕ
 
 abbrev pub in_box : Frame → ℕ → Frame
-in_box frame bottom = record frame { feet = frame.feet + bottom }
+in_box frame bottom = record frame { bottoms = frame.bottoms + bottom }
 
 -- The bottom of a piece of a box, from the column's top: its end; or, where the box continues, that of the column or of what reaches
 -- further, above the lower cloned edges of the boxes around it.
 abbrev pub piece_bottom : Frame → Option ℕ → ℕ
-piece_bottom frame None = max frame.h frame.extent - frame.feet
+piece_bottom frame None = max frame.h frame.extent - frame.bottoms
 piece_bottom frame (Some bottom) = bottom
 
 -- the height of a piece of a row: its own, or what the column has left below its top, where it is filled
 abbrev pub piece_height : Frame → (y : ℕ) → Option ℕ → ℕ
-piece_height frame y None = frame.h - y - frame.feet
+piece_height frame y None = frame.h - y - frame.bottoms
 piece_height frame y (Some height) = height
 
 -- the lines of an atom: the inside of a container with a height is a stack of its own
@@ -76,7 +76,7 @@ item_lines stacks depth frame k y (Row r) = []
 
 -- where column i of a piece of a row stands
 abbrev pub column_frame : Frame → RowInfo → (y height i extent : ℕ) → Frame
-column_frame frame r y height i extent = record { x = frame.x + r.x + i * r.step; y = frame.y + y; w = r.w; h = height; extent = extent; feet = 0 }
+column_frame frame r y height i extent = record { x = frame.x + r.x + i * r.step; y = frame.y + y; w = r.w; h = height; extent = extent; bottoms = 0 }
 
 unfoldable mutual
   -- the lines of a tree that stands in a column of flow f
@@ -123,7 +123,7 @@ lines_of_stack d (suc n) s depth x y =
     let height = stack_height d s in
     record { depth = depth; kind = stack s; x = x; y = y; w = (stack_of d s).w; h = height }
     ∷ lines_of_tree d (lines_of_stack d n) (flow_of d (stack_of d s).flow) (depth + 1)
-    (record { x = x; y = y; w = (stack_of d s).w; h = height; extent = extent_of tree; feet = 0 }) tree
+    (record { x = x; y = y; w = (stack_of d s).w; h = height; extent = extent_of tree; bottoms = 0 }) tree
 
 -- the tree of a layout: the lines of stack 0, a further stack having the greater number where it stands in another one
 unfoldable pub tree_of : FlowsData → List TreeLine

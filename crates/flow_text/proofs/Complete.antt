@@ -6,7 +6,7 @@ use Rattle.std.proofs.lemmas.Bool.{eq-eqb, lt-ltb}
 use Rattle.flow_text.specs.declared.line.Line.{Line}
 use Rattle.flow_text.specs.declared.line.Form.{Form}
 use Rattle.flow_text.specs.declared.line.Form.TheVariants as forms
-use Rattle.flow_text.specs.declared.fault.Fault.{Fault}
+use Rattle.mc_base.specs.declared.read_error.Fault.{Fault}
 use Rattle.flow_text.specs.declared.structure.Phase.{Phase}
 use Rattle.flow_text.specs.declared.structure.Phase.TheVariants as phases
 use Rattle.flow_text.specs.declared.structure.OpenRow.{OpenRow}

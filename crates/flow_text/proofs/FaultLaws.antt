@@ -7,14 +7,16 @@ use Rattle.std.proofs.lemmas.List.{append-nil, take_at, drop_at, length-take-le}
 use Rattle.flow_text.specs.declared.line.Line.{Line}
 use Rattle.flow_text.specs.declared.line.Form.{Form}
 use Rattle.flow_text.specs.declared.line.Form.TheVariants as forms
-use Rattle.flow_text.specs.declared.fault.Fault.{Fault}
+use Rattle.mc_base.specs.declared.read_error.Fault.{Fault}
 use Rattle.flow_text.specs.declared.structure.Due.{Due}
 use Rattle.flow_text.specs.declared.structure.Reading.{Reading}
 use Rattle.flow_text.specs.declared.structure.Reading.TheVariants as readings
 use Rattle.flow_text.specs.Forms.{IsForm, form_of}
 use Rattle.flow_text.specs.Structure as structure
-use Rattle.flow_text.specs.Structure.{◌>>=◌, fault, unless, fault_of_due, fault_of_rows, what_is_due, fault_of_ending, is_solid}
+use Rattle.flow_text.specs.Structure.{unless, fault_of_due, fault_of_rows, what_is_due, fault_of_ending, is_solid}
 use Rattle.mc_base.specs.SoundText.{sound_len}
+use Rattle.mc_base.specs.Reading.{◌>>=◌, fault}
+use Rattle.mc_base.proofs.ReadSteps.{seen as seen_result, failed}
 use Rattle.flow_text.specs.Text.{line_len, first_bad, bad_byte, cuts, or_fault, no_byte_bad, line_of, line_at, read_on, ended_at, lines_in, lines_of}
 use Rattle.flow_text.specs.Run.{run}
 use Rattle.flow_text.specs.Faults.{fault_at, IsFront, seen, Begins, ending_fault, byte_fault, ShapeFault, NoLine, IsCutShort, IsMisshapen, IsMisplaced, IsFaultOfLines, IsFirstFault}
@@ -23,7 +25,7 @@ use Rattle.flow_text.proofs.Sound.{is_some_solid}
 use Rattle.flow_text.proofs.FormLemmas.{form_takes, form_again}
 use Rattle.flow_text.proofs.TextLemmas.{first_line}
 use Rattle.flow_text.proofs.TextLaws.{printable, printable_form, no_feed, line_takes, feed_at, line_len_le}
-use Rattle.flow_text.proofs.Stands.{is_front, no_front, failed, why, one_more, BaseIs, due_behind_lines, base_behind_lines}
+use Rattle.flow_text.proofs.Stands.{is_front, no_front, why, one_more, BaseIs, due_behind_lines, base_behind_lines}
 
 -- a line of a form ends at its line feed
 line_len_at : (text rest : List ℕ) → printable text ≡ true → line_len (text ++ 10 ∷ rest) ≡ length text
@@ -50,7 +52,7 @@ bad_line f = Err f
 abbrev some_form : Form → Option Form
 some_form f = Some f
 
-abbrev failed_lines : Fault → Result (List Line) Fault
+abbrev pub failed_lines : Fault → Result (List Line) Fault
 failed_lines f = Err f
 
 is_the_fault : (f g : Fault) → failed_lines f ≡ failed_lines g → g ≡ f
@@ -74,7 +76,7 @@ ended_is bytes = by_length (cases_lt (line_len bytes) (length bytes))
     by_length (inr le) = zero_left (length (drop (line_len bytes) bytes)) (simp length-drop (omega arith)) ∙ sym (le-ltb (line_len bytes) (length bytes) le)
 
 -- a line with its line feed would have been read
-line_reads : (r : Reading) (at : ℕ) (bytes : List ℕ) (form : Form) (text more : List ℕ) → IsForm form text → bytes ≡ text ++ 10 ∷ more
+pub line_reads : (r : Reading) (at : ℕ) (bytes : List ℕ) (form : Form) (text more : List ℕ) → IsForm form text → bytes ≡ text ++ 10 ∷ more
     → line_at r at (take (line_len bytes) bytes) (not (eqb (length (drop (line_len bytes) bytes)) 0)) ≡ Ok (record { at = at; form = form })
 line_reads r at bytes form text more is e =
     let len = line_len_at text more (printable_form form text is) in
@@ -148,7 +150,7 @@ ending_is readings.Ended base size g b h = absurd cc
 not_ended : (r : Reading) (size : ℕ) (g : Fault) → fault_of_ending r size ≡ Some g → r ≡ readings.Ended → ⊥
 not_ended r size g h e = let no : fault_of_ending readings.Ended size ≡ Some g = rw e at h in cc
 
-cut_short : (front : List Line) (r : Reading) (so_far : List Line) (size : ℕ) (g : Fault) → run readings.Opening front ≡ passed r → unless (fault_of_ending r size) (Ok so_far) ≡ failed_lines g → IsCutShort front [] size g
+pub cut_short : (front : List Line) (r : Reading) (so_far : List Line) (size : ℕ) (g : Fault) → run readings.Opening front ≡ passed r → unless (fault_of_ending r size) (Ok so_far) ≡ failed_lines g → IsCutShort front [] size g
 cut_short front r so_far size g h e =
     let some = unless_bad (fault_of_ending r size) so_far g e in
     let due = due_behind_lines front r h in (
@@ -178,11 +180,7 @@ here at bytes front size g is which =
     let P : List Line → Type 0 = λ ls. IsCutShort ls bytes size g ⊎ (IsMisshapen ls at bytes g ⊎ IsMisplaced ls at bytes g) in
     ([], at, bytes, (refl, refl), subst IsFront (sym (append-nil front)) is, subst P (sym (append-nil front)) which)
 
-line_seen : {A : Type 0} (r : Result A Fault) → ((x : A) × (r ≡ Ok x)) ⊎ ((f : Fault) × (r ≡ Err f))
-line_seen (Ok x) = inl (x, refl)
-line_seen (Err f) = inr (f, refl)
-
-misshapen : (front : List Line) (r : Reading) (at : ℕ) (bytes : List ℕ) (g : Fault) → 0 < length bytes → run readings.Opening front ≡ passed r
+pub misshapen : (front : List Line) (r : Reading) (at : ℕ) (bytes : List ℕ) (g : Fault) → 0 < length bytes → run readings.Opening front ≡ passed r
     → line_at r at (take (line_len bytes) bytes) (not (eqb (length (drop (line_len bytes) bytes)) 0)) ≡ bad_line g → IsMisshapen front at bytes g
 misshapen front r at bytes g some h e =
     let due = due_behind_lines front r h in
@@ -203,7 +201,7 @@ fault_takes (suc n) at (b ∷ bytes) r front so_far size g le h e =
     let some : 0 < length (b ∷ bytes) = omega arith in
     let one = rw (first_line at (b ∷ bytes) some) at e in
     let shorter : length (drop (suc (line_len (b ∷ bytes))) (b ∷ bytes)) ≤ n = simp length-drop (omega arith) in
-    by_line one (line_seen (line_at r at (take (line_len (b ∷ bytes)) (b ∷ bytes)) (not (eqb (length (drop (line_len (b ∷ bytes)) (b ∷ bytes))) 0))))
+    by_line one (seen_result (line_at r at (take (line_len (b ∷ bytes)) (b ∷ bytes)) (not (eqb (length (drop (line_len (b ∷ bytes)) (b ∷ bytes))) 0))))
     (λ next l more. fault_takes n (at + line_len (b ∷ bytes) + 1) (drop (suc (line_len (b ∷ bytes))) (b ∷ bytes)) next (front ++ l ∷ []) (so_far ++ l ∷ []) size g shorter (one_more front r l h ∙ more))
   where
     all : List ℕ
@@ -227,7 +225,7 @@ fault_takes (suc n) at (b ∷ bytes) r front so_far size g le h e =
 
     by_line : ((line_at r at (take (line_len (b ∷ bytes)) (b ∷ bytes)) (not (eqb (length (drop (line_len (b ∷ bytes)) (b ∷ bytes))) 0)) >>= λ l. structure.take r l >>= λ next. read_on next (so_far ++ l ∷ []) (cuts (at + line_len (b ∷ bytes) + 1) (drop (suc (line_len (b ∷ bytes))) (b ∷ bytes)))) >>= ended_at size) ≡ failed_lines g
         → ((x : Line) × (line_at r at (take (line_len (b ∷ bytes)) (b ∷ bytes)) (not (eqb (length (drop (line_len (b ∷ bytes)) (b ∷ bytes))) 0)) ≡ Ok x)) ⊎ ((f : Fault) × (line_at r at (take (line_len (b ∷ bytes)) (b ∷ bytes)) (not (eqb (length (drop (line_len (b ∷ bytes)) (b ∷ bytes))) 0)) ≡ Err f)) → Deeper → Reached at (b ∷ bytes) front size g
-    by_line e (inl s) deeper = by_place s.0 s.1 (rw s.1 at e) (line_seen (structure.take r s.0)) deeper
+    by_line e (inl s) deeper = by_place s.0 s.1 (rw s.1 at e) (seen_result (structure.take r s.0)) deeper
     by_line e (inr s) deeper =
         let e' : failed_lines s.0 ≡ failed_lines g = rw s.1 at e in
         let same : g ≡ s.0 = is_the_fault s.0 g e' in

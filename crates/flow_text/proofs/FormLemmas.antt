@@ -17,10 +17,12 @@ use Rattle.std.proofs.lemmas.Int.Digits.{digits_value-lt}
 use Rattle.std.proofs.lemmas.Fmt.{digits_decimal, digits_value-decimal, decimal-digits_value, decimal_nonempty, first_decimal, length-decimal-le, decimal_digit}
 use Rattle.mc_base.specs.declared.level.Level.{Level}
 use Rattle.mc_base.specs.declared.level.Level.TheVariants.{Forced, L0, L1, L2}
+use Rattle.mc_base.specs.Finding.{◌>>=◌}
+use Rattle.mc_base.proofs.FindSteps.{some_step}
 use Rattle.flow_text.specs.declared.line.Form.{Form}
 use Rattle.flow_text.specs.declared.line.Form.TheVariants.{Flow, First, Margin, Solid, Wall, Start, End, Atom, Row, Break, Close}
 use Rattle.flow_text.specs.Numbers.{IsNumber, field, digits_len, is_numeral, number_at, field_at}
-use Rattle.flow_text.specs.Forms.{level_text, available_text, fill_text, inside_text, IsAmounts, IsForm, ◌>>=◌, behind, alone, last_field, level_of, level_at, fill_at, or_else, inside_at, amounts_at, start_at, row_end, row_open, row_behind, row_at, word_of, form_of}
+use Rattle.flow_text.specs.Forms.{level_text, available_text, fill_text, inside_text, IsAmounts, IsForm, behind, alone, last_field, level_of, level_at, fill_at, or_else, inside_at, amounts_at, start_at, row_end, row_open, row_behind, row_at, word_of, form_of}
 use Rattle.flow_text.proofs.NumberLemmas.{all_digits_front}
 
 pub own : IsNumeralModel (AllDigits 10) (digits_value 10)
@@ -31,11 +33,6 @@ pass x = Some x
 
 some_is : {A : Type 0} (x y : A) → pass x ≡ pass y → x ≡ y
 some_is x y e = cc
-
--- one step of a chain
-step : {A B P : Type 0} (r : Option A) (f : A → Option B) (y : B) → (r >>= f) ≡ Some y → ((x : A) → r ≡ Some x → f x ≡ Some y → P) → P
-step None f y e k = absurd cc
-step (Some x) f y e k = k x refl e
 
 guarded : {A : Type 0} (b : Bool) (x y : A) → cond b (pass x) None ≡ pass y → (b ≡ true) × (x ≡ y)
 guarded true x y e = (refl, cc)
@@ -137,7 +134,7 @@ alone_takes x (b ∷ rest) y h = absurd cc
 
 last_takes : (bytes : List ℕ) (u : ℕ) → last_field bytes ≡ pass u → IsNumber u × (bytes ≡ field u)
 unfolding last_field
-last_takes bytes u h = step (field_at bytes) _ u h (λ x e g.
+last_takes bytes u h = some_step (field_at bytes) _ u h (λ x e g.
     let f = field_takes bytes x e in
     let a = alone_takes x.0 x.1 u g in
     let P : ℕ → Type 0 = λ n. IsNumber n × (bytes ≡ field n) in
@@ -161,7 +158,7 @@ level_takes : (bytes : List ℕ) (level : Level) → level_at bytes ≡ pass lev
 unfolding level_at
 level_takes [] level h = absurd cc
 level_takes (b ∷ []) level h = absurd cc
-level_takes (b ∷ c ∷ []) level h = step (cond (eqb b 32) (pass c) None) _ level h (λ d e g.
+level_takes (b ∷ c ∷ []) level h = some_step (cond (eqb b 32) (pass c) None) _ level h (λ d e g.
     let k = guarded (eqb b 32) c d e in
     ap (λ (n : ℕ). n ∷ c ∷ []) (eqb-true b 32 k.0) ∙ ap (λ (n : ℕ). 32 ∷ n ∷ []) k.1 ∙ level_is d level g)
 level_takes (b ∷ c ∷ d ∷ bytes) level h = absurd cc
@@ -198,7 +195,7 @@ inside_takes bytes x h = by_word (behind (codes " auto") bytes) refl h
   where
     by_word : (o : Option (List ℕ)) → behind (codes " auto") bytes ≡ o → or_else (o >>= λ rest. Some (false, rest)) (behind (codes " avoid") bytes >>= λ rest. Some (true, rest)) ≡ pass x → bytes ≡ inside_text x.0 ++ x.1
     by_word (Some rest) is e = behind_takes (codes " auto") bytes rest is ∙ ap (λ (y : Bool × List ℕ). inside_text y.0 ++ y.1) (some_is (false, rest) x e)
-    by_word None is e = step (behind (codes " avoid") bytes) _ x e (λ rest i g. behind_takes (codes " avoid") bytes rest i ∙ ap (λ (y : Bool × List ℕ). inside_text y.0 ++ y.1) (some_is (true, rest) x g))
+    by_word None is e = some_step (behind (codes " avoid") bytes) _ x e (λ rest i g. behind_takes (codes " avoid") bytes rest i ∙ ap (λ (y : Bool × List ℕ). inside_text y.0 ++ y.1) (some_is (true, rest) x g))
 
 inside_again : (avoid : Bool) (rest : List ℕ) → inside_at (inside_text avoid ++ rest) ≡ pass (avoid, rest)
 unfolding inside_at
@@ -210,7 +207,7 @@ unfolding amounts_at
 amounts_takes [] x h =
     let P : ℕ × ℕ → Type 0 = λ y. IsNumber y.0 × IsNumber y.1 × IsAmounts y.0 y.1 [] in
     subst P (some_is (0, 0) x h) (omega arith, omega arith, inr (refl, refl, refl))
-amounts_takes (b ∷ bytes) x h = step (field_at (b ∷ bytes)) _ x h (λ top e g. step (last_field top.1) _ x g (λ bottom i k.
+amounts_takes (b ∷ bytes) x h = some_step (field_at (b ∷ bytes)) _ x h (λ top e g. some_step (last_field top.1) _ x g (λ bottom i k.
     let f = field_takes (b ∷ bytes) top e in
     let l = last_takes top.1 bottom i in
     let P : ℕ × ℕ → Type 0 = λ y. IsNumber y.0 × IsNumber y.1 × IsAmounts y.0 y.1 (b ∷ bytes) in
@@ -223,8 +220,8 @@ amounts_again top bottom bytes t b (inr e) = rw (e.0, e.1, e.2) refl
 
 start_takes : (bytes : List ℕ) (form : Form) → start_at bytes ≡ pass form → IsForm form (40 ∷ bytes)
 unfolding start_at
-start_takes bytes form h = step (field_at bytes) _ form h (λ number e1 h1. step (field_at number.1) _ form h1 (λ x e2 h2. step (field_at x.1) _ form h2 (λ w e3 h3.
-    step (inside_at w.1) _ form h3 (λ inside e4 h4. step (amounts_at inside.1) _ form h4 (λ amounts e5 h5.
+start_takes bytes form h = some_step (field_at bytes) _ form h (λ number e1 h1. some_step (field_at number.1) _ form h1 (λ x e2 h2. some_step (field_at x.1) _ form h2 (λ w e3 h3.
+    some_step (inside_at w.1) _ form h3 (λ inside e4 h4. some_step (amounts_at inside.1) _ form h4 (λ amounts e5 h5.
     let f1 = field_takes bytes number e1 in
     let f2 = field_takes number.1 x e2 in
     let f3 = field_takes x.1 w e3 in
@@ -266,15 +263,15 @@ end_takes n w st (x, []) front form some n1 n2 n3 n4 h whole =
     subst P (some_is _ form h) (some, n1, n2, n3, n4, whole (field x) (append-nil (field x)))
 end_takes n w st (x, b ∷ bytes) front form some n1 n2 n3 n4 h whole =
     let r = refused (ltb x 64) (fill_at (b ∷ bytes) >>= λ auto. Some (First n w st (Some x) auto)) form h in
-    step (fill_at (b ∷ bytes)) _ form r.1 (λ auto e g.
+    some_step (fill_at (b ∷ bytes)) _ form r.1 (λ auto e g.
     let P : Form → Type 0 = λ f. IsForm f front in
     subst P (some_is _ form g) (some, n1, n2, n3, (ltb-false x 64 r.0, n4), whole (field x ++ fill_text auto) (ap (λ (t : List ℕ). field x ++ t) (fill_takes (b ∷ bytes) auto e))))
 
 row_takes : (bytes : List ℕ) (form : Form) → row_at bytes ≡ pass form → IsForm form (codes "row" ++ bytes)
 unfolding row_at row_behind
-row_takes bytes form h = step (field_at bytes) _ form h (λ n e1 h1.
+row_takes bytes form h = some_step (field_at bytes) _ form h (λ n e1 h1.
     let r = refused (eqb n.0 0) _ form h1 in
-    step (field_at n.1) _ form r.1 (λ w e2 h2. step (field_at w.1) _ form h2 (λ st e3 h3.
+    some_step (field_at n.1) _ form r.1 (λ w e2 h2. some_step (field_at w.1) _ form h2 (λ st e3 h3.
     let f1 = field_takes bytes n e1 in
     let f2 = field_takes n.1 w e2 in
     let f3 = field_takes w.1 st e3 in
@@ -283,11 +280,11 @@ row_takes bytes form h = step (field_at bytes) _ form h (λ n e1 h1.
   where
     by_dash : (n w st : ℕ × List ℕ) → 0 < n.0 → (bytes ≡ field n.0 ++ n.1) × IsNumber n.0 → (n.1 ≡ field w.0 ++ w.1) × IsNumber w.0 → (w.1 ≡ field st.0 ++ st.1) × IsNumber st.0
         → (o : Option (List ℕ)) → behind (codes " -") st.1 ≡ o → row_open n.0 w.0 st.0 o st.1 ≡ pass form → IsForm form (codes "row" ++ bytes)
-    by_dash n w st some f1 f2 f3 (Some rest) is e = step (fill_at rest) _ form e (λ auto i g.
+    by_dash n w st some f1 f2 f3 (Some rest) is e = some_step (fill_at rest) _ form e (λ auto i g.
         let P : Form → Type 0 = λ f. IsForm f (codes "row" ++ bytes) in
         let tail : st.1 ≡ codes " -" ++ fill_text auto = behind_takes (codes " -") st.1 rest is ∙ ap (λ (t : List ℕ). codes " -" ++ t) (fill_takes rest auto i) in
         subst P (some_is _ form g) (some, f1.1, f2.1, f3.1, tt, ap (λ (t : List ℕ). codes "row" ++ t) (three bytes n.1 w.1 st.1 n.0 w.0 st.0 (codes " -" ++ fill_text auto) f1.0 f2.0 f3.0 tail)))
-    by_dash n w st some f1 f2 f3 None is e = step (field_at st.1) _ form e (λ x i g.
+    by_dash n w st some f1 f2 f3 None is e = some_step (field_at st.1) _ form e (λ x i g.
         let f4 = field_takes st.1 x i in
         end_takes n.0 w.0 st.0 x (codes "row" ++ bytes) form some f1.1 f2.1 f3.1 f4.1 g (λ t same. ap (λ (y : List ℕ). codes "row" ++ y) (three bytes n.1 w.1 st.1 n.0 w.0 st.0 t f1.0 f2.0 f3.0 (f4.0 ∙ same))))
 
@@ -329,11 +326,11 @@ word_takes text form h =
     tested (bytes_eq text (codes "w")) _ _ form h (λ is e. subst P (some_is Wall form e) (same_bytes text (codes "w") is)) (λ _ h.
     tested (bytes_eq text (codes "end")) _ _ form h (λ is e. subst P (some_is Close form e) (same_bytes text (codes "end") is)) (λ _ h.
     tested (bytes_eq text (codes "flow 1")) _ _ form h (λ is e. subst P (some_is Flow form e) (same_bytes text (codes "flow 1") is)) (λ _ h.
-    step (behind (codes "row") text) _ form h (λ rest i g. subst (IsForm form) (sym (behind_takes (codes "row") text rest i)) (row_takes rest form g)))))
+    some_step (behind (codes "row") text) _ form h (λ rest i g. subst (IsForm form) (sym (behind_takes (codes "row") text rest i)) (row_takes rest form g)))))
 
 -- a line of one number
 one_takes : (make : ℕ → Form) (b c : ℕ) (rest : List ℕ) (form : Form) → ((u : ℕ) → IsNumber u → c ∷ rest ≡ c ∷ field u → IsForm (make u) (c ∷ rest)) → eqb b c ≡ true → (last_field rest >>= λ u. Some (make u)) ≡ pass form → IsForm form (b ∷ rest)
-one_takes make b c rest form says is e = step (last_field rest) _ form e (λ u i g.
+one_takes make b c rest form says is e = some_step (last_field rest) _ form e (λ u i g.
     let l = last_takes rest u i in
     subst (λ (d : ℕ). IsForm form (d ∷ rest)) (sym (eqb-true b c is)) (subst (λ (f : Form). IsForm f (c ∷ rest)) (some_is (make u) form g) (says u l.0 (ap (λ (t : List ℕ). c ∷ t) l.1))))
 
@@ -344,7 +341,7 @@ form_takes (b ∷ rest) form h =
     tested (eqb b 97) _ _ form h (λ is e. one_takes (λ u. Atom u) b 97 rest form (λ u n t. (n, t)) is e) (λ _ h.
     tested (eqb b 109) _ _ form h (λ is e. one_takes (λ u. Margin u) b 109 rest form (λ u n t. (n, t)) is e) (λ _ h.
     tested (eqb b 115) _ _ form h (λ is e. one_takes (λ u. Solid u) b 115 rest form (λ u n t. (n, t)) is e) (λ _ h.
-    tested (eqb b 124) _ _ form h (λ is e. step (level_at rest) _ form e (λ level i g.
+    tested (eqb b 124) _ _ form h (λ is e. some_step (level_at rest) _ form e (λ level i g.
     subst (λ (f : Form). IsForm f (b ∷ rest)) (some_is (Break level) form g) (ap (λ (c : ℕ). c ∷ rest) (eqb-true b 124 is) ∙ ap (λ (t : List ℕ). 124 ∷ t) (level_takes rest level i)))) (λ _ h.
     tested (eqb b 40) _ _ form h (λ is e. subst (λ (c : ℕ). IsForm form (c ∷ rest)) (sym (eqb-true b 40 is)) (start_takes rest form e)) (λ _ h.
     tested (eqb b 41) _ _ form h (λ is e. one_takes (λ u. End u) b 41 rest form (λ u n t. (n, t)) is e) (λ _ h. word_takes (b ∷ rest) form h))))))

@@ -4,10 +4,12 @@ use Rattle.std.specs.Prelude.{◌⊎◌, slice_index}
 use Rattle.std.proofs.Math.Dec.{eqb-suc-zero}
 use Rattle.std.proofs.lemmas.Bool.{eqb-true, lt-ltb}
 use Rattle.mc_base.specs.declared.level.Level.{Level}
+use Rattle.mc_base.specs.Reading.{◌>>=◌, fault}
 use Rattle.flow_text.specs.declared.line.Line.{Line}
 use Rattle.flow_text.specs.declared.line.Form.{Form}
 use Rattle.flow_text.specs.declared.line.Form.TheVariants as forms
-use Rattle.flow_text.specs.declared.fault.Fault.{Fault}
+use Rattle.mc_base.specs.declared.read_error.Fault.{Fault}
+use Rattle.mc_base.proofs.ReadSteps.{seen}
 use Rattle.flow_text.specs.declared.structure.Phase.{Phase}
 use Rattle.flow_text.specs.declared.structure.Phase.TheVariants as phases
 use Rattle.flow_text.specs.declared.structure.OpenRow.{OpenRow}
@@ -16,7 +18,7 @@ use Rattle.flow_text.specs.declared.structure.Rows.{Rows}
 use Rattle.flow_text.specs.declared.structure.Reading.{Reading}
 use Rattle.flow_text.specs.declared.structure.Reading.TheVariants as readings
 use Rattle.flow_text.specs.Structure as structure
-use Rattle.flow_text.specs.Structure.{◌>>=◌, fault, unless, is_filled, touched, bottom_of, is_cloned, due_of, in_phase, in_row, fault_of_due, fault_at_end, is_solid, step, take, take_first, take_second, begun}
+use Rattle.flow_text.specs.Structure.{unless, is_filled, touched, bottom_of, is_cloned, due_of, in_phase, in_row, fault_of_due, fault_at_end, is_solid, step, take, take_first, take_second, begun}
 use Rattle.flow_text.specs.Grammar.{Rest, no_more, edge, place, atom, row, line, lines_of, boxes_behind, IsRest, Numbered, BeginsSolid, StartsCloned, EndsCloned, FlowFile, content_lines, IsContent, IsFlowFile}
 use Rattle.flow_text.specs.Run.{run}
 use Rattle.flow_text.proofs.Complete.{open_at, DueMet, Flat, filled_touched, touched_filled, passed}
@@ -285,11 +287,6 @@ one_back (readings.Within s) l ts next e found =
     let t = unless_ok (fault_of_due s.due (Some l.form)) _ next e in
     back s l.at l.form next ts (due_met s.due l ts t.0) t.1 found
 one_back readings.Ended l ts next e found = absurd cc
-
--- what a step answers, as a value with its equation
-pub seen : (r : Result Reading Fault) → ((x : Reading) × (r ≡ Ok x)) ⊎ ((f : Fault) × (r ≡ Err f))
-seen (Ok x) = inl (x, refl)
-seen (Err f) = inr (f, refl)
 
 sound : (toks : List Line) (r : Reading) → run r toks ≡ passed readings.Ended → Found r toks
 sound [] readings.Opening e = absurd cc

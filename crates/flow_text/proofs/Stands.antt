@@ -2,10 +2,12 @@
 use Rattle.std.proofs.Common.{◌≡◌, ℕ, List, [], ◌∷◌, ◌++◌, length, eqb, cond, Bool, true, false, ◌||◌, Option, Some, None, Result, Ok, Err, refl, sym, ap, subst, ◌∙◌, inl, inr}
 use Rattle.std.specs.Prelude.{◌⊎◌, slice_index, MatchBool}
 use Rattle.std.proofs.lemmas.Bool.{eq-eqb}
+use Rattle.mc_base.specs.Reading.{◌>>=◌, fault}
 use Rattle.flow_text.specs.declared.line.Line.{Line}
 use Rattle.flow_text.specs.declared.line.Form.{Form}
 use Rattle.flow_text.specs.declared.line.Form.TheVariants as forms
-use Rattle.flow_text.specs.declared.fault.Fault.{Fault}
+use Rattle.mc_base.specs.declared.read_error.Fault.{Fault}
+use Rattle.mc_base.proofs.ReadSteps.{seen as seen_result, failed, fault_is}
 use Rattle.flow_text.specs.declared.structure.Phase.{Phase}
 use Rattle.flow_text.specs.declared.structure.Phase.TheVariants as phases
 use Rattle.flow_text.specs.declared.structure.OpenRow.{OpenRow}
@@ -14,12 +16,12 @@ use Rattle.flow_text.specs.declared.structure.Rows.{Rows}
 use Rattle.flow_text.specs.declared.structure.Reading.{Reading}
 use Rattle.flow_text.specs.declared.structure.Reading.TheVariants as readings
 use Rattle.flow_text.specs.Structure as structure
-use Rattle.flow_text.specs.Structure.{◌>>=◌, fault, unless, is_filled, touched, bottom_of, is_cloned, due_of, in_phase, in_row, fault_of_due, fault_at_end, is_solid, step, take, take_first, take_second, begun}
+use Rattle.flow_text.specs.Structure.{unless, is_filled, touched, bottom_of, is_cloned, due_of, in_phase, in_row, fault_of_due, fault_at_end, is_solid, step, take, take_first, take_second, begun}
 use Rattle.flow_text.specs.Grammar.{line}
 use Rattle.flow_text.specs.Run.{run}
 use Rattle.flow_text.specs.Faults.{fault_at, IsFront, IsOver, is_edge, Seen, nothing_seen, seen_behind, seen_from, seen, is_item_end, end_behind, end_fault, EndFault, RowsFault, is_flow, DueFault, LineFault}
 use Rattle.flow_text.proofs.Complete.{open_at, within, passed, filled_touched, touched_filled, file_is_read}
-use Rattle.flow_text.proofs.Sound.{seen as seen_result, reading_is, unless_ok, one_test, two_tests, three_tests, other_test, no_box, is_some_solid, read_is_file}
+use Rattle.flow_text.proofs.Sound.{reading_is, unless_ok, one_test, two_tests, three_tests, other_test, no_box, is_some_solid, read_is_file}
 
 -- a line that begins a row, the first one or one inside another
 abbrev Opens : Bool → Form → Type 0
@@ -202,25 +204,13 @@ is_front front r h =
     let f = read_is_file (front ++ e.0) (in_turn readings.Opening front e.0 ∙ rw h e.1) in
     (e.0, f.0, f.1)
 
-abbrev pub failed : Fault → Result Reading Fault
-failed f = Err f
-
 pub no_front : (front : List Line) (f : Fault) → run readings.Opening front ≡ failed f → IsFront front → ⊥
 no_front front f h is =
     let e = file_is_read (front ++ is.0) is.1 is.2 in
     let no : run readings.Opening (front ++ is.0) ≡ failed f = in_turn readings.Opening front is.0 ∙ rw h refl in
     absurd (let two : passed readings.Ended ≡ failed f = sym e ∙ no in cc)
 
-abbrev failed_at : {A : Type 0} → Fault → Result A Fault
-failed_at f = Err f
-
 -- which fault a line is that may not follow
-
-fault_is : {A : Type 0} (at rule : ℕ) (f : Fault) → fault {A = A} at rule ≡ Err f → f ≡ fault_at at rule
-fault_is at rule f h = cc
-
-err_is : {A : Type 0} (f g : Fault) → failed_at {A = A} f ≡ failed_at g → g ≡ f
-err_is f g h = cc
 
 opens_no_item : (nested : Bool) (f : Form) → Opens nested f → is_item_end f ≡ false
 opens_no_item nested (forms.First n w st available auto) h = refl

@@ -3,13 +3,14 @@ use Rattle.std.proofs.Common.{◌≡◌, ℕ, suc, ◌+◌, ◌<◌, ◌≤◌, 
 use Rattle.std.proofs.Math.Dec.{eqb-suc-zero}
 use Rattle.std.proofs.lemmas.List.{drop-drop, drop_all}
 use Rattle.flow_text.specs.declared.line.Line.{Line}
-use Rattle.flow_text.specs.declared.fault.Fault.{Fault}
+use Rattle.mc_base.specs.declared.read_error.Fault.{Fault}
 use Rattle.mc_base.specs.declared.read_error.ReadError.{ReadError}
 use Rattle.mc_base.specs.declared.read_error.ReadError.TheVariants as errors
+use Rattle.mc_base.specs.Reading.{◌>>=◌, Fails}
 use Rattle.flow_text.specs.declared.structure.Reading.{Reading}
 use Rattle.flow_text.specs.declared.structure.Reading.TheVariants as readings
 use Rattle.flow_text.specs.Structure as structure
-use Rattle.flow_text.specs.Structure.{◌>>=◌, Fails, fault_of_ending}
+use Rattle.flow_text.specs.Structure.{fault_of_ending}
 use Rattle.flow_text.specs.Text.{line_len, Cut, cuts, line_at, Read, read_on, ended_at, lines_in}
 
 -- the first line is n bytes long

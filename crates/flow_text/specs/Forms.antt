@@ -4,6 +4,7 @@ use Rattle.std.specs.List.{starts_with}
 use Rattle.std.specs.Str.{bytes_eq}
 use Rattle.mc_base.specs.declared.level.Level.{Level}
 use Rattle.mc_base.specs.declared.level.Level.TheVariants.{Forced, L0, L1, L2}
+use Rattle.mc_base.specs.Finding.{◌>>=◌}
 use Rattle.flow_text.specs.declared.line.Form.{Form}
 use Rattle.flow_text.specs.declared.line.Form.TheVariants.{Flow, First, Margin, Solid, Wall, Start, End, Atom, Row, Break, Close}
 use Rattle.flow_text.specs.Numbers.{IsNumber, field, field_at}
@@ -52,11 +53,6 @@ IsForm (Break level) text = text ≡ codes "|" ++ level_text level
 IsForm Close text = text ≡ codes "end"
 
 -- What is read in a line, field by field.
-infixl 10 ◌>>=◌
-abbrev pub ◌>>=◌ : {A B : Type 0} → Option A → (A → Option B) → Option B
-None >>= f = None
-(Some x) >>= f = f x
-
 abbrev pub behind : List ℕ → List ℕ → Option (List ℕ)
 behind front bytes = if starts_with nat_eq bytes front then Some (drop (length front) bytes) else None
 

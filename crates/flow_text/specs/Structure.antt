@@ -4,9 +4,8 @@ use Rattle.std.specs.Prelude.{◌≡◌, ℕ, ◌==◌, nat_lt, slice_index, Lis
 use Rattle.flow_text.specs.declared.line.Line.{Line}
 use Rattle.flow_text.specs.declared.line.Form.{Form}
 use Rattle.flow_text.specs.declared.line.Form.TheVariants as forms
-use Rattle.flow_text.specs.declared.fault.Fault.{Fault}
-use Rattle.mc_base.specs.declared.read_error.ReadError.{ReadError}
-use Rattle.mc_base.specs.declared.read_error.ReadError.TheVariants as errors
+use Rattle.mc_base.specs.declared.read_error.Fault.{Fault}
+use Rattle.mc_base.specs.Reading.{fault, ◌>>=◌}
 use Rattle.flow_text.specs.declared.structure.Phase.{Phase}
 use Rattle.flow_text.specs.declared.structure.Phase.TheVariants as phases
 use Rattle.flow_text.specs.declared.structure.OpenRow.{OpenRow}
@@ -15,27 +14,10 @@ use Rattle.flow_text.specs.declared.structure.Rows.{Rows}
 use Rattle.flow_text.specs.declared.structure.Reading.{Reading}
 use Rattle.flow_text.specs.declared.structure.Reading.TheVariants as readings
 
-infixl 10 ◌>>=◌
-abbrev pub ◌>>=◌ : {A B : Type 0} → Result A Fault → (A → Result B Fault) → Result B Fault
-(Ok x) >>= f = f x
-(Err e) >>= f = Err e
-
-abbrev pub fault : {A : Type 0} → ℕ → ℕ → Result A Fault
-fault at rule = Err (record { at = at; rule = rule })
-
 -- this, unless there is a fault
 abbrev pub unless : {A : Type 0} → Option Fault → Result A Fault → Result A Fault
 unless None r = r
 unless (Some f) r = Err f
-
--- What a call answered is what reading gives, unless memory ran out.
-abbrev pub Fails : {A : Type 0} → ReadError Fault → Result A Fault → Type 0
-Fails errors.Memory read = Unit {0}
-Fails (errors.Fault f) read = read ≡ Err f
-
-abbrev pub Gives : {A : Type 0} → Result A (ReadError Fault) → Result A Fault → Type 0
-Gives (Ok x) read = read ≡ Ok x
-Gives (Err e) read = Fails e read
 
 abbrev pub is_filled : Phase → Bool
 is_filled phases.Empty = false

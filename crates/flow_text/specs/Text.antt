@@ -1,13 +1,14 @@
 -- The text of a flow file: its lines with their offsets, and what is read in it.
 use Rattle.std.specs.Prelude.{◌≡◌, ℕ, suc, ◌+◌, ◌==◌, nat_lt, List, [], ◌∷◌, ◌++◌, length, Bool, true, false, ◌||◌, if◌then◌else◌, Option, Some, None, Result, Ok, Err}
 use Rattle.mc_base.specs.SoundText.{sound_len}
+use Rattle.mc_base.specs.Reading.{◌>>=◌, fault}
 use Rattle.flow_text.specs.declared.line.Line.{Line}
 use Rattle.flow_text.specs.declared.line.Form.{Form}
-use Rattle.flow_text.specs.declared.fault.Fault.{Fault}
+use Rattle.mc_base.specs.declared.read_error.Fault.{Fault}
 use Rattle.flow_text.specs.declared.structure.Reading.{Reading}
 use Rattle.flow_text.specs.declared.structure.Reading.TheVariants as readings
 use Rattle.flow_text.specs.Forms.{IsForm, form_of}
-use Rattle.flow_text.specs.Structure.{◌>>=◌, fault, unless, take, what_is_due, fault_of_due, fault_of_ending}
+use Rattle.flow_text.specs.Structure.{unless, take, what_is_due, fault_of_due, fault_of_ending}
 
 -- These bytes, which begin at this offset, are these lines, each with its line feed.
 abbrev pub IsText : ℕ → List Line → List ℕ → Type 0

@@ -1,23 +1,23 @@
 //! Reading a text line by line.
 
 ghost use Rattle.std.specs.Prelude.{◌≡◌, ◌+◌, ◌<◌, ◌^◌, List, length, IfOk, IfErr, IsErrOf};
-ghost use Rattle.flow_text.specs.declared.fault.Fault.{Fault};
+ghost use Rattle.mc_base.specs.declared.read_error.Fault.{Fault};
+ghost use Rattle.mc_base.specs.Reading.{Gives};
 ghost use Rattle.flow_text.specs.declared.line.Line.{Line};
 ghost use Rattle.flow_text.specs.Answer as answers;
 ghost use Rattle.flow_text.specs.Answer.{IsAnswer, answer_of, IsRead, IsRefused};
 ghost use Rattle.flow_text.specs.Faults.{IsFirstFault};
 ghost use Rattle.flow_text.specs.Grammar.{FlowFile, IsFlowFile};
-ghost use Rattle.flow_text.specs.Structure.{Gives};
 ghost use Rattle.flow_text.specs.Text as texts;
 ghost use Rattle.flow_text.specs.Text.{IsText};
 
 use crate::cut::{bad_byte, len_before};
-use crate::fault::{Fault, ReadError, fault_at};
+use crate::fault::ReadError;
 use crate::form::form_of;
 use crate::limit::limit_passed;
 use crate::line::{Form, Line};
 use crate::structure::{Reading, fault_of_due, fault_of_ending, take, what_is_due};
-use mc_base::{Input, List, Refusal, Rule, sound_len};
+use mc_base::{Fault, Input, List, Refusal, Rule, fault_at, sound_len};
 use std::alloc::Global;
 
 /// What a line breaks that is of no form.
@@ -139,6 +139,8 @@ pub fn read(alloc: Global, text: &[u8]) -> Result<List<Line>, Refusal>
     ensures only { (lines : List Line) (file : FlowFile) → IsText 0 lines text.now → IsFlowFile lines file → IsAnswer result (answers.within_limits lines) }
     // The fault that is answered is the first, by the grammar.
     ensures first { (fault : Fault) → IsErrOf result (answers.refusal_of fault) → IsFirstFault text.now fault }
+    // A text with a first fault, of which there is at most one, is refused by it.
+    ensures told { (fault : Fault) → IsFirstFault text.now fault → IsAnswer result (answers.faulty fault) }
     // Each refusal has its cause: the first fault, or the first limit that a flow file passes.
     ensures refused { IfErr result (IsRefused text.now) }
     // Which answer it is, line by line from the front.

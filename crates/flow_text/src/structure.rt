@@ -1,9 +1,9 @@
 //! Which line may follow which.
 
-use crate::fault::{Fault, ReadError, fault_at};
+use crate::fault::ReadError;
 use crate::line::{Form, Line};
 use crate::pile::Pile;
-use mc_base::List;
+use mc_base::{Fault, List, fault_at};
 use std::alloc::Global;
 
 /// Where reading stands in a row.
@@ -54,8 +54,8 @@ pub enum Reading {
 }
 
 ghost use Rattle.std.specs.Prelude.{◌≡◌, Some, None};
+ghost use Rattle.mc_base.specs.Reading.{Gives};
 ghost use Rattle.flow_text.specs.Structure as structure;
-ghost use Rattle.flow_text.specs.Structure.{Gives};
 
 /// Whether reading stands behind an item.
 fn is_filled(phase: Phase) -> bool
@@ -187,7 +187,7 @@ pub fn fault_of_due(due: Option<Due>, form: Option<Form>) -> Option<Fault>
 impl Rows {
     ghost use Rattle.std.specs.Prelude.{◌≡◌, Some, None};
     ghost use Rattle.flow_text.specs.Structure as structure;
-    ghost use Rattle.flow_text.specs.Structure.{Gives};
+    ghost use Rattle.mc_base.specs.Reading.{Gives};
 
     /// A margin, a solid amount or a wall.
     fn edge(self, at: u64, solid: Option<u64>) -> Rows

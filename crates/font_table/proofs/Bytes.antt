@@ -4,10 +4,13 @@ use Rattle.std.specs.List.{AllByRecursion, list_all}
 use Rattle.std.proofs.lemmas.Bool.{ne_eqb, eqb-true, eqb-false}
 use Rattle.std.proofs.lemmas.List.{append-nil, length-append, nil_from_length}
 use Rattle.std.proofs.lemmas.List.Folds.{list_all-append}
+use Rattle.mc_base.specs.Reading.{fault, ◌>>=◌}
+use Rattle.mc_base.specs.declared.read_error.Fault.{Fault}
+use Rattle.mc_base.proofs.ReadSteps.{failed_is, step}
 use Rattle.font_table.specs.declared.reading.Building.{Building}
 use Rattle.font_table.specs.Table.{is_plain, IsLine, text_of, HasLine}
-use Rattle.font_table.specs.Reading.{Fault, fault, ◌>>=◌, line_taken, read_from}
-use Rattle.font_table.proofs.Lines.{Lines, folded, step}
+use Rattle.font_table.specs.Reading.{line_taken, read_from}
+use Rattle.font_table.proofs.Lines.{Lines, folded}
 
 -- ---- what is read
 
@@ -101,12 +104,6 @@ pub record Broken (start : ℕ) (line : List ℕ) (b : Building) (bytes : List �
   pub taken : folded start b front ≡ Ok reached
   pub broken : IsBroken (start + length (text_of front)) reached rest f
 
-abbrev failing : {A : Type 0} → Fault → Result A Fault
-failing f = Err f
-
-err_is : {A : Type 0} (x y : Fault) → failing {A = A} x ≡ failing y → x ≡ y
-err_is x y e = cc
-
 -- the fault stands right here
 here : (start : ℕ) (line : List ℕ) (b : Building) (bytes : List ℕ) (f : Fault) → ((s : ℕ) → s ≡ start → IsBroken s b (line ++ bytes) f) → Broken start line b bytes f
 unfolding folded
@@ -115,7 +112,7 @@ here start line b bytes f broken = record { front = []; rest = line ++ bytes; wh
 broken_end : (start : ℕ) (line : List ℕ) (b : Building) (f : Fault) (r : Bool) → IsLine line → eqb (length line) 0 ≡ r → cond {A = Result Building Fault} r (Ok b) (fault start 2) ≡ Err f → Broken start line b [] f
 broken_end start line b f true is none e = absurd cc
 broken_end start line b f false is some e =
-    let f-is = err_is {A = Building} (record { at = start; rule = 2 }) f e in
+    let f-is = failed_is {A = Building} (record { at = start; rule = 2 }) f e in
     here start line b [] f λ s same.
     subst (λ (l : List ℕ). IsBroken s b l f) (sym (append-nil line))
     (cut_short (let filled = eqb-false (length line) 0 some in omega (arith, filled)) is (sym (ap (λ (x : Fault). x.at) f-is) ∙ sym same) (sym (ap (λ (x : Fault). x.rule) f-is)))
@@ -162,6 +159,6 @@ bytes_broken start line b (byte ∷ bytes) f is e =
     by_feed lines_on bytes_on true feed p plain e = by_line lines_on (eqb-true _ _ feed) (line_taken start b line) refl e
     by_feed lines_on bytes_on false other true plain e = broken_byte start line b byte bytes f (bytes_on plain e)
     by_feed lines_on bytes_on false other false plain e =
-        let f-is = err_is {A = Building} (record { at = start + length line; rule = 2 }) f e in
+        let f-is = failed_is {A = Building} (record { at = start + length line; rule = 2 }) f e in
         here start line b (byte ∷ bytes) f λ s same.
         bad_byte line byte bytes refl is plain (eqb-false byte 10 other) (sym (ap (λ (x : Fault). x.at) f-is) ∙ ap (λ (p : ℕ). p + length line) (sym same)) (sym (ap (λ (x : Fault). x.rule) f-is))

@@ -7,18 +7,15 @@ use Rattle.std.specs.Str.{bytes_eq}
 use Rattle.std.specs.Str.Parse.{digits_value, digits_value_after}
 use Rattle.std.proofs.lemmas.Bool.{ne_eqb, eqb-true, eqb-false, leb-true, ltb-true, ltb-false, lt-ltb, le-ltb, le-leb}
 use Rattle.std.proofs.lemmas.Slice.Eq.{bytes_eq-Decides}
+use Rattle.mc_base.specs.Finding.{◌>>=◌}
+use Rattle.mc_base.proofs.FindSteps.{some_step}
 use lib.Utf8.{scalar, scalar_cases}
 use Rattle.font_table.specs.declared.fonts.Advance.{Advance}
 use Rattle.font_table.specs.declared.fonts.Face.{Face}
 use Rattle.font_table.specs.Table.{spaced, is_digit, is_hex_digit, is_name_byte, IsDecimal, IsCode, style_word, IsFaceLine, IsCharacterLine}
-use Rattle.font_table.specs.Forms.{◌>>=◌, word_at, base, is_digit_of, digits_from, number_at, scalar_of, code_at, behind_keyword, name_at, field_at, weight_at, style_of, style_at, face_at, character_at}
+use Rattle.font_table.specs.Forms.{word_at, base, is_digit_of, digits_from, number_at, scalar_of, code_at, behind_keyword, name_at, field_at, weight_at, style_of, style_at, face_at, character_at}
 
 -- ---- tools
-
--- a step that did not fail
-pub step : {A B P : Type 0} (r : Option A) (f : A → Option B) (y : B) → (r >>= f) ≡ Some y → ((x : A) → r ≡ Some x → f x ≡ Some y → P) → P
-step (Some x) f y e go = go x refl e
-step None f y e go = absurd cc
 
 -- a test that passed, and one that failed
 pub passed : {A P : Type 0} (b : Bool) (x : Option A) (y : A) → cond b x None ≡ Some y → (b ≡ true → x ≡ Some y → P) → P
@@ -61,7 +58,7 @@ first_is b bs word rest true is_space deeper e =
     let b-is : b ≡ 32 = eqb-true b 32 is_space in
     rw (← w-is, ← t-is, b-is) refl
 first_is b bs word rest false no_space deeper e =
-    step (word_at bs) (λ x. Some (b ∷ x.0, x.1)) (word, rest) e λ x is_x made.
+    some_step (word_at bs) (λ x. Some (b ∷ x.0, x.1)) (word, rest) e λ x is_x made.
     let pair = some_is {A = List ℕ × List ℕ} (b ∷ x.0, x.1) (word, rest) made in
     let w-is : b ∷ x.0 ≡ word = ap (λ (x : List ℕ × List ℕ). x.0) pair in
     let t-is : x.1 ≡ rest = ap (λ (x : List ℕ × List ℕ). x.1) pair in
@@ -150,7 +147,7 @@ pub code_found : (digits : List ℕ) (v : ℕ) → code_at digits ≡ Some v →
 unfolding code_at
 code_found digits v e =
     failed (eqb (get_or digits 0 0) 48 && ltb 1 (length digits)) _ v e λ short more.
-    step (number_at true 0x10FFFF digits) scalar_of v more λ n is_n rest.
+    some_step (number_at true 0x10FFFF digits) scalar_of v more λ n is_n rest.
     passed (scalar n) (Some n) v rest λ is_scalar same.
     let h = number_found true 0x10FFFF digits n is_n in
     let n-is : n ≡ v = some_is n v same in
@@ -177,15 +174,15 @@ code_word digits v rest h = word_again digits rest (without_space is_hex_digit h
 keyword_found : (keyword line rest : List ℕ) → behind_keyword keyword line ≡ Some rest → line ≡ spaced keyword rest
 unfolding behind_keyword
 keyword_found keyword line rest e =
-    step (word_at line) _ rest e λ word is_word more.
+    some_step (word_at line) _ rest e λ word is_word more.
     passed (bytes_eq word.0 keyword) (Some word.1) rest more λ same is_rest.
     word_found line word.0 word.1 is_word ∙ ap (λ (w : List ℕ). spaced w word.1) ((bytes_eq-Decides word.0 keyword).0 same) ∙ ap (λ (t : List ℕ). spaced keyword t) (some_is word.1 rest is_rest)
 
 field_found : (most : ℕ) (bytes : List ℕ) (x : ℕ × List ℕ) → field_at most bytes ≡ Some x → (digits : List ℕ) × (bytes ≡ spaced digits x.1) × IsDecimal digits x.0 × (x.0 ≤ most)
 unfolding field_at
 field_found most bytes x e =
-    step (word_at bytes) _ x e λ word is_word more.
-    step (number_at false most word.0) _ x more λ n is_n made.
+    some_step (word_at bytes) _ x e λ word is_word more.
+    some_step (number_at false most word.0) _ x more λ n is_n made.
     let h = decimal_found most word.0 n is_n in
     subst (λ (y : ℕ × List ℕ). (digits : List ℕ) × (bytes ≡ spaced digits y.1) × IsDecimal digits y.0 × (y.0 ≤ most)) (some_is {A = ℕ × List ℕ} (n, word.1) x made)
     (word.0, word_found bytes word.0 word.1 is_word, h.0, h.1)
@@ -197,7 +194,7 @@ field_again most digits v rest h within = rw (decimal_word digits v rest h, deci
 weight_found : (bytes : List ℕ) (x : ℕ × List ℕ) → weight_at bytes ≡ Some x → (digits : List ℕ) × (bytes ≡ spaced digits x.1) × IsDecimal digits x.0 × (x.0 ≤ 1000) × (1 ≤ x.0)
 unfolding weight_at
 weight_found bytes x e =
-    step (field_at 1000 bytes) _ x e λ f is_f more.
+    some_step (field_at 1000 bytes) _ x e λ f is_f more.
     passed (ltb 0 f.0) (Some f) x more λ weighs made.
     let h = field_found 1000 bytes f is_f in
     subst (λ (y : ℕ × List ℕ). (digits : List ℕ) × (bytes ≡ spaced digits y.1) × IsDecimal digits y.0 × (y.0 ≤ 1000) × (1 ≤ y.0)) (some_is f x made)
@@ -212,7 +209,7 @@ weight_again digits v rest h within weighs =
 name_found : (bytes : List ℕ) (x : List ℕ × List ℕ) → name_at bytes ≡ Some x → (bytes ≡ spaced x.0 x.1) × (0 < length x.0) × IsTrue (list_all is_name_byte x.0)
 unfolding name_at
 name_found bytes x e =
-    step (word_at bytes) _ x e λ word is_word more.
+    some_step (word_at bytes) _ x e λ word is_word more.
     passed (ltb 0 (length word.0) && list_all is_name_byte word.0) (Some word) x more λ good made.
     both (ltb 0 (length word.0)) (list_all is_name_byte word.0) good λ filled named.
     subst (λ (y : List ℕ × List ℕ). (bytes ≡ spaced y.0 y.1) × (0 < length y.0) × IsTrue (list_all is_name_byte y.0)) (some_is word x made)
@@ -235,8 +232,8 @@ style_is word italic e = by_test (bytes_eq word (codes "normal")) refl e
 style_found : (bytes : List ℕ) (x : Bool × List ℕ) → style_at bytes ≡ Some x → bytes ≡ spaced (style_word x.0) x.1
 unfolding style_at
 style_found bytes x e =
-    step (word_at bytes) _ x e λ word is_word more.
-    step (style_of word.0) _ x more λ italic is_italic made.
+    some_step (word_at bytes) _ x e λ word is_word more.
+    some_step (style_of word.0) _ x more λ italic is_italic made.
     subst (λ (y : Bool × List ℕ). bytes ≡ spaced (style_word y.0) y.1) (some_is {A = Bool × List ℕ} (italic, word.1) x made)
     (word_found bytes word.0 word.1 is_word ∙ ap (λ (w : List ℕ). spaced w word.1) (style_is word.0 italic is_italic))
 
@@ -250,13 +247,13 @@ style_again true rest = refl
 pub face_found : (line : List ℕ) (face : Face) → face_at line ≡ Some face → IsFaceLine line face × (face.advances ≡ [])
 unfolding face_at
 face_found line face e =
-    step (behind_keyword (codes "face") line) _ face e λ behind is_behind e1.
-    step (name_at behind) _ face e1 λ name is_name e2.
-    step (weight_at name.1) _ face e2 λ weight is_weight e3.
-    step (style_at weight.1) _ face e3 λ style is_style e4.
-    step (field_at 10000 style.1) _ face e4 λ ascent is_ascent e5.
-    step (field_at 10000 ascent.1) _ face e5 λ descent is_descent e6.
-    step (number_at false 10000 descent.1) _ face e6 λ default is_default made.
+    some_step (behind_keyword (codes "face") line) _ face e λ behind is_behind e1.
+    some_step (name_at behind) _ face e1 λ name is_name e2.
+    some_step (weight_at name.1) _ face e2 λ weight is_weight e3.
+    some_step (style_at weight.1) _ face e3 λ style is_style e4.
+    some_step (field_at 10000 style.1) _ face e4 λ ascent is_ascent e5.
+    some_step (field_at 10000 ascent.1) _ face e5 λ descent is_descent e6.
+    some_step (number_at false 10000 descent.1) _ face e6 λ default is_default made.
     let n = name_found behind name is_name in
     let w = weight_found name.1 weight is_weight in
     let a = field_found 10000 style.1 ascent is_ascent in
@@ -311,10 +308,10 @@ face_again line face h =
 pub character_found : (line : List ℕ) (a : Advance) → character_at line ≡ Some a → IsCharacterLine line a
 unfolding character_at
 character_found line a e =
-    step (behind_keyword (codes "ch") line) _ a e λ behind is_behind e1.
-    step (word_at behind) _ a e1 λ word is_word e2.
-    step (code_at word.0) _ a e2 λ ch is_ch e3.
-    step (number_at false 10000 word.1) _ a e3 λ amount is_amount made.
+    some_step (behind_keyword (codes "ch") line) _ a e λ behind is_behind e1.
+    some_step (word_at behind) _ a e1 λ word is_word e2.
+    some_step (code_at word.0) _ a e2 λ ch is_ch e3.
+    some_step (number_at false 10000 word.1) _ a e3 λ amount is_amount made.
     let f = decimal_found 10000 word.1 amount is_amount in
     subst (λ (y : Advance). IsCharacterLine line y) (some_is _ a made)
     (record {

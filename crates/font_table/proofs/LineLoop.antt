@@ -3,9 +3,11 @@ use Rattle.std.proofs.Common.{◌≡◌, ℕ, ◌+◌, ◌-◌, ◌≤◌, ◌<�
 use Rattle.std.proofs.lemmas.List.{length-take, take_more, get_or-drop, drop_all}
 use Rattle.mc_base.specs.declared.refusal.Refusal.{Refusal}
 use Rattle.mc_base.specs.declared.refusal.Refusal.TheVariants as refusals
+use Rattle.mc_base.specs.Reading.{fault, ◌>>=◌}
+use Rattle.mc_base.specs.declared.read_error.Fault.{Fault}
 use Rattle.font_table.specs.declared.reading.Building.{Building}
 use Rattle.font_table.specs.Table.{is_plain}
-use Rattle.font_table.specs.Reading.{Fault, fault, Fails, ◌>>=◌, line_taken, read_from}
+use Rattle.font_table.specs.Reading.{Fails, line_taken, read_from}
 
 abbrev pub part : List ℕ → ℕ → ℕ → List ℕ
 part text start i = take (i - start) (drop start text)

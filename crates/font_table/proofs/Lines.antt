@@ -5,12 +5,15 @@ use Rattle.std.specs.Str.{bytes_eq}
 use Rattle.std.proofs.lemmas.Bool.{ne_eqb, leb-true, le-leb}
 use Rattle.std.proofs.lemmas.List.{append-nil}
 use Rattle.std.proofs.lemmas.Slice.Eq.{bytes_eq-Decides}
+use Rattle.mc_base.specs.Reading.{fault, ◌>>=◌}
+use Rattle.mc_base.specs.declared.read_error.Fault.{Fault}
+use Rattle.mc_base.proofs.ReadSteps.{step, given_is}
 use Rattle.font_table.specs.declared.fonts.Advance.{Advance}
 use Rattle.font_table.specs.declared.fonts.Face.{Face}
 use Rattle.font_table.specs.declared.reading.Building.{Building}
 use Rattle.font_table.specs.Table.{AreCharacters, AreFaces, IsTable, IsFaceLine, IsCharacterLine}
 use Rattle.font_table.specs.Forms.{face_at, character_at}
-use Rattle.font_table.specs.Reading.{Fault, fault, ◌>>=◌, faces_of, nothing_yet, face_begun, with_advance, character_taken, form_taken, line_taken}
+use Rattle.font_table.specs.Reading.{faces_of, nothing_yet, face_begun, with_advance, character_taken, form_taken, line_taken}
 use Rattle.font_table.proofs.Forms.{face_found, face_again, character_found, character_again, not_a_face}
 
 abbrev pub Lines : Type 0
@@ -28,22 +31,16 @@ pub data Taken (at : ℕ) (b : Building) (line : List ℕ) (next : Building) : T
   a_character : (face : Face) (a : Advance) → IsCharacterLine line a → b.last ≡ Some face → b.least ≤ a.ch
       → next ≡ record { done = b.done; last = Some (with_advance face a); least = a.ch + 1 } → Taken at b line next
 
-abbrev pub done : {A : Type 0} → A → Result A Fault
-done x = Ok x
-
-pub done_is : {A : Type 0} (x y : A) → done x ≡ done y → x ≡ y
-done_is x y e = cc
-
 placed_found : (at : ℕ) (b : Building) (line : List ℕ) (a : Advance) (next : Building) (last : Option Face) → b.last ≡ last → IsCharacterLine line a → character_taken at b last a ≡ Ok next → Taken at b line next
 placed_found at b line a next None e form taken = absurd cc
 placed_found at b line a next (Some face) e form taken = by_order (leb b.least a.ch) refl taken
   where
     by_order : (r : Bool) → leb b.least a.ch ≡ r → cond {A = Result Building Fault} r (Ok (record { done = b.done; last = Some (with_advance face a); least = a.ch + 1 })) (fault at 5) ≡ Ok next → Taken at b line next
-    by_order true t taken = a_character face a form e (leb-true _ _ t) (sym (done_is _ next taken))
+    by_order true t taken = a_character face a form e (leb-true _ _ t) (sym (given_is _ next taken))
     by_order false t taken = absurd cc
 
 form_found : (at : ℕ) (b : Building) (line : List ℕ) (next : Building) (f : Option Face) (c : Option Advance) → face_at line ≡ f → character_at line ≡ c → form_taken at b f c ≡ Ok next → Taken at b line next
-form_found at b line next (Some face) c is_f is_c taken = let h = face_found line face is_f in a_face face h.0 h.1 (sym (done_is _ next taken))
+form_found at b line next (Some face) c is_f is_c taken = let h = face_found line face is_f in a_face face h.0 h.1 (sym (given_is _ next taken))
 form_found at b line next None (Some a) is_f is_c taken = placed_found at b line a next b.last refl (character_found line a is_c) taken
 form_found at b line next None None is_f is_c taken = absurd cc
 
@@ -78,11 +75,6 @@ abbrev pub Completes : Building → Lines → List Face → Type 0
 Completes b lines faces = CompletesLast b.done b.least b.last lines faces
 
 -- ---- what is taken completes
-
--- a step that did not fail
-pub step : {A B P : Type 0} (r : Result A Fault) (f : A → Result B Fault) (y : B) → (r >>= f) ≡ Ok y → ((x : A) → r ≡ Ok x → f x ≡ Ok y → P) → P
-step (Ok x) f y e go = go x refl e
-step (Err d) f y e go = absurd cc
 
 -- a face's line says nothing of the characters
 pub other_advances : (line : List ℕ) (face : Face) (advances : List Advance) → IsFaceLine line face → IsFaceLine line (record face { advances = advances })
@@ -147,7 +139,7 @@ taken_next at b next line lines faces (a_character face a form last-is order nex
 
 pub lines_found : (at : ℕ) (b after : Building) (lines : Lines) → 0 < at → folded at b lines ≡ Ok after → Completes b lines (faces_of after)
 unfolding folded
-lines_found at b after [] later e = subst (λ (x : Building). Completes b [] (faces_of x)) (done_is b after e) (nothing_left b.done b.least b.last)
+lines_found at b after [] later e = subst (λ (x : Building). Completes b [] (faces_of x)) (given_is b after e) (nothing_left b.done b.least b.last)
 lines_found at b after (line ∷ lines) later e =
     step (line_taken at b line) _ after e λ next is_next more.
     taken_next at b next line lines (faces_of after) (line_found at b line next later is_next) (lines_found (at + length line + 1) next after lines (omega arith) more)
@@ -233,7 +225,7 @@ table_found b (line ∷ lines) some e filled =
   where
     by_test : (r : Bool) → bytes_eq line (codes "metrics 1") ≡ r → (next : Building) → cond {A = Result Building Fault} r (Ok nothing_yet) (fault 0 3) ≡ Ok next → folded (0 + length line + 1) next lines ≡ Ok b → IsTable (line ∷ lines) (faces_of b)
     by_test true t next is_next more =
-        let begun : folded (0 + length line + 1) nothing_yet lines ≡ Ok b = ap (λ (n : Building). folded (0 + length line + 1) n lines) (done_is nothing_yet next is_next) ∙ more in
+        let begun : folded (0 + length line + 1) nothing_yet lines ≡ Ok b = ap (λ (n : Building). folded (0 + length line + 1) n lines) (given_is nothing_yet next is_next) ∙ more in
         let h = lines_found (0 + length line + 1) nothing_yet b lines (omega arith) begun in
         record {
           rest = lines;

@@ -9,15 +9,18 @@ use Rattle.std.proofs.lemmas.Slice.Eq.{bytes_eq-Decides}
 use Rattle.std.proofs.lemmas.Str.{utf8_valid_len_le}
 use Rattle.mc_base.specs.SoundText.{sound_len}
 use Rattle.mc_base.proofs.SoundBytes.{IsSafe, sound_text}
+use Rattle.mc_base.specs.Reading.{fault, ◌>>=◌}
+use Rattle.mc_base.specs.declared.read_error.Fault.{Fault}
+use Rattle.mc_base.proofs.ReadSteps.{failed, failed_is, step, given_is}
 use Rattle.font_table.specs.declared.fonts.Advance.{Advance}
 use Rattle.font_table.specs.declared.fonts.Face.{Face}
 use Rattle.font_table.specs.declared.reading.Building.{Building}
 use Rattle.font_table.specs.Sound.{AreSound, IsSoundFace, IsSound}
 use Rattle.font_table.specs.Table.{is_plain, IsLine, text_of, AreCharacters, AreFaces, IsTable, IsMetrics, IsFaceLine, IsCharacterLine, Begins, HasLine, IsFaultBehind, bad_byte, cut_short, no_header, no_form, out_of_order, no_face, IsFaultOfLines, IsFirstFault}
 use Rattle.font_table.specs.Forms.{face_at, character_at}
-use Rattle.font_table.specs.Reading.{Fault, fault, ◌>>=◌, faces_of, nothing_yet, face_begun, character_taken, form_taken, line_taken, read_from, ended, all_of}
+use Rattle.font_table.specs.Reading.{faces_of, nothing_yet, face_begun, character_taken, form_taken, line_taken, read_from, ended, all_of}
 use Rattle.font_table.proofs.Forms.{both, face_again, character_found, character_again}
-use Rattle.font_table.proofs.Lines.{Lines, folded, step, done_is, face_taken, table_found, table_again}
+use Rattle.font_table.proofs.Lines.{Lines, folded, face_taken, table_found, table_again}
 use Rattle.font_table.proofs.Bytes.{bytes_found, bytes_again, bytes_broken, IsBroken}
 use Rattle.font_table.proofs.Bytes as bytes
 
@@ -89,12 +92,6 @@ no_form_none line none face form = let e = sym none ∙ face_again line face for
 no_character_none : (line : List ℕ) → character_at line ≡ None → (a : Advance) → IsCharacterLine line a → ⊥
 no_character_none line none a form = let e = sym none ∙ character_again line a form in absurd cc
 
-abbrev failing : {A : Type 0} → Fault → Result A Fault
-failing f = Err f
-
-err_is : {A : Type 0} (x y : Fault) → failing {A = A} x ≡ failing y → x ≡ y
-err_is x y e = cc
-
 -- no table begins with lines that were refused
 no_table : (front : Lines) (reached : Building) (line : List ℕ) (f : Fault) → folded 0 nothing_yet front ≡ Ok reached → line_taken (0 + length (text_of front)) reached line ≡ Err f → Begins (front ++ line ∷ []) → ⊥
 unfolding folded
@@ -111,14 +108,14 @@ no_table front reached line f taken refusal table =
 refused_character : (front : Lines) (rest : List ℕ) (start : ℕ) (b : Building) (line : List ℕ) (a : Advance) (f : Fault) (last : Option Face) → 0 < length front → HasLine rest line → IsCharacterLine line a
     → (Begins (front ++ line ∷ []) → ⊥) → character_taken start b last a ≡ Err f → IsFaultBehind front rest start f.at f.rule
 refused_character front rest start b line a f None some has form stuck e =
-    let f-is = err_is {A = Building} (record { at = start; rule = 5 }) f e in
+    let f-is = failed_is {A = Building} (record { at = start; rule = 5 }) f e in
     out_of_order line a some has form stuck (sym (ap (λ (x : Fault). x.at) f-is)) (sym (ap (λ (x : Fault). x.rule) f-is))
 refused_character front rest start b line a f (Some face) some has form stuck e = by_order (leb b.least a.ch) e
   where
     by_order : (r : Bool) → cond {A = Result Building Fault} r (Ok (record { done = b.done; last = Some (record face { advances = face.advances ++ a ∷ [] }); least = a.ch + 1 })) (fault start 5) ≡ Err f → IsFaultBehind front rest start f.at f.rule
     by_order true e = absurd cc
     by_order false e =
-        let f-is = err_is {A = Building} (record { at = start; rule = 5 }) f e in
+        let f-is = failed_is {A = Building} (record { at = start; rule = 5 }) f e in
         out_of_order line a some has form stuck (sym (ap (λ (x : Fault). x.at) f-is)) (sym (ap (λ (x : Fault). x.rule) f-is))
 
 refused_form : (front : Lines) (rest : List ℕ) (start : ℕ) (b : Building) (line : List ℕ) (f : Fault) (face : Option Face) (character : Option Advance) → 0 < length front → HasLine rest line
@@ -126,7 +123,7 @@ refused_form : (front : Lines) (rest : List ℕ) (start : ℕ) (b : Building) (l
 refused_form front rest start b line f (Some face) character some has is_face is_character stuck e = absurd cc
 refused_form front rest start b line f None (Some a) some has is_face is_character stuck e = refused_character front rest start b line a f b.last some has (character_found line a is_character) stuck e
 refused_form front rest start b line f None None some has is_face is_character stuck e =
-    let f-is = err_is {A = Building} (record { at = start; rule = 4 }) f e in
+    let f-is = failed_is {A = Building} (record { at = start; rule = 4 }) f e in
     no_form line some has (no_form_none line is_face) (no_character_none line is_character) (sym (ap (λ (x : Fault). x.at) f-is)) (sym (ap (λ (x : Fault). x.rule) f-is))
 
 refused_first : (rest : List ℕ) (b : Building) (line : List ℕ) (f : Fault) → HasLine rest line → line_taken 0 b line ≡ Err f → IsFaultBehind [] rest 0 f.at f.rule
@@ -136,7 +133,7 @@ refused_first rest b line f has e = by_test (bytes_eq line (codes "metrics 1")) 
     by_test : (r : Bool) → bytes_eq line (codes "metrics 1") ≡ r → cond {A = Result Building Fault} r (Ok b) (fault 0 3) ≡ Err f → IsFaultBehind [] rest 0 f.at f.rule
     by_test true t e = absurd cc
     by_test false t e =
-        let f-is = err_is {A = Building} (record { at = 0; rule = 3 }) f e in
+        let f-is = failed_is {A = Building} (record { at = 0; rule = 3 }) f e in
         let other : line ≢ codes "metrics 1" = λ same. let eq = (bytes_eq-Decides line (codes "metrics 1")).1 same in absurd cc in
         no_header refl (inr (line, other, has)) (sym (ap (λ (x : Fault). x.at) f-is)) (sym (ap (λ (x : Fault). x.rule) f-is))
 
@@ -189,7 +186,7 @@ no_faces text b f sound e none filled f-is =
     let size : length text ≡ length (text_of h.lines) = ap length h.whole in
     let stuck : (faces : List Face) → IsTable h.lines faces → ⊥ = λ faces table.
     let again = table_again h.lines faces table in
-    let same : again.0 ≡ b = done_is again.0 b (sym again.1 ∙ h.taken) in
+    let same : again.0 ≡ b = given_is again.0 b (sym again.1 ∙ h.taken) in
     let empty : faces ≡ [] = sym again.2 ∙ ap faces_of same ∙ none in
     omega (arith, table.some, ap length empty) in
     record {
@@ -207,8 +204,8 @@ ended_fault text b (face ∷ faces) f sound read faces-is e = absurd cc
 ended_fault text b [] f sound read faces-is e = by_size (eqb (length text) 0) refl e
   where
     by_size : (r : Bool) → eqb (length text) 0 ≡ r → cond {A = Result (List Face) Fault} r (fault 0 3) (fault (length text) 6) ≡ Err f → IsFaultOfLines text f.at f.rule
-    by_size true none e = empty_text text f sound (nil_from_length text (eqb-true _ _ none)) (sym (err_is {A = List Face} (record { at = 0; rule = 3 }) f e))
-    by_size false some e = no_faces text b f sound read faces-is (λ nil. eqb-false (length text) 0 some (ap length nil)) (sym (err_is {A = List Face} (record { at = length text; rule = 6 }) f e))
+    by_size true none e = empty_text text f sound (nil_from_length text (eqb-true _ _ none)) (sym (failed_is {A = List Face} (record { at = 0; rule = 3 }) f e))
+    by_size false some e = no_faces text b f sound read faces-is (λ nil. eqb-false (length text) 0 some (ap length nil)) (sym (failed_is {A = List Face} (record { at = length text; rule = 6 }) f e))
 
 pub first_fault : (text : List ℕ) (f : Fault) → all_of text ≡ Err f → IsFirstFault text f.at f.rule
 unfolding all_of
@@ -216,11 +213,11 @@ first_fault text f e = by_sound (ltb (sound_len text) (length text)) refl e
   where
     by_read : (r : Result Building Fault) → read_from 0 [] nothing_yet text ≡ r → sound_len text ≡ length text → (r >>= λ b. ended (length text) (faces_of b)) ≡ Err f → IsFirstFault text f.at f.rule
     by_read (Ok b) read sound e = inr (ended_fault text b (faces_of b) f sound read refl e)
-    by_read (Err d) read sound e = inr (fault_of_lines text f sound (read ∙ ap (λ (x : Fault). failing {A = Building} x) (err_is {A = List Face} d f e)))
+    by_read (Err d) read sound e = inr (fault_of_lines text f sound (read ∙ ap (λ (x : Fault). failed {A = Building} x) (failed_is {A = List Face} d f e)))
 
     by_sound : (r : Bool) → ltb (sound_len text) (length text) ≡ r → cond r (fault (sound_len text) 1) (read_from 0 [] nothing_yet text >>= λ b. ended (length text) (faces_of b)) ≡ Err f → IsFirstFault text f.at f.rule
     by_sound true short e =
-        let f-is = err_is {A = List Face} (record { at = sound_len text; rule = 1 }) f e in
+        let f-is = failed_is {A = List Face} (record { at = sound_len text; rule = 1 }) f e in
         let at : f.at ≡ sound_len text = sym (ap (λ (x : Fault). x.at) f-is) in
         inl (sym (ap (λ (x : Fault). x.rule) f-is), at, subst (λ (n : ℕ). n < length text) (sym at) (ltb-true (sound_len text) (length text) short))
     by_sound false whole e =
@@ -231,7 +228,7 @@ first_fault text f e = by_sound (ltb (sound_len text) (length text)) refl e
 
 faces_have_lines : (b : Building) (lines : Lines) → folded 0 nothing_yet lines ≡ Ok b → 0 < length (faces_of b) → text_of lines ≡ [] → ⊥
 unfolding folded
-faces_have_lines b [] taken filled nil = let same = done_is nothing_yet b taken in omega (arith, filled, ap (λ (x : Building). length (faces_of x)) same)
+faces_have_lines b [] taken filled nil = let same = given_is nothing_yet b taken in omega (arith, filled, ap (λ (x : Building). length (faces_of x)) same)
 faces_have_lines b (line ∷ lines) taken filled nil = omega (arith, ap length nil, length-append line (10 ∷ text_of lines))
 
 pub is_found : (text : List ℕ) (faces : List Face) → all_of text ≡ Ok faces → IsMetrics text faces
@@ -246,7 +243,7 @@ is_found text faces e = by_sound (ltb (sound_len text) (length text)) e
         by_size false e = absurd cc
     by_faces b (face ∷ more) read all-is e =
         let h = bytes_found 0 [] nothing_yet b text refl read in
-        let same : faces_of b ≡ faces = all-is ∙ done_is (face ∷ more) faces e in
+        let same : faces_of b ≡ faces = all-is ∙ given_is (face ∷ more) faces e in
         let filled : 0 < length (faces_of b) = omega (arith, ap length all-is) in
         let not_empty : text_of h.lines ≡ [] → ⊥ = λ nil. faces_have_lines b h.lines h.taken filled nil in
         record {

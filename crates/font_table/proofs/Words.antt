@@ -1,6 +1,6 @@
 -- Reading words and numbers, as loops do.
 use Rattle.std.proofs.Common.{ℕ, List, ◌++◌, Option, Some}
-use Rattle.font_table.specs.Forms.{◌>>=◌}
+use Rattle.mc_base.specs.Finding.{◌>>=◌}
 
 abbrev Word : Type 0
 Word = Option (List ℕ × List ℕ)

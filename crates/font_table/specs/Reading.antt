@@ -8,20 +8,10 @@ use Rattle.font_table.specs.declared.fonts.Advance.{Advance}
 use Rattle.font_table.specs.declared.fonts.Face.{Face}
 use Rattle.font_table.specs.declared.reading.Building.{Building}
 use Rattle.mc_base.specs.SoundText.{sound_len}
+use Rattle.mc_base.specs.Reading.{fault, ◌>>=◌}
+use Rattle.mc_base.specs.declared.read_error.Fault.{Fault}
 use Rattle.font_table.specs.Table.{is_plain, IsFirstFault}
 use Rattle.font_table.specs.Forms.{face_at, character_at}
-
-pub record Fault : Type 0 where
-  pub at : ℕ
-  pub rule : ℕ
-
-infixl 10 ◌>>=◌
-abbrev pub ◌>>=◌ : {A B : Type 0} → Result A Fault → (A → Result B Fault) → Result B Fault
-(Ok x) >>= f = f x
-(Err e) >>= f = Err e
-
-abbrev pub fault : {A : Type 0} → ℕ → ℕ → Result A Fault
-fault at rule = Err (record { at = at; rule = rule })
 
 -- a fault of a metrics table
 abbrev pub refusal : ℕ → ℕ → Refusal

@@ -97,7 +97,7 @@ laid-row-lines d r whole starts sound atoms stacks depth frame y height =
 pub laid-row-places : (d : FlowsData) (row : ℕ) (height : Option ℕ) → IsSoundFlow d (flow_in d row) → HoldsAtoms (flow_in d row) → ArePlaces (flow_in d row) 0 (end_items (row_columns d row height))
 unfolding row_columns
 laid-row-places d row height sound atoms =
-    chain (row_fragments d (length d.rows)) d (λ n s x y. []) (row_of d row) sound atoms height 0 (record { x = 0; y = 0; w = 0; h = 0; extent = 0; feet = 0 }) 0 0 (left_in (all_rows d) (flow_in d row) row_start) 0
+    chain (row_fragments d (length d.rows)) d (λ n s x y. []) (row_of d row) sound atoms height 0 (record { x = 0; y = 0; w = 0; h = 0; extent = 0; bottoms = 0 }) 0 0 (left_in (all_rows d) (flow_in d row) row_start) 0
 
 -- a row as it stands in a stack where this much is available
 abbrev pub laid_row : FlowsData → (row : ℕ) → (available : Option ℕ) → (height : ℕ) → RowLaid

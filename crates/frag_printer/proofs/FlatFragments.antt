@@ -111,9 +111,9 @@ pub stack-lines : (d : FlowsData) (n s depth x y : ℕ) → IsSoundFlow d (flow_
     lines_of_stack d (suc n) s depth x y
     ≡ record { depth = depth; kind = stack s; x = x; y = y; w = (stack_of d s).w; h = stack_height d s }
     ∷ flat_lines (row_fragments d (suc (length d.rows))) d (lines_of_stack d n) (flow_of d (stack_of d s).flow) (depth + 1)
-    (record { x = x; y = y; w = (stack_of d s).w; h = stack_height d s; extent = stack_extent d (stack_of d s).bound (flow_of d (stack_of d s).flow); feet = 0 }) (stack_places d s)
+    (record { x = x; y = y; w = (stack_of d s).w; h = stack_height d s; extent = stack_extent d (stack_of d s).bound (flow_of d (stack_of d s).flow); bottoms = 0 }) (stack_places d s)
 unfolding lines_of_stack lines_of_tree stack_fragment
 stack-lines d n s depth x y sound =
     ap (λ ls. record { depth = depth; kind = stack s; x = x; y = y; w = (stack_of d s).w; h = stack_height d s } ∷ ls)
     (trees-flat (row_fragments d (suc (length d.rows))) d (lines_of_stack d n) (flow_of d (stack_of d s).flow) (stack_places d s) (stack-places-nested d s sound) (depth + 1)
-    (record { x = x; y = y; w = (stack_of d s).w; h = stack_height d s; extent = stack_extent d (stack_of d s).bound (flow_of d (stack_of d s).flow); feet = 0 }))
+    (record { x = x; y = y; w = (stack_of d s).w; h = stack_height d s; extent = stack_extent d (stack_of d s).bound (flow_of d (stack_of d s).flow); bottoms = 0 }))

@@ -121,11 +121,11 @@ module _ (columns : RowLaid → List PlainTree) (d : FlowsData) (stacks : ℕ �
   record Parted (b : ℕ) (inner : List ℕ) (xs : List Placed) : Type 0 where
     inside : ArePlacedNested inner (inside_box b xs)
     behind : ArePlacedNested [] (behind_box b xs)
-    same : (depth deep feet : ℕ) (frame : Frame) → deep ≡ depth + suc (length inner) → feet ≡ frame.feet + (below inner + (box_of d b).bottom) →
-        lines deep (record frame { feet = feet }) xs ≡ lines deep (record frame { feet = feet }) (inside_box b xs) ++ lines depth frame (behind_box b xs)
+    same : (depth deep under : ℕ) (frame : Frame) → deep ≡ depth + suc (length inner) → under ≡ frame.bottoms + (below inner + (box_of d b).bottom) →
+        lines deep (record frame { bottoms = under }) xs ≡ lines deep (record frame { bottoms = under }) (inside_box b xs) ++ lines depth frame (behind_box b xs)
 
   parted : (b : ℕ) (inner : List ℕ) (xs : List Placed) → ArePlacedNested (inner ++ b ∷ []) xs → is_among inner b ≡ false → Parted b inner xs
-  parted b inner [] nested out = record { inside = tt; behind = tt; same = λ depth deep feet frame p q. refl }
+  parted b inner [] nested out = record { inside = tt; behind = tt; same = λ depth deep under frame p q. refl }
   parted b inner (opens_at e y starts ∷ xs) nested out =
       let no = apart inner b e nested.0 in
       let more = more-apart e b inner no out in
@@ -134,20 +134,20 @@ module _ (columns : RowLaid → List PlainTree) (d : FlowsData) (stacks : ℕ �
       record {
         inside = (among-front inner (b ∷ []) e nested.0, r.inside);
         behind = r.behind;
-        same = λ depth deep feet frame p q.
-            rw bottom (ap (λ ls. box_line d deep (record frame { feet = feet }) e starts y (bottom_of e (inside_box b xs)) ∷ ls)
-            (r.same depth (deep + 1) (feet + (box_of d e).bottom) frame (omega arith) (omega arith)));
+        same = λ depth deep under frame p q.
+            rw bottom (ap (λ ls. box_line d deep (record frame { bottoms = under }) e starts y (bottom_of e (inside_box b xs)) ∷ ls)
+            (r.same depth (deep + 1) (under + (box_of d e).bottom) frame (omega arith) (omega arith)));
       }
   parted b [] (closes_at e y ∷ xs) nested out =
       let yes : (e == b) ≡ true = let s : b ≡ e = nested.0 in rw s (self-test e) in
       record {
         inside = rw yes tt;
         behind = rw yes nested.1;
-        same = λ depth deep feet frame p q.
+        same = λ depth deep under frame p q.
             let s : b ≡ e = nested.0 in
             let deep_is : deep - 1 ≡ depth = omega arith in
-            let feet_is : feet - (box_of d e).bottom ≡ frame.feet = let g : (box_of d b).bottom ≡ (box_of d e).bottom = rw s refl in omega arith in
-            rw yes (rw (deep_is, feet_is) refl);
+            let under_is : under - (box_of d e).bottom ≡ frame.bottoms = let g : (box_of d b).bottom ≡ (box_of d e).bottom = rw s refl in omega arith in
+            rw yes (rw (deep_is, under_is) refl);
       }
   parted b (i ∷ inner) (closes_at e y ∷ xs) nested out =
       let no : (e == b) ≡ false = let s = first-apart i b inner out in let t : i ≡ e = nested.0 in rw (← t) s in
@@ -155,23 +155,23 @@ module _ (columns : RowLaid → List PlainTree) (d : FlowsData) (stacks : ℕ �
       record {
         inside = rw no (nested.0, r.inside);
         behind = rw no r.behind;
-        same = λ depth deep feet frame p q.
+        same = λ depth deep under frame p q.
             let s : i ≡ e = nested.0 in
             let g : (box_of d i).bottom ≡ (box_of d e).bottom = rw s refl in
-            rw no (r.same depth (deep - 1) (feet - (box_of d e).bottom) frame (omega arith) (omega arith));
+            rw no (r.same depth (deep - 1) (under - (box_of d e).bottom) frame (omega arith) (omega arith));
       }
   parted b inner (atom_at k y ∷ xs) nested out =
       let r = parted b inner xs nested out in
-      record { inside = r.inside; behind = r.behind; same = λ depth deep feet frame p q. after (item_lines stacks deep (record frame { feet = feet }) k y (item_of f k)) _ _ _ (r.same depth deep feet frame p q) }
+      record { inside = r.inside; behind = r.behind; same = λ depth deep under frame p q. after (item_lines stacks deep (record frame { bottoms = under }) k y (item_of f k)) _ _ _ (r.same depth deep under frame p q) }
   parted b inner (row_at s y ∷ xs) nested out =
       let r = parted b inner xs nested out in
       record {
         inside = r.inside;
         behind = r.behind;
-        same = λ depth deep feet frame p q.
-            let here : Frame = record frame { feet = feet } in
+        same = λ depth deep under frame p q.
+            let here : Frame = record frame { bottoms = under } in
             let columns_here : List TreeLine = lines_of_columns d stacks (row_of d s.row) deep here y (piece_height here y (height_laid s)) 0 (plain_trees (columns s)) in
-            ap (λ ls. row_line d deep here s y ∷ ls) (after columns_here _ _ _ (r.same depth deep feet frame p q));
+            ap (λ ls. row_line d deep here s y ∷ ls) (after columns_here _ _ _ (r.same depth deep under frame p q));
       }
 
   flat : (n : ℕ) (xs : List Placed) → length xs ≤ n → ArePlacedNested [] xs → (depth : ℕ) (frame : Frame) →
@@ -184,9 +184,9 @@ module _ (columns : RowLaid → List PlainTree) (d : FlowsData) (stacks : ℕ �
       let p = parted b [] xs nested.1 refl in
       let i = inside-short b xs in
       let a = behind-short b xs in
-      let inner = flat n (inside_box b xs) (omega arith) p.inside (depth + 1) (record frame { feet = frame.feet + (box_of d b).bottom }) in
+      let inner = flat n (inside_box b xs) (omega arith) p.inside (depth + 1) (record frame { bottoms = frame.bottoms + (box_of d b).bottom }) in
       let outer = flat n (behind_box b xs) (omega arith) p.behind depth frame in
-      let s = p.same depth (depth + 1) (frame.feet + (box_of d b).bottom) frame (omega arith) (omega arith) in
+      let s = p.same depth (depth + 1) (frame.bottoms + (box_of d b).bottom) frame (omega arith) (omega arith) in
       ap (λ ls. box_line d depth frame b starts y (bottom_of b xs) ∷ ls) (rw (inner, outer) (sym s))
   flat (suc n) (closes_at b y ∷ xs) short nested depth frame = absurd nested
   flat (suc n) (atom_at k y ∷ xs) short nested depth frame = rw (flat n xs (omega arith) nested depth frame) refl

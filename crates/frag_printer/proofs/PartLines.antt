@@ -14,8 +14,8 @@ use Rattle.frag_printer.specs.declared.placing.Placed.TheVariants.{Opens, Closes
 use Rattle.flow_list.specs.TreeText.{tree_line_text, tree_text}
 use Rattle.frag_printer.specs.FlatLines.{ArePlaces, box_line, out_of_box, flat_lines}
 use Rattle.frag_printer.specs.PartLines.{part_lines}
-use Rattle.frag_printer.specs.Parts.{IsPartIn, feet_of, part_of, parts_of}
-use Rattle.frag_printer.proofs.Placements.{IsPlacedIn, feet_in}
+use Rattle.frag_printer.specs.Parts.{IsPartIn, part_bottom, part_of, parts_of}
+use Rattle.frag_printer.proofs.Placements.{IsPlacedIn, placed_bottom}
 use Rattle.frag_printer.proofs.Rowless.{IsNoRow}
 use Rattle.frag_printer.specs.Placing.{placed_as, row_stands}
 
@@ -30,12 +30,12 @@ parts-flat columns d stacks f depth frame (Atom k y ∷ ps) none = ap (λ ls. it
 parts-flat columns d stacks f depth frame (Row number height made y ∷ ps) none = absurd none.0
 
 module _ (d : FlowsData) (f : Flow) where
-  pub feet-are : (ps : List Placed) → sum_by (feet_of d) (parts_of ps) ≡ sum_by (feet_in d) (map placed_as ps)
-  feet-are [] = refl
-  feet-are (Opens b y starts ∷ ps) = sum_by-cons (feet_of d) (part_of (Opens b y starts) (map placed_as ps)) (parts_of ps) ∙ ap (λ n. (box_of d b).bottom + n) (feet-are ps) ∙ sym (sum_by-cons (feet_in d) (opens_at b y starts) (map placed_as ps))
-  feet-are (Closes b y ∷ ps) = sum_by-cons (feet_of d) (part_of (Closes b y) (map placed_as ps)) (parts_of ps) ∙ ap (λ n. 0 + n) (feet-are ps) ∙ sym (sum_by-cons (feet_in d) (closes_at b y) (map placed_as ps))
-  feet-are (Atom k y ∷ ps) = sum_by-cons (feet_of d) (part_of (Atom k y) (map placed_as ps)) (parts_of ps) ∙ ap (λ n. 0 + n) (feet-are ps) ∙ sym (sum_by-cons (feet_in d) (atom_at k y) (map placed_as ps))
-  feet-are (Row number height made y ∷ ps) = sum_by-cons (feet_of d) (part_of (Row number height made y) (map placed_as ps)) (parts_of ps) ∙ ap (λ n. 0 + n) (feet-are ps) ∙ sym (sum_by-cons (feet_in d) (row_at (row_stands number height made) y) (map placed_as ps))
+  pub part_bottoms-are : (ps : List Placed) → sum_by (part_bottom d) (parts_of ps) ≡ sum_by (placed_bottom d) (map placed_as ps)
+  part_bottoms-are [] = refl
+  part_bottoms-are (Opens b y starts ∷ ps) = sum_by-cons (part_bottom d) (part_of (Opens b y starts) (map placed_as ps)) (parts_of ps) ∙ ap (λ n. (box_of d b).bottom + n) (part_bottoms-are ps) ∙ sym (sum_by-cons (placed_bottom d) (opens_at b y starts) (map placed_as ps))
+  part_bottoms-are (Closes b y ∷ ps) = sum_by-cons (part_bottom d) (part_of (Closes b y) (map placed_as ps)) (parts_of ps) ∙ ap (λ n. 0 + n) (part_bottoms-are ps) ∙ sym (sum_by-cons (placed_bottom d) (closes_at b y) (map placed_as ps))
+  part_bottoms-are (Atom k y ∷ ps) = sum_by-cons (part_bottom d) (part_of (Atom k y) (map placed_as ps)) (parts_of ps) ∙ ap (λ n. 0 + n) (part_bottoms-are ps) ∙ sym (sum_by-cons (placed_bottom d) (atom_at k y) (map placed_as ps))
+  part_bottoms-are (Row number height made y ∷ ps) = sum_by-cons (part_bottom d) (part_of (Row number height made y) (map placed_as ps)) (parts_of ps) ∙ ap (λ n. 0 + n) (part_bottoms-are ps) ∙ sym (sum_by-cons (placed_bottom d) (row_at (row_stands number height made) y) (map placed_as ps))
 
   pub parts-known : (high low : ℕ) → high ≤ low → (ps : List Placed) → Each (IsPlacedIn d f) (map placed_as ps) → Each (λ p. place_of p < high) (map placed_as ps) → Each IsNoRow (map placed_as ps) → All (IsPartIn d f low) (parts_of ps)
   parts-known high low le [] known places none k p lt = absurd (omega arith)

@@ -25,7 +25,7 @@ use Rattle.flow_list.proofs.OpenAcross.{across-known}
 use Rattle.flow_data.proofs.OpenBoxes.{starts-known, ends-known}
 use Rattle.flow_list.proofs.PlaceBounds.{Each-append}
 use Rattle.frag_printer.specs.Columns.{column_laid, column_places}
-use Rattle.frag_printer.proofs.Placements.{IsPlacedIn, feet_in}
+use Rattle.frag_printer.proofs.Placements.{IsPlacedIn, placed_bottom}
 
 -- With a weight for each box, and what is so of each row.
 module _ (d : FlowsData) (f : Flow) (So : RowLaid → Type 0) (weight : ℕ → ℕ) where
@@ -261,18 +261,18 @@ module _ (d : FlowsData) (f : Flow) where
   each-known (row_at r y ∷ ps) all = (tt, each-known ps all.1)
 
   module _ (So : RowLaid → Type 0) where
-    one-foot : (p : Placed) → feet_in d p ≤ placed_weight d f So box_bottom p
-    one-foot (opens_at b y starts) = omega arith
-    one-foot (closes_at b y) = omega arith
-    one-foot (atom_at k y) = omega arith
-    one-foot (row_at r y) = omega arith
+    one-bottom : (p : Placed) → placed_bottom d p ≤ placed_weight d f So box_bottom p
+    one-bottom (opens_at b y starts) = omega arith
+    one-bottom (closes_at b y) = omega arith
+    one-bottom (atom_at k y) = omega arith
+    one-bottom (row_at r y) = omega arith
 
-    pub feet-le : (ps : List Placed) → sum_by (feet_in d) ps ≤ sum_by (placed_weight d f So box_bottom) ps
-    feet-le ps = sum_by-le-sum_by (feet_in d) (placed_weight d f So box_bottom) ps one-foot
+    pub placed_bottoms-le : (ps : List Placed) → sum_by (placed_bottom d) ps ≤ sum_by (placed_weight d f So box_bottom) ps
+    placed_bottoms-le ps = sum_by-le-sum_by (placed_bottom d) (placed_weight d f So box_bottom) ps one-bottom
 
   -- What stands in a column from item i on and before item e names boxes and items that there are, and what its boxes have below is no more
   -- than what all boxes of the flow have.
-  pub column-known : IsSoundFlow d f → (i e : ℕ) → i < e → e ≤ length f.items → Each (IsPlacedIn d f) (column_places d f i e) × (sum_by (feet_in d) (column_places d f i e) ≤ bottoms d (boxes_in f))
+  pub column-known : IsSoundFlow d f → (i e : ℕ) → i < e → e ≤ length f.items → Each (IsPlacedIn d f) (column_places d f i e) × (sum_by (placed_bottom d) (column_places d f i e) ≤ bottoms d (boxes_in f))
   unfolding any_row
   column-known sound i e lt le =
       let count = sound.seam_count in
@@ -281,11 +281,11 @@ module _ (d : FlowsData) (f : Flow) where
       let laid = lays-both d f any_row box_bottom (bottoms d (flat_map started (seam_of f i).head)) (later d f any_row box_bottom (i + 1)) (later d f any_row box_bottom i) (laid_start d f (i ∷ [])) (laid_items (all_rows d) f (start_strip d f (i ∷ [])) i row_start (e - i))
       (heads-lay d f any_row box_bottom sound (strip_at (tops d (open_across f i)) (not (i == 0 || is_forced (seam_of f i).level))) i (omega arith)) (items-lay d f any_row box_bottom sound (λ r. tt) (all_rows d) (start_strip d f (i ∷ [])) i row_start (e - i) (omega arith)) (omega arith) in
       let both = all-keep d f any_row box_bottom (tops d (open_across f i)) (later d f any_row box_bottom i) (bottoms d (boxes_in f)) (open_across f i) (column_laid d f i e) (across-known d f sound i) laid (omega arith) in
-      let feet = feet-le any_row (column_places d f i e) in
+      let below = placed_bottoms-le any_row (column_places d f i e) in
       let sum = both.le in
       (each-known _ both.each, omega arith)
 
 -- the same of a flow of sound data
 pub places-known : (d : FlowsData) → IsSound d → (n i e : ℕ) → n < length d.flows → i < e → e ≤ length (flow_of d n).items →
-    Each (IsPlacedIn d (flow_of d n)) (column_places d (flow_of d n) i e) × (sum_by (feet_in d) (column_places d (flow_of d n) i e) ≤ bottoms d (boxes_in (flow_of d n)))
+    Each (IsPlacedIn d (flow_of d n)) (column_places d (flow_of d n) i e) × (sum_by (placed_bottom d) (column_places d (flow_of d n) i e) ≤ bottoms d (boxes_in (flow_of d n)))
 places-known d sound n i e known lt le = column-known d (flow_of d n) (sound.flows n no_flow known) i e lt le

@@ -27,11 +27,11 @@ IsPlacedIn d f (atom_at k y) = k < length f.items
 IsPlacedIn d f (row_at r y) = Unit {0}
 
 -- what a box that starts or continues there has below again
-abbrev pub feet_in : FlowsData → Placed → ℕ
-feet_in d (opens_at b y starts) = (box_of d b).bottom
-feet_in d (closes_at b y) = 0
-feet_in d (atom_at k y) = 0
-feet_in d (row_at r y) = 0
+abbrev pub placed_bottom : FlowsData → Placed → ℕ
+placed_bottom d (opens_at b y starts) = (box_of d b).bottom
+placed_bottom d (closes_at b y) = 0
+placed_bottom d (atom_at k y) = 0
+placed_bottom d (row_at r y) = 0
 
 -- how many boxes start or continue there
 abbrev pub opens_in : Placed → ℕ

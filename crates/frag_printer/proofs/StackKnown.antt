@@ -10,8 +10,8 @@ use Rattle.flow_list.specs.Stacks.{height_in_stack, stack_extent, stack_strip}
 use Rattle.flow_list.specs.Strip.{begins}
 use Rattle.frag_printer.specs.FlatRows.{HoldsFlatRows}
 use Rattle.frag_printer.specs.StackParts.{before_head, stack_places}
-use Rattle.frag_printer.proofs.Placements.{IsPlacedInStack, feet_in, opens_in}
-use Rattle.frag_printer.proofs.StackNames.{feet-in_stack, known-in_stack, opens-in_stack}
+use Rattle.frag_printer.proofs.Placements.{IsPlacedInStack, placed_bottom, opens_in}
+use Rattle.frag_printer.proofs.StackNames.{bottoms-in_stack, known-in_stack, opens-in_stack}
 use Rattle.frag_printer.proofs.StackRoom.{bottoms-le, end-room, extent-low, heights-total, item-room, places-low, row_total, whole-small}
 
 abbrev pub HasItemRoom : FlowsData → Stack → ℕ → Type 0
@@ -32,7 +32,7 @@ pub record IsKnownStack (d : FlowsData) (s : Stack) : Type 0 where
   pub extent : stack_extent d s.bound (flow_of d s.flow) < 2 ^ 61
   pub known : Each (IsPlacedInStack d (flow_of d s.flow)) (stack_places d 0)
   pub low : Each (λ p. place_of p < 2 ^ 61) (stack_places d 0)
-  pub feet : sum_by (feet_in d) (stack_places d 0) < 2 ^ 61
+  pub bottoms : sum_by (placed_bottom d) (stack_places d 0) < 2 ^ 61
   pub opens : sum_by opens_in (stack_places d 0) < 2 ^ 61
 
 zero-known : (d : FlowsData) → IsSound d → 0 < length d.stacks → HoldsFlatRows d → IsKnownStack d (stack_of d 0)
@@ -46,7 +46,7 @@ zero-known d sound some flat =
       extent = extent-low d sound some;
       known = known-in_stack d sound some flat;
       low = places-low d sound some;
-      feet = let feet = feet-in_stack d sound some flat in let all = bottoms-le d f (row_total d) bound (heights-total d) in omega arith;
+      bottoms = let below = bottoms-in_stack d sound some flat in let all = bottoms-le d f (row_total d) bound (heights-total d) in omega arith;
       opens = let opens = opens-in_stack d sound some flat in let few = sound.box_count in omega arith;
     }
 

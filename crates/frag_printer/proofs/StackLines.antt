@@ -185,7 +185,7 @@ pub stack-flat : (d : FlowsData) → IsSound d → length d.stacks ≡ 1 →
     tree_of d
     ≡ record { depth = 0; kind = stack 0; x = 0; y = 0; w = (stack_of d 0).w; h = stack_extent d (stack_of d 0).bound (flow_of d (stack_of d 0).flow) }
     ∷ flat_lines (row_fragments d (suc (length d.rows))) d no_stacks (flow_of d (stack_of d 0).flow) 1
-    (record { x = 0; y = 0; w = (stack_of d 0).w; h = stack_extent d (stack_of d 0).bound (flow_of d (stack_of d 0).flow); extent = stack_extent d (stack_of d 0).bound (flow_of d (stack_of d 0).flow); feet = 0 }) (stack_places d 0)
+    (record { x = 0; y = 0; w = (stack_of d 0).w; h = stack_extent d (stack_of d 0).bound (flow_of d (stack_of d 0).flow); extent = stack_extent d (stack_of d 0).bound (flow_of d (stack_of d 0).flow); bottoms = 0 }) (stack_places d 0)
 unfolding tree_of lines_of_stack stack_height
 stack-flat d sound one_stack =
     ap (λ n. lines_of_stack d n 0 0 0 0) one_stack ∙ stack-lines d 0 0 0 0 0 (sound.flows (stack_of d 0).flow no_flow (sound.stacks 0 (omega arith)).flow)

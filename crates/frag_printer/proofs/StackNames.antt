@@ -23,8 +23,8 @@ use Rattle.flow_list.specs.Tokens.{row_start}
 use Rattle.flow_data.proofs.OpenBoxes.{opened-known}
 use Rattle.frag_printer.specs.FlatRows.{HoldsFlatRows}
 use Rattle.frag_printer.specs.StackParts.{before_head, stack_places, whole_laid}
-use Rattle.frag_printer.proofs.PlacedKnown.{IsPlacedSo, Keeps, Lays, across-later, all-keep, box_bottom, feet-le, heads-lay, later, later-first, lays-both, placed_weight, tails-lay}
-use Rattle.frag_printer.proofs.Placements.{IsPlacedInStack, feet_in, opens_in}
+use Rattle.frag_printer.proofs.PlacedKnown.{IsPlacedSo, Keeps, Lays, across-later, all-keep, box_bottom, placed_bottoms-le, heads-lay, later, later-first, lays-both, placed_weight, tails-lay}
+use Rattle.frag_printer.proofs.Placements.{IsPlacedInStack, placed_bottom, opens_in}
 
 -- a row that stands whole in a stack, and holds atoms alone
 abbrev pub IsWholeRow : FlowsData → RowLaid → Type 0
@@ -93,9 +93,9 @@ module _ (d : FlowsData) (sound : IsSound d) (some : 0 < length d.stacks) (flat 
   pub known-in_stack : Each (IsPlacedInStack d flow) (stack_places d 0)
   known-in_stack = each-known (λ b. 1) (stack_places d 0) (stack-keeps (λ b. 1)).each
 
-  pub feet-in_stack : sum_by (feet_in d) (stack_places d 0) ≤ bottoms d (boxes_in flow)
-  feet-in_stack =
-      let feet = feet-le d flow (IsWholeRow d) (stack_places d 0) in
+  pub bottoms-in_stack : sum_by (placed_bottom d) (stack_places d 0) ≤ bottoms d (boxes_in flow)
+  bottoms-in_stack =
+      let below = placed_bottoms-le d flow (IsWholeRow d) (stack_places d 0) in
       let most = (stack-keeps (box_bottom d flow)).le in
       omega arith
 

@@ -1,7 +1,7 @@
 -- The parts of a stack, and the text of the tree.
-use Rattle.frag_printer.proofs.Placements.{IsPlacedInStack, row_placed, rows_placed, opens_in, feet_in}
+use Rattle.frag_printer.proofs.Placements.{IsPlacedInStack, row_placed, rows_placed, opens_in, placed_bottom}
 use Rattle.frag_printer.proofs.StackKnown.{IsKnownStack}
-use Rattle.frag_printer.proofs.PartLines.{column-text, feet-are}
+use Rattle.frag_printer.proofs.PartLines.{column-text, part_bottoms-are}
 use Rattle.flow_list.specs.Stacks.{stack_extent}
 use Rattle.flow_data.specs.declared.data.Stack.{Stack}
 use Rattle.flow_list.specs.RowHeights.{row_columns}
@@ -24,7 +24,7 @@ use Rattle.frag_printer.specs.declared.placing.Placed.TheVariants.{Opens, Closes
 use Rattle.frag_printer.specs.FlatLines.{box_line, out_of_box, flat_lines}
 use Rattle.frag_printer.specs.FlatRows.{flat_rows, ends_before, flat_row_lines}
 use Rattle.frag_printer.specs.PartLines.{part_lines}
-use Rattle.frag_printer.specs.Parts.{no_stacks, opens_of, part_of, parts_of, feet_of}
+use Rattle.frag_printer.specs.Parts.{no_stacks, opens_of, part_of, parts_of, part_bottom}
 use Rattle.frag_printer.specs.Placing.{placed_as, row_stands}
 use Rattle.frag_printer.specs.StackLines.{IsStackPart, row_part, row_parts}
 use Rattle.frag_printer.specs.StackParts.{stack_places}
@@ -96,11 +96,11 @@ module _ (d : FlowsData) (sound : IsSound d) (ps : List Placed) (placed : map pl
     pub parts-open : sum_by opens_of parts < 2 ^ 61
     parts-open = let o = known.opens in let e : sum_by opens_of parts ≡ sum_by opens_in (stack_places d 0) = ap (sum_by opens_of) are ∙ opens-are ps ∙ ap (sum_by opens_in) placed in omega arith
 
-    pub parts-feet : sum_by (feet_of d) parts < 2 ^ 61
-    parts-feet = let o = known.feet in let e : sum_by (feet_of d) parts ≡ sum_by (feet_in d) (stack_places d 0) = ap (sum_by (feet_of d)) are ∙ feet-are d (flow_of d s.flow) ps ∙ ap (sum_by (feet_in d)) placed in omega arith
+    pub parts-bottoms : sum_by (part_bottom d) parts < 2 ^ 61
+    parts-bottoms = let o = known.bottoms in let e : sum_by (part_bottom d) parts ≡ sum_by (placed_bottom d) (stack_places d 0) = ap (sum_by (part_bottom d)) are ∙ part_bottoms-are d (flow_of d s.flow) ps ∙ ap (sum_by (placed_bottom d)) placed in omega arith
 
     abbrev frame : (w h : ℕ) → Frame
-    frame w h = record { x = 0; y = 0; w = w; h = h; extent = h; feet = 0 }
+    frame w h = record { x = 0; y = 0; w = w; h = h; extent = h; bottoms = 0 }
 
     abbrev line : (w h : ℕ) → TreeLine
     line w h = record { depth = 0; kind = stack 0; x = 0; y = 0; w = w; h = h }

@@ -13,7 +13,7 @@ use Rattle.frag_printer.specs.Columns.{column_extent, column_places}
 
 -- the frame behind a box's end, where the box has this much below again
 abbrev pub out_of_box : Frame → ℕ → Frame
-out_of_box frame bottom = record frame { feet = frame.feet - bottom }
+out_of_box frame bottom = record frame { bottoms = frame.bottoms - bottom }
 
 -- the line of a piece of box b from y on, with its bottom unless the box continues
 abbrev pub box_line : FlowsData → ℕ → Frame → ℕ → Bool → ℕ → Option ℕ → TreeLine

@@ -30,7 +30,7 @@ no_stacks s depth x y = []
 
 -- where things stand, as it is kept
 abbrev pub frame_of : Inside → Frame
-frame_of at = record { x = at.x; y = at.y; w = at.w; h = at.h; extent = at.extent; feet = at.feet }
+frame_of at = record { x = at.x; y = at.y; w = at.w; h = at.h; extent = at.extent; bottoms = at.bottoms }
 
 -- a part names a box or an item that there is, and stands above this place; it is no row
 abbrev pub IsPartIn : FlowsData → Flow → (low : ℕ) → Part → Type 0
@@ -40,11 +40,11 @@ IsPartIn d f low (Atom item y) = (item < length f.items) × (y < low)
 IsPartIn d f low (Row number height made y) = ⊥
 
 -- what a box that starts or continues there has below again
-abbrev pub feet_of : FlowsData → Part → ℕ
-feet_of d (Opens number y starts bottom) = (box_of d number).bottom
-feet_of d (Closes number) = 0
-feet_of d (Atom item y) = 0
-feet_of d (Row number height made y) = 0
+abbrev pub part_bottom : FlowsData → Part → ℕ
+part_bottom d (Opens number y starts bottom) = (box_of d number).bottom
+part_bottom d (Closes number) = 0
+part_bottom d (Atom item y) = 0
+part_bottom d (Row number height made y) = 0
 
 -- how many boxes start or continue there
 abbrev pub opens_of : Part → ℕ

@@ -12,7 +12,7 @@ ghost use Rattle.frag_printer.specs.FlatLines.{box_line};
 ghost use Rattle.frag_printer.specs.Limits.{KeepsLimit, PassesLimit};
 ghost use Rattle.frag_printer.specs.Lines.{line_of};
 ghost use Rattle.frag_printer.specs.PartLines.{part_lines};
-ghost use Rattle.frag_printer.specs.Parts.{IsPartIn, feet_of, frame_of, no_stacks, opens_of, part_of, parts_of};
+ghost use Rattle.frag_printer.specs.Parts.{IsPartIn, part_bottom, frame_of, no_stacks, opens_of, part_of, parts_of};
 ghost use Rattle.frag_printer.specs.Placing.{placed_as};
 
 use crate::lines::{Kind, Line, put_line};
@@ -56,7 +56,7 @@ pub struct Inside {
     pub w: Units,
     pub h: Units,
     pub extent: Units,
-    pub feet: Units,
+    pub bottoms: Units,
 }
 
 /// Adds something, before which stand the boxes that end behind it, with the places where they end.
@@ -126,7 +126,7 @@ fn bottom_in(at: Inside, bottom: Option<Units>) -> Units
     ensures { result ≡ piece_bottom (frame_of at) bottom }
 {
     match bottom {
-        None => at.h.max(at.extent).saturating_sub(at.feet),
+        None => at.h.max(at.extent).saturating_sub(at.bottoms),
         Some(bottom) => bottom,
     }
 }
@@ -239,14 +239,14 @@ pub fn put_part(
     requires known { IsPartIn flows.now (flow_of flows.now flow) (2 ^ 63 - at.y) part }
     requires x { at.x < 2 ^ 62 }
     requires depth { at.depth + 1 < 2 ^ 64 }
-    requires feet { at.feet + feet_of flows.now part < 2 ^ 63 }
+    requires bottoms { at.bottoms + part_bottom flows.now part < 2 ^ 63 }
     ensures text { IfOk result (λ next. (more : List Part) →
         out.new.text ++ tree_text (part_lines flows.now no_stacks (flow_of flows.now flow) next.depth (frame_of next) more)
         ≡ out.old.text ++ tree_text (part_lines flows.now no_stacks (flow_of flows.now flow) at.depth (frame_of at) (part ∷ more))) }
     ensures x { IfOk result (λ next. next.x ≡ at.x) }
     ensures y { IfOk result (λ next. next.y ≡ at.y) }
     ensures depth { IfOk result (λ next. next.depth ≤ at.depth + opens_of part) }
-    ensures feet { IfOk result (λ next. next.feet ≤ at.feet + feet_of flows.now part) }
+    ensures bottoms { IfOk result (λ next. next.bottoms ≤ at.bottoms + part_bottom flows.now part) }
     ensures within { OnOk result (KeepsLimit out.old out.new) }
     ensures long { (more : List Part) → IsErrOf result PutError.Long →
         PassesLimit out.old (tree_text (part_lines flows.now no_stacks (flow_of flows.now flow) at.depth (frame_of at) (part ∷ more))) }
@@ -263,13 +263,13 @@ pub fn put_part(
             put_piece(out, flows, at, number, y, starts, bottom)?;
             Ok(Inside {
                 depth: at.depth + 1,
-                feet: at.feet + box_at(flows, number).bottom,
+                bottoms: at.bottoms + box_at(flows, number).bottom,
                 ..at
             })
         }
         Part::Closes(number) => Ok(Inside {
             depth: at.depth.saturating_sub(1),
-            feet: at.feet.saturating_sub(box_at(flows, number).bottom),
+            bottoms: at.bottoms.saturating_sub(box_at(flows, number).bottom),
             ..at
         }),
         Part::Atom { item, y } => {
@@ -292,7 +292,7 @@ pub fn put_parts(
     requires known { All (IsPartIn flows.now (flow_of flows.now flow) (2 ^ 63 - inside.y)) parts.now }
     requires x { inside.x < 2 ^ 62 }
     requires depth { inside.depth + length parts.now < 2 ^ 64 }
-    requires feet { inside.feet + sum_by (feet_of flows.now) parts.now < 2 ^ 63 }
+    requires bottoms { inside.bottoms + sum_by (part_bottom flows.now) parts.now < 2 ^ 63 }
     ensures text { OnOk result (out.new.text ≡ out.old.text ++ tree_text (part_lines flows.now no_stacks (flow_of flows.now flow) inside.depth (frame_of inside) parts.now)) }
     ensures within { OnOk result (KeepsLimit out.old out.new) }
     ensures long { IsErrOf result PutError.Long →

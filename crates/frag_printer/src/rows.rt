@@ -42,7 +42,7 @@ fn put_column(
     requires depth { at.depth < 2 ^ 62 }
     requires x { at.x < 2 ^ 62 }
     requires y { at.y < 2 ^ 62 }
-    requires feet { at.feet ≡ 0 }
+    requires bottoms { at.bottoms ≡ 0 }
     ensures across { OnOk result (boxes.new.items ≡ open_across (flow_of flows.now flow) end) }
     ensures text { OnOk result (out.new.text ≡ out.old.text ++ tree_text (
         record { depth = at.depth + 1; kind = col i; x = at.x; y = at.y; w = at.w; h = at.h }
@@ -117,7 +117,7 @@ fn put_columns(
             w: row.w,
             h: height,
             extent: 0,
-            feet: 0,
+            bottoms: 0,
         };
         put_column(
             alloc, out, flows, row.flow, i, column, &mut boxes, begin, *end,

@@ -8,7 +8,7 @@ ghost use Rattle.frag_printer.specs.declared.parts.Part.{Part as AnyPart};
 ghost use Rattle.frag_printer.specs.FlatRows.{HoldsFlatRows, flat_rows};
 ghost use Rattle.frag_printer.specs.Limits.{KeepsLimit, PassesLimit};
 ghost use Rattle.frag_printer.specs.PartLines.{part_lines};
-ghost use Rattle.frag_printer.specs.Parts.{feet_of, frame_of, no_stacks, opens_of};
+ghost use Rattle.frag_printer.specs.Parts.{part_bottom, frame_of, no_stacks, opens_of};
 ghost use Rattle.frag_printer.specs.StackLines.{IsStackPart, row_part, row_parts};
 
 use crate::lines::{Kind, Line, put_line};
@@ -43,7 +43,7 @@ fn put_stack_part(
     requires depth { reached.at.depth < 2 ^ 62 }
     requires x { reached.at.x ≡ 0 }
     requires y { reached.at.y ≡ 0 }
-    requires feet { reached.at.feet + feet_of flows.now part < 2 ^ 63 }
+    requires bottoms { reached.at.bottoms + part_bottom flows.now part < 2 ^ 63 }
     ensures text { IfOk result (λ r. (more : List AnyPart) →
         out.new.text ++ tree_text (part_lines flows.now no_stacks (flow_of flows.now flow) r.at.depth (frame_of r.at) more)
         ≡ out.old.text ++ tree_text (part_lines flows.now no_stacks (flow_of flows.now flow) reached.at.depth (frame_of reached.at) (part ∷ more))) }
@@ -51,7 +51,7 @@ fn put_stack_part(
     ensures depth { IfOk result (λ r. r.at.depth ≤ reached.at.depth + opens_of part) }
     ensures x { IfOk result (λ r. r.at.x ≡ 0) }
     ensures y { IfOk result (λ r. r.at.y ≡ 0) }
-    ensures feet { IfOk result (λ r. r.at.feet ≤ reached.at.feet + feet_of flows.now part) }
+    ensures bottoms { IfOk result (λ r. r.at.bottoms ≤ reached.at.bottoms + part_bottom flows.now part) }
     ensures within { OnOk result (KeepsLimit out.old out.new) }
     ensures long { (more : List AnyPart) → IsErrOf result PutError.Long →
         PassesLimit out.old (tree_text (part_lines flows.now no_stacks (flow_of flows.now flow) reached.at.depth (frame_of reached.at) (part ∷ more))) }
@@ -90,7 +90,7 @@ fn put_stack_parts(
     requires depth { inside.depth + sum_by opens_of parts.now < 2 ^ 62 }
     requires x { inside.x ≡ 0 }
     requires y { inside.y ≡ 0 }
-    requires feet { inside.feet + sum_by (feet_of flows.now) parts.now < 2 ^ 63 }
+    requires bottoms { inside.bottoms + sum_by (part_bottom flows.now) parts.now < 2 ^ 63 }
     ensures text { OnOk result (out.new.text ≡ out.old.text ++ tree_text (part_lines flows.now no_stacks (flow_of flows.now flow) inside.depth (frame_of inside) parts.now)) }
     ensures within { OnOk result (KeepsLimit out.old out.new) }
     ensures long { IsErrOf result PutError.Long →
@@ -143,7 +143,7 @@ fn put_tree(
         w: stack.w,
         h: column.extent,
         extent: column.extent,
-        feet: 0,
+        bottoms: 0,
     };
     put_stack_parts(
         alloc,

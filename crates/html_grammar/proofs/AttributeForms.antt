@@ -4,16 +4,17 @@ use Rattle.std.specs.Prelude.{◌⊎◌, encode_utf8_all}
 use Rattle.std.specs.Char.{to_ascii_lowercase}
 use Rattle.std.proofs.lemmas.List.{append-nil}
 use Rattle.std.proofs.lemmas.Bool.{eq-eqb}
+use Rattle.mc_base.specs.Reading.{◌>>=◌, fault}
 use lib.Dec.{eqb}
 use Rattle.html_grammar.specs.declared.dom.Attribute.{Attribute}
 use Rattle.html_grammar.specs.declared.place.Place.{Place}
-use Rattle.html_grammar.specs.declared.token.Fault.{Fault}
+use Rattle.mc_base.specs.declared.read_error.Fault.{Fault}
 use Rattle.html_grammar.specs.declared.token.ReadAttribute.{ReadAttribute}
 use Rattle.html_grammar.specs.declared.token.ReadAttributes.{ReadAttributes}
 use Rattle.html_grammar.specs.declared.token.Token.{Token}
 use Rattle.html_grammar.specs.declared.token.Value.{Value}
 use Rattle.html_grammar.specs.Places.{behind_first, place_or, behind_while, begins_with, begins}
-use Rattle.html_grammar.specs.Tokens.{is_space, ◌>>=◌, fault}
+use Rattle.html_grammar.specs.Tokens.{is_space}
 use Rattle.html_grammar.specs.Lexing.{is_key_char, is_bare_char, is_other, empty_value, value_from, read_as, quoted_at, bare_at, value_at, assigned_at, key, attribute_at, some_attribute, piece_at, or_first, with_attribute, continued, attributes_from}
 use Rattle.html_grammar.specs.Spelling.{SomePass, first_unknown, IsQuoted, IsValue, IsAssigned, IsAttribute, IsTagEnd, IsAttributes}
 use Rattle.html_grammar.proofs.Spans.{begins_back, begins_other, begins_some, all_pass, codes_back, behind_back}

@@ -5,15 +5,17 @@ use Rattle.html_grammar.specs.declared.dom.DomNode.{DomNode}
 use Rattle.html_grammar.specs.declared.stage.Open.{Open}
 use Rattle.html_grammar.specs.declared.stage.Stage.{Stage}
 use Rattle.html_grammar.specs.declared.stage.Stage.TheVariants.{Opening, BeforeHead, InHead, BehindHead, InBody}
-use Rattle.html_grammar.specs.declared.token.Fault.{Fault}
+use Rattle.mc_base.specs.declared.read_error.Fault.{Fault}
 use Rattle.html_grammar.specs.declared.token.Piece.{Piece}
 use Rattle.html_grammar.specs.declared.token.Spelled.{Spelled}
 use Rattle.html_grammar.specs.declared.token.Tag.{Tag}
 use Rattle.html_grammar.specs.declared.token.Token.{Token}
 use Rattle.html_grammar.specs.declared.token.Token.TheVariants.{Start, Raw, End, Comment, Doctype, Char}
 use Rattle.std.proofs.lemmas.Slice.Eq.{bytes_eq-Decides}
+use Rattle.mc_base.specs.Reading.{◌>>=◌, fault}
+use Rattle.mc_base.proofs.ReadSteps.{failed, failed_is, seen, fault_is}
 use Rattle.html_grammar.specs.Names.{same, is_outer, omits}
-use Rattle.html_grammar.specs.Tokens.{◌>>=◌, fault, place_of, is_white, is_blank, is_start, is_end, is_doctype, is_head_element}
+use Rattle.html_grammar.specs.Tokens.{place_of, is_white, is_blank, is_start, is_end, is_doctype, is_head_element}
 use Rattle.html_grammar.specs.Machine.{State, Built, opening_state, nodes_at_rest, flushed, started, raw_put, drop_closed, without, spell, begin_html, begin_head, end_head, begin_body, take_token, finish, all_omit, conclude_at, conclude, read_all, built}
 use Rattle.html_grammar.specs.Faults.{IsFront, rule_of, IsStuck, IsFirstFault}
 use Rattle.html_grammar.proofs.Steps.{go, run}
@@ -85,9 +87,6 @@ no_front size front f h is =
     absurd cc
 
 -- which fault a token has
-err_is : {A : Type 0} (at rule : ℕ) (f : Fault) → fault {A = A} at rule ≡ Err f → f ≡ record { at = at; rule = rule }
-err_is at rule f h = cc
-
 passed : {A : Type 0} (b : Bool) (x : A) (r : Result A Fault) (f : Fault) → cond b (Ok x) r ≡ Err f → r ≡ Err f
 passed true x r f h = absurd cc
 passed false x r f h = h
@@ -100,15 +99,15 @@ abbrev IsOf : Token → Fault → Type 0
 IsOf t f = f ≡ record { at = place_of t; rule = rule_of t }
 
 start_fault : (s : State) (nodes : List DomNode) (tag : Tag) (opens : List Open) (f : Fault) → started s nodes tag opens ≡ Err f → IsOf (Start tag) f
-start_fault s nodes tag [] f h = err_is tag.at 8 f h
+start_fault s nodes tag [] f h = fault_is tag.at 8 f h
 start_fault s nodes tag (o ∷ os) f h = by_outer (is_outer tag.name) _ h
   where
     by_outer : (b : Bool) (x : State) → cond b (fault tag.at 8) (Ok x) ≡ Err f → IsOf (Start tag) f
-    by_outer true x h = err_is tag.at 8 f h
+    by_outer true x h = fault_is tag.at 8 f h
     by_outer false x h = absurd cc
 
 raw_fault : (s : State) (nodes : List DomNode) (tag : Tag) (text : Option Piece) (opens : List Open) (f : Fault) → raw_put s nodes tag text opens ≡ Err f → IsOf (Raw tag text) f
-raw_fault s nodes tag text [] f h = err_is tag.at 8 f h
+raw_fault s nodes tag text [] f h = fault_is tag.at 8 f h
 raw_fault s nodes tag text (o ∷ os) f h = absurd cc
 
 end_fault : (at : ℕ) (m : List ℕ) (html : Bool) (opens : List Open) (f : Fault) → without at m html opens ≡ Err f → IsOf (End at m) f
@@ -116,16 +115,16 @@ end_fault at m html [] f h = by_html (html && same m (codes "html")) h
   where
     by_html : (b : Bool) → cond {A = Result (List Open × Bool) Fault} b (Ok ([], false)) (fault at 6) ≡ Err f → IsOf (End at m) f
     by_html true h = absurd cc
-    by_html false h = err_is at 6 f h
+    by_html false h = fault_is at 6 f h
 end_fault at m html (o ∷ os) f h = by_name (end_fault at m html os f) (same m o.name) (omits o.name) h
   where
     by_name : (without at m html os ≡ Err f → IsOf (End at m) f) → (b c : Bool) → cond b (Ok (os, html)) (cond c (without at m html os) (fault at 6)) ≡ Err f → IsOf (End at m) f
     by_name below true c h = absurd cc
     by_name below false true h = below h
-    by_name below false false h = err_is at 6 f h
+    by_name below false false h = fault_is at 6 f h
 
 text_fault : (s : State) (at c : ℕ) (spelled : Spelled) (opens : List Open) (f : Fault) → spell s at c spelled opens ≡ Err f → IsOf (Char at c spelled) f
-text_fault s at c spelled [] f h = err_is at 8 f (passed (is_white c spelled) s _ f h)
+text_fault s at c spelled [] f h = fault_is at 8 f (passed (is_white c spelled) s _ f h)
 text_fault s at c spelled (o ∷ os) f h = absurd cc
 
 pub step_fault : (s : State) (t : Token) (f : Fault) → go s t ≡ Err f → IsOf t f
@@ -133,7 +132,7 @@ step_fault s (Start tag) f h = start_fault s _ tag (drop_closed tag.name s.opens
 step_fault s (Raw tag text) f h = raw_fault s _ tag text (drop_closed tag.name s.opens) f h
 step_fault s (End at m) f h = end_fault at m s.html s.opens f (bound_fault (without at m s.html s.opens) _ f h)
 step_fault s (Comment at) f h = absurd cc
-step_fault s (Doctype at) f h = err_is at 8 f h
+step_fault s (Doctype at) f h = fault_is at 8 f h
 step_fault s (Char at c spelled) f h = text_fault s at c spelled s.opens f h
 
 behind_head_fault : (s : State) (t : Token) (f : Fault) → go_behind_head s t ≡ Err f → IsOf t f
@@ -158,17 +157,6 @@ at_fault InBody s t f h = step_fault s t f h
 pub taken_fault : (s : State) (t : Token) (f : Fault) → take_token s t ≡ Err f → IsOf t f
 taken_fault s t f h = at_fault s.stage s t f (sym (take_is s t) ∙ h)
 
--- what a step answers, as a value with its equation
-pub seen : {A : Type 0} (r : Result A Fault) → ((x : A) × (r ≡ Ok x)) ⊎ ((f : Fault) × (r ≡ Err f))
-seen (Ok x) = inl (x, refl)
-seen (Err f) = inr (f, refl)
-
-abbrev bad : {A : Type 0} → Fault → Result A Fault
-bad f = Err f
-
-same_fault : {A : Type 0} (e f : Fault) → bad {A = A} e ≡ bad {A = A} f → e ≡ f
-same_fault e f h = cc
-
 pub one_more : (front : List Token) (s : State) (t : Token) → read_all opening_state front ≡ Ok s → read_all opening_state (front ++ t ∷ []) ≡ take_token s t
 one_more front s t h = in_turn opening_state front (t ∷ []) ∙ ap (λ (x : Result State Fault). x >>= λ next. read_all next (t ∷ [])) h ∙ by_step (take_token s t)
   where
@@ -183,7 +171,7 @@ stuck_at size (t ∷ ts) front s f h e = by_step (λ next is. stuck_at size ts (
     by_step : ((next : State) → take_token s t ≡ Ok next → read_all next ts ≡ Err f → IsStuck size ((front ++ t ∷ []) ++ ts) f) → ((x : State) × (take_token s t ≡ Ok x)) ⊎ ((g : Fault) × (take_token s t ≡ Err g)) → IsStuck size (front ++ t ∷ ts) f
     by_step later (inl g) = subst (λ (x : List Token). IsStuck size x f) (append_assoc front (t ∷ []) ts) (later g.0 g.1 (sym (ap (λ (x : Result State Fault). x >>= λ next. read_all next ts) g.1) ∙ e))
     by_step later (inr g) =
-        let same_f : g.0 ≡ f = same_fault {A = State} g.0 f (sym (ap (λ (x : Result State Fault). x >>= λ next. read_all next ts) g.1) ∙ e) in
+        let same_f : g.0 ≡ f = failed_is {A = State} g.0 f (sym (ap (λ (x : Result State Fault). x >>= λ next. read_all next ts) g.1) ∙ e) in
         record {
           front = front;
           token = t;
@@ -195,7 +183,7 @@ stuck_at size (t ∷ ts) front s f h e = by_step (λ next is. stuck_at size ts (
         }
 
 finish_fault : (size : ℕ) (s : State) (f : Fault) → finish size s ≡ Err f → f ≡ record { at = size; rule = 7 }
-finish_fault size s f h = err_is {A = Built} size 7 f (passed (all_omit s.opens) _ _ f h)
+finish_fault size s f h = fault_is {A = Built} size 7 f (passed (all_omit s.opens) _ _ f h)
 
 cut_fault : (size : ℕ) (stage : Stage) (s : State) (f : Fault) → conclude_at stage size s ≡ Err f → f ≡ record { at = size; rule = 7 }
 cut_fault size (Opening doctype) s f h = finish_fault size (begin_body (end_head (begin_head (begin_html s size []) size [])) size []) f h
@@ -219,5 +207,5 @@ first_fault size toks f h = by_reading (seen (read_all opening_state toks))
       which = concluded_fault size r.0 f (sym (ap (λ (x : Result State Fault). x >>= conclude size) r.1) ∙ h);
     })
     by_reading (inr g) =
-        let same_f : g.0 ≡ f = same_fault {A = Built} g.0 f (sym (ap (λ (x : Result State Fault). x >>= conclude size) g.1) ∙ h) in
-        inl (stuck_at size toks [] opening_state f refl (g.1 ∙ ap (λ (x : Fault). bad {A = State} x) same_f))
+        let same_f : g.0 ≡ f = failed_is {A = Built} g.0 f (sym (ap (λ (x : Result State Fault). x >>= conclude size) g.1) ∙ h) in
+        inl (stuck_at size toks [] opening_state f refl (g.1 ∙ ap (λ (x : Fault). failed {A = State} x) same_f))

@@ -1,11 +1,12 @@
 -- Reading a whole text, as a list of tokens.
 use Rattle.std.proofs.Common.{◌≡◌, ℕ, zero, suc, ◌+◌, ◌≤◌, List, [], ◌∷◌, ◌++◌, length, Option, Some, None, Result, Ok, Err, refl, sym, ap, subst, ◌∙◌, arith, length-append}
 use Rattle.mc_base.specs.declared.refusal.Found.{Found}
+use Rattle.mc_base.specs.Reading.{◌>>=◌, fault}
 use Rattle.html_grammar.specs.declared.place.Place.{Place}
-use Rattle.html_grammar.specs.declared.token.Fault.{Fault}
+use Rattle.mc_base.specs.declared.read_error.Fault.{Fault}
 use Rattle.html_grammar.specs.declared.token.Token.{Token}
 use Rattle.html_grammar.specs.declared.token.Token.TheVariants.{Start, Raw, End, Comment, Doctype, Char}
-use Rattle.html_grammar.specs.Tokens.{◌>>=◌, fault, late_of, construct_of}
+use Rattle.html_grammar.specs.Tokens.{late_of, construct_of}
 use Rattle.html_grammar.specs.Machine.{State, take_token, read_all}
 use Rattle.html_grammar.specs.Lexing.{token_at}
 use Rattle.html_grammar.specs.Spelling.{IsToken, IsLexed}

@@ -6,13 +6,13 @@ use Rattle.mc_base.specs.declared.refusal.Refusal.{Refusal}
 use Rattle.mc_base.specs.declared.refusal.Refusal.TheVariants as refusals
 use Rattle.mc_base.specs.declared.refusal.LimitName.TheVariants as limits
 use Rattle.html_grammar.specs.declared.dom.Dom.{Dom}
-use Rattle.html_grammar.specs.declared.token.Fault.{Fault}
+use Rattle.mc_base.specs.declared.read_error.Fault.{Fault}
+use Rattle.mc_base.proofs.ReadSteps.{seen}
 use Rattle.html_grammar.specs.Tree.{Forest, nodes_from}
 use Rattle.html_grammar.specs.Grammar.{depth_of}
 use Rattle.html_grammar.specs.Whole.{Reading, read_text, count_elements, grammar_refusal, refused_or_within, dom_of}
 use Rattle.html_grammar.specs.Documents.{IsText}
 use Rattle.html_grammar.specs.FirstFaults.{IsRefusalOf}
-use Rattle.html_grammar.proofs.First.{seen}
 use Rattle.html_grammar.proofs.Texts.{text_of}
 use Rattle.html_grammar.proofs.TextFaults.{text_fault}
 

@@ -2,16 +2,17 @@
 use Rattle.std.proofs.Common.{◌≡◌, ℕ, zero, suc, ◌+◌, ◌≤◌, List, [], ◌∷◌, ◌++◌, length, Option, Some, Result, Ok, Bool, true, false, cond, refl, sym, ap, ◌∙◌, arith, inl, inr}
 use Rattle.std.specs.Prelude.{max, encode_utf8, codes}
 use Rattle.std.proofs.lemmas.Bool.{and_parts}
+use Rattle.mc_base.specs.Reading.{◌>>=◌, fault}
 use Rattle.html_grammar.specs.declared.dom.DomNode.{DomNode}
 use Rattle.html_grammar.specs.declared.stage.Open.{Open}
-use Rattle.html_grammar.specs.declared.token.Fault.{Fault}
+use Rattle.mc_base.specs.declared.read_error.Fault.{Fault}
 use Rattle.html_grammar.specs.declared.token.Piece.{Piece}
 use Rattle.html_grammar.specs.declared.token.Spelled.{Spelled}
 use Rattle.html_grammar.specs.declared.token.Tag.{Tag}
 use Rattle.html_grammar.specs.declared.token.Token.{Token}
 use Rattle.html_grammar.specs.declared.token.Token.TheVariants.{Start, Raw, End, Comment, Doctype, Char}
 use Rattle.html_grammar.specs.Names.{same, is_outer, is_void, omits, closes}
-use Rattle.html_grammar.specs.Tokens.{◌>>=◌, fault, is_white}
+use Rattle.html_grammar.specs.Tokens.{is_white}
 use Rattle.html_grammar.specs.Tree.{Forest, Nil, Element, Words, element_node}
 use Rattle.html_grammar.specs.Grammar.{skip_comments, skip_blank, run_text, behind_run, Closed, Content, raw_forest, behind_end, html_begun, head_begun, body_begun, whole_tree, IsDocument}
 use Rattle.html_grammar.specs.Machine.{Built, drop_closed, started, raw_put, without, ended, all_omit, built}

@@ -2,18 +2,20 @@
 use Rattle.std.proofs.Common.{◌≡◌, ℕ, List, [], ◌∷◌, ◌++◌, length, Option, Some, None, Result, Ok, Err, Bool, true, false, cond, not, ◌&&◌, refl, sym, ap, ◌∙◌}
 use Rattle.std.specs.Prelude.{max, codes}
 use Rattle.std.proofs.lemmas.List.{append-nil}
+use Rattle.mc_base.specs.Reading.{◌>>=◌, fault}
 use Rattle.html_grammar.specs.declared.dom.Attribute.{Attribute}
 use Rattle.html_grammar.specs.declared.dom.DomNode.{DomNode}
 use Rattle.html_grammar.specs.declared.stage.Open.{Open}
 use Rattle.html_grammar.specs.declared.stage.Stage.{Stage}
 use Rattle.html_grammar.specs.declared.stage.Stage.TheVariants.{Opening, BeforeHead, InHead, BehindHead, InBody}
-use Rattle.html_grammar.specs.declared.token.Fault.{Fault}
+use Rattle.mc_base.specs.declared.read_error.Fault.{Fault}
+use Rattle.mc_base.proofs.ReadSteps.{given_is}
 use Rattle.html_grammar.specs.declared.token.Piece.{Piece}
 use Rattle.html_grammar.specs.declared.token.Tag.{Tag}
 use Rattle.html_grammar.specs.declared.token.Token.{Token}
 use Rattle.html_grammar.specs.declared.token.Token.TheVariants.{Start, Raw, End, Comment, Doctype, Char}
 use Rattle.html_grammar.specs.Names.{is_outer, is_head_void}
-use Rattle.html_grammar.specs.Tokens.{◌>>=◌, fault, place_of, is_white, is_blank, is_start, is_end, is_doctype, is_head_element, attributes_of}
+use Rattle.html_grammar.specs.Tokens.{place_of, is_white, is_blank, is_start, is_end, is_doctype, is_head_element, attributes_of}
 use Rattle.html_grammar.specs.Tree.{Forest, Nil, Element, Words, element_node, nodes_from}
 use Rattle.html_grammar.specs.Grammar.{skip_blank, raw_forest, Begun, begun, behind_doctype, behind_end, html_begun, head_begun, body_begun}
 use Rattle.html_grammar.specs.Machine.{State, Built, opening_state, nodes_at_rest, started, raw_put, raw_nodes, without, ended, spell, begin_html, begin_head, end_head, begin_body, in_head, with_doctype, take_behind_head, take_in_head, take_before_head, take_opening, take_at, take_token, conclude_at, conclude, read_all, built}
@@ -89,12 +91,6 @@ reading_is_rest size s [] = refl
 reading_is_rest size s (t ∷ ts) = bind_bind (take_token s t) (λ next. read_all next ts) (conclude size)
     ∙ bind_alike (take_token s t) (go_at s.stage s t) (λ next. read_all next ts >>= conclude size) (λ next. rest_of size next ts) (take_is s t) (λ next. reading_is_rest size next ts)
 
-abbrev done : State → Result State Fault
-done x = Ok x
-
-ok_is : (x y : State) → done x ≡ done y → x ≡ y
-ok_is x y e = cc
-
 -- a step in the body stays there
 started_stays : (s : State) (nodes : List DomNode) (tag : Tag) (opens : List Open) (next : State) → started s nodes tag opens ≡ Ok next → next.stage ≡ s.stage
 started_stays s nodes tag [] next h = absurd cc
@@ -102,7 +98,7 @@ started_stays s nodes tag (o ∷ os) next h = by_outer (is_outer tag.name) _ h
   where
     by_outer : (b : Bool) (x : State) → cond b (fault tag.at 8) (Ok x) ≡ Ok next → next.stage ≡ x.stage
     by_outer true x h = absurd cc
-    by_outer false x h = ap (λ (y : State). y.stage) (sym (ok_is x next h))
+    by_outer false x h = ap (λ (y : State). y.stage) (sym (given_is x next h))
 
 stays : (s : State) (t : Token) (next : State) → go s t ≡ Ok next → next.stage ≡ s.stage
 stays s (Start tag) next h = started_stays s _ tag _ next h
@@ -110,23 +106,23 @@ stays s (Raw tag text) next h = by_opens _ h
   where
     by_opens : (opens : List Open) → raw_put s (nodes_at_rest s) tag text opens ≡ Ok next → next.stage ≡ s.stage
     by_opens [] h = absurd cc
-    by_opens (o ∷ os) h = ap (λ (y : State). y.stage) (sym (ok_is _ next h))
+    by_opens (o ∷ os) h = ap (λ (y : State). y.stage) (sym (given_is _ next h))
 stays s (End at m) next h = by_left (without at m s.html s.opens) h
   where
     by_left : (r : Result (List Open × Bool) Fault) → (r >>= ended s (nodes_at_rest s)) ≡ Ok next → next.stage ≡ s.stage
-    by_left (Ok left) h = ap (λ (y : State). y.stage) (sym (ok_is _ next h))
+    by_left (Ok left) h = ap (λ (y : State). y.stage) (sym (given_is _ next h))
     by_left (Err e) h = absurd cc
-stays s (Comment at) next h = ap (λ (y : State). y.stage) (sym (ok_is _ next h))
+stays s (Comment at) next h = ap (λ (y : State). y.stage) (sym (given_is _ next h))
 stays s (Doctype at) next h = absurd cc
 stays s (Char at c spelled) next h = by_opens s.opens h
   where
     by_white : (b : Bool) → cond b (Ok s) (fault at 8) ≡ Ok next → next.stage ≡ s.stage
-    by_white true h = ap (λ (y : State). y.stage) (sym (ok_is s next h))
+    by_white true h = ap (λ (y : State). y.stage) (sym (given_is s next h))
     by_white false h = absurd cc
 
     by_opens : (opens : List Open) → spell s at c spelled opens ≡ Ok next → next.stage ≡ s.stage
     by_opens [] h = by_white (is_white c spelled) h
-    by_opens (o ∷ os) h = ap (λ (y : State). y.stage) (sym (ok_is _ next h))
+    by_opens (o ∷ os) h = ap (λ (y : State). y.stage) (sym (given_is _ next h))
 
 pub rest_is_run : (size : ℕ) (s : State) (toks : List Token) → s.stage ≡ InBody → rest_of size s toks ≡ run size s toks
 rest_is_run size s [] is = ap (λ (x : Stage). conclude_at x size s) is

@@ -2,14 +2,14 @@
 use Rattle.std.proofs.Common.{◌≡◌, ℕ, List, [], ◌∷◌, ◌++◌, Some, None, Result, Bool, true, false, refl, ap, ◌∙◌, append_assoc}
 use Rattle.std.specs.Prelude.{IsTrue, MatchBool, encode_utf8}
 use Rattle.std.proofs.lemmas.List.{append-nil}
+use Rattle.mc_base.specs.Reading.{◌>>=◌, fault}
 use Rattle.html_grammar.specs.declared.dom.DomNode.{DomNode}
 use Rattle.html_grammar.specs.declared.stage.Open.{Open}
 use Rattle.html_grammar.specs.declared.stage.Stage.TheVariants.{InBody}
-use Rattle.html_grammar.specs.declared.token.Fault.{Fault}
+use Rattle.mc_base.specs.declared.read_error.Fault.{Fault}
 use Rattle.html_grammar.specs.declared.token.Token.{Token}
 use Rattle.html_grammar.specs.declared.token.Token.TheVariants.{Start, Raw, End, Comment, Doctype, Char}
 use Rattle.html_grammar.specs.Names.{same, omits}
-use Rattle.html_grammar.specs.Tokens.{◌>>=◌, fault}
 use Rattle.html_grammar.specs.Tree.{words_node}
 use Rattle.html_grammar.specs.Grammar.{skip_comments, run_text, behind_run, Closed}
 use Rattle.html_grammar.specs.Machine.{State, Built, nodes_at_rest, drop_closed, started, raw_put, without, ended, spell, step, finish}

@@ -3,18 +3,21 @@ use Rattle.std.proofs.Common.{◌≡◌, ℕ, zero, suc, ◌≤◌, ◌<◌, Lis
 use Rattle.std.specs.Prelude.{◌⊎◌, chars}
 use Rattle.std.proofs.lemmas.List.{append-nil}
 use Rattle.mc_base.specs.declared.refusal.Found.{Found}
+use Rattle.mc_base.specs.Reading.{◌>>=◌, fault}
 use Rattle.html_grammar.specs.declared.place.Place.{Place}
-use Rattle.html_grammar.specs.declared.token.Fault.{Fault}
+use Rattle.mc_base.specs.declared.read_error.Fault.{Fault}
+use Rattle.mc_base.proofs.ReadSteps.{failed_is, seen}
+use Rattle.mc_base.specs.SoundText.{sound_len}
 use Rattle.html_grammar.specs.declared.token.Token.{Token}
-use Rattle.html_grammar.specs.Tokens.{◌>>=◌, fault, place_of, late_of, construct_of}
+use Rattle.html_grammar.specs.Tokens.{place_of, late_of, construct_of}
 use Rattle.html_grammar.specs.Places.{places_of}
 use Rattle.html_grammar.specs.Machine.{State, Built, opening_state, take_token, read_all, conclude, built}
 use Rattle.html_grammar.specs.Faults.{IsFront, rule_of}
 use Rattle.html_grammar.specs.Lexing.{token_at}
-use Rattle.html_grammar.specs.Whole.{Reading, or_found, not_late, concluded, read_from, first_bad_byte, read_text}
+use Rattle.html_grammar.specs.Whole.{Reading, or_found, not_late, concluded, read_from, read_text}
 use Rattle.html_grammar.specs.FirstFaults.{fault_as, IsLexedTo, IsStartOf, Barred, IsFaultHere, IsFaultBehind, IsFirstFaultOf}
 use Rattle.html_grammar.proofs.Whole.{document_is_read}
-use Rattle.html_grammar.proofs.First.{seen, one_more, is_front, no_front, taken_fault, concluded_fault}
+use Rattle.html_grammar.proofs.First.{one_more, is_front, no_front, taken_fault, concluded_fault}
 use Rattle.html_grammar.proofs.AttributeForms.{Gives}
 use Rattle.html_grammar.proofs.TokenRead.{Reads, Sound, token_gives}
 use Rattle.html_grammar.proofs.TokenBack.{token_answer}
@@ -24,12 +27,6 @@ use Rattle.html_grammar.proofs.Fates.{is_good, alike}
 use Rattle.html_grammar.proofs.TokenLate.{Lately, LateOf, token_late}
 use Rattle.html_grammar.proofs.TextPlaces.{place_at}
 use Rattle.html_grammar.proofs.Texts.{bytes_are_good, places_fit}
-
-abbrev bad : {A : Type 0} → Fault → Result A Fault
-bad f = Err f
-
-same_fault : {A : Type 0} (e f : Fault) → bad {A = A} e ≡ bad {A = A} f → e ≡ f
-same_fault e f h = cc
 
 -- behind tokens that are spelled up to here
 pub record Faulty (size : ℕ) (front : List Token) (ps : List Place) (f : Fault) : Type 0 where
@@ -57,7 +54,7 @@ at_end size front s construct f h e = by_built (seen (conclude size s))
     by_built (inl b) = let k : concluded size construct s ≡ Ok (record { built = b.0; construct = construct }) = ap (λ (r : Result Built Fault). r >>= λ last. Ok (record { built = last; construct = construct })) b.1 in absurd cc
     by_built (inr g) =
         let k : concluded size construct s ≡ Err g.0 = ap (λ (r : Result Built Fault). r >>= λ last. Ok (record { built = last; construct = construct })) g.1 in
-        let is : g.0 ≡ f = same_fault {A = Reading} g.0 f (sym k ∙ e) in
+        let is : g.0 ≡ f = failed_is {A = Reading} g.0 f (sym k ∙ e) in
         let all : built size front ≡ Err g.0 = ap (λ (r : Result State Fault). r >>= conclude size) h ∙ g.1 in
         ((λ tree d. let ok = document_is_read size front tree d in absurd cc), sym is ∙ concluded_fault size s g.0 g.1)
 
@@ -139,11 +136,11 @@ reading_fault (suc n) size (p ∷ ps) construct s front f h le len e =
         → (not_late (Some late) (take_token s t) >>= λ next. read_from n size (or_found construct (construct_of t)) next rest) ≡ Err f → Faulty size front (p ∷ ps) f
     by_late t rest l late is (inl next) e =
         let k : (not_late (Some late) (take_token s t) >>= λ next. read_from n size (or_found construct (construct_of t)) next rest) ≡ Err late = ap (λ (r : Result State Fault). not_late (Some late) r >>= λ next. read_from n size (or_found construct (construct_of t)) next rest) next.1 in
-        let same : late ≡ f = same_fault {A = Reading} late f (sym k ∙ e) in
+        let same : late ≡ f = failed_is {A = Reading} late f (sym k ∙ e) in
         at_once (subst (IsFaultHere size front p ps) same (late_fault size front s next.0 p ps (t, rest) late h (l late is) next.1))
     by_late t rest l late is (inr g) e =
         let k : (not_late (Some late) (take_token s t) >>= λ next. read_from n size (or_found construct (construct_of t)) next rest) ≡ Err g.0 = ap (λ (r : Result State Fault). not_late (Some late) r >>= λ next. read_from n size (or_found construct (construct_of t)) next rest) g.1 in
-        let same : g.0 ≡ f = same_fault {A = Reading} g.0 f (sym k ∙ e) in
+        let same : g.0 ≡ f = failed_is {A = Reading} g.0 f (sym k ∙ e) in
         at_once (subst (IsFaultHere size front p ps) same (late_stuck size front s p ps (t, rest) late g.0 h (l late is) g.1))
 
     by_taken : (t : Token) (rest : List Place) → token_at size p ps ≡ token_answer t rest → late_of t ≡ None → Reads p ps (t, rest)
@@ -156,7 +153,7 @@ reading_fault (suc n) size (p ∷ ps) construct s front f h le len e =
         further t rest r (below (or_found construct (construct_of t)) next.0 (front ++ t ∷ []) (one_more front s t h ∙ next.1) (omega (arith, l, le)) (omega (arith, l, len)) k)
     by_taken t rest at ok r below (inr g) e =
         let k : (take_token s t >>= λ next. read_from n size (or_found construct (construct_of t)) next rest) ≡ Err g.0 = ap (λ (r : Result State Fault). r >>= λ next. read_from n size (or_found construct (construct_of t)) next rest) g.1 in
-        let same : g.0 ≡ f = same_fault {A = Reading} g.0 f (sym k ∙ e) in
+        let same : g.0 ≡ f = failed_is {A = Reading} g.0 f (sym k ∙ e) in
         at_once (subst (IsFaultHere size front p ps) same (stuck size front s p ps (t, rest) g.0 h r g.1))
 
     by_time : (t : Token) (rest : List Place) → token_at size p ps ≡ token_answer t rest → Sound p ps (t, rest) → LateOf p ps (t, rest)
@@ -171,18 +168,18 @@ reading_fault (suc n) size (p ∷ ps) construct s front f h le len e =
         → (r >>= λ t. not_late (late_of t.0) (take_token s t.0) >>= λ next. read_from n size (or_found construct (construct_of t.0)) next t.1) ≡ Err f → Faulty size front (p ∷ ps) f
     by_token (Ok x) at g k l below e = by_time x.0 x.1 at g l (below x.1) (late_of x.0) refl e
     by_token (Err b) at g k l below e =
-        let same : b ≡ f = same_fault {A = Reading} b f e in
+        let same : b ≡ f = failed_is {A = Reading} b f e in
         at_once (subst (IsFaultHere size front p ps) same (unread size front p ps b k))
 
 pub text_fault : (bytes : List ℕ) (f : Fault) → read_text bytes ≡ Err f → IsFirstFaultOf bytes f
 unfolding read_text
-text_fault bytes f h = by_bytes (nat_lt (first_bad_byte bytes) (length bytes)) refl h
+text_fault bytes f h = by_bytes (nat_lt (sound_len bytes) (length bytes)) refl h
   where
     less : (a b : ℕ) → nat_lt a b ≡ true → a < b
     less a b h = grind (arith, h)
 
-    by_bytes : (b : Bool) → nat_lt (first_bad_byte bytes) (length bytes) ≡ b → cond b (fault (first_bad_byte bytes) 1) (read_from (length bytes) (length bytes) None opening_state (places_of (chars bytes))) ≡ Err f → IsFirstFaultOf bytes f
-    by_bytes true e h = inl (less (first_bad_byte bytes) (length bytes) e, sym (same_fault {A = Reading} (fault_as (first_bad_byte bytes) 1) f h))
+    by_bytes : (b : Bool) → nat_lt (sound_len bytes) (length bytes) ≡ b → cond b (fault (sound_len bytes) 1) (read_from (length bytes) (length bytes) None opening_state (places_of (chars bytes))) ≡ Err f → IsFirstFaultOf bytes f
+    by_bytes true e h = inl (less (sound_len bytes) (length bytes) e, sym (failed_is {A = Reading} (fault_as (sound_len bytes) 1) f h))
     by_bytes false e h =
         let g = bytes_are_good bytes e in
         let k = reading_fault (length bytes) (length bytes) (places_of (chars bytes)) None opening_state [] f refl (places_fit bytes g.0) (places_fit bytes g.0) h in

@@ -11,23 +11,24 @@ use Rattle.mc_base.specs.declared.refusal.Found.{Found}
 use Rattle.mc_base.specs.declared.refusal.Refusal.{Refusal}
 use Rattle.mc_base.specs.declared.refusal.Refusal.TheVariants as refusals
 use Rattle.mc_base.specs.declared.refusal.LimitName.TheVariants as limits
+use Rattle.mc_base.specs.Reading.{◌>>=◌, fault}
 use Rattle.html_grammar.specs.declared.dom.Dom.{Dom}
 use Rattle.html_grammar.specs.declared.dom.DomNode.{DomNode}
-use Rattle.html_grammar.specs.declared.token.Fault.{Fault}
+use Rattle.mc_base.specs.declared.read_error.Fault.{Fault}
+use Rattle.mc_base.proofs.ReadSteps.{seen}
+use Rattle.mc_base.specs.SoundText.{sound_len, is_nonzero}
 use Rattle.html_grammar.specs.declared.token.Token.{Token}
-use Rattle.html_grammar.specs.Tokens.{◌>>=◌, fault}
 use Rattle.html_grammar.specs.Tree.{Forest, nodes_from}
 use Rattle.html_grammar.specs.Places.{plain, places, places_of}
 use Rattle.html_grammar.specs.Machine.{State, Built, opening_state, read_all, conclude, built}
 use Rattle.html_grammar.specs.Grammar.{IsDocument, depth_of}
 use Rattle.html_grammar.specs.Spelling.{IsLexed}
 use Rattle.html_grammar.specs.Laws.{built_as}
-use Rattle.html_grammar.specs.Whole.{Reading, read_from, is_nonzero, first_bad_byte, read_text, count_elements, grammar_refusal, refused_or_within, dom_of}
+use Rattle.html_grammar.specs.Whole.{Reading, read_from, read_text, count_elements, grammar_refusal, refused_or_within, dom_of}
 use Rattle.html_grammar.specs.Documents.{NoZero, first_construct, IsText, reading_as, IsDomOf}
 use Rattle.html_grammar.proofs.Whole.{document_is_read}
 use Rattle.html_grammar.proofs.Sound.{tree_of}
 use Rattle.html_grammar.proofs.Unique as unique
-use Rattle.html_grammar.proofs.First.{seen}
 use Rattle.html_grammar.proofs.Lexed.{lexed_reads, reads_lexed, lexed_once}
 
 -- UTF-8, by the length of what is valid in front
@@ -91,7 +92,7 @@ from_before (b ∷ bytes) h = by_test (from_before bytes) (is_nonzero b) refl
     by_test below false e = let none = none_before b bytes e in absurd (omega (arith, none, h))
 
 -- the first bad byte
-good_bytes : (bytes : List ℕ) → IsUtf8 bytes → NoZero bytes → nat_lt (first_bad_byte bytes) (length bytes) ≡ false
+good_bytes : (bytes : List ℕ) → IsUtf8 bytes → NoZero bytes → nat_lt (sound_len bytes) (length bytes) ≡ false
 good_bytes bytes u z =
     let a = utf8_valid_len-IsUtf8 bytes u in
     let b = all_before bytes z in
@@ -100,7 +101,7 @@ good_bytes bytes u z =
     at_length : (n : ℕ) → nat_lt (min n n) n ≡ false
     at_length n = grind arith
 
-pub bytes_are_good : (bytes : List ℕ) → nat_lt (first_bad_byte bytes) (length bytes) ≡ false → IsUtf8 bytes × NoZero bytes
+pub bytes_are_good : (bytes : List ℕ) → nat_lt (sound_len bytes) (length bytes) ≡ false → IsUtf8 bytes × NoZero bytes
 bytes_are_good bytes h =
     let a = utf8_valid_len_le bytes in
     let b = before_zero_le bytes in
@@ -143,7 +144,7 @@ text_at bytes = read_from (length bytes) (length bytes) None opening_state (plac
 
 good_is_read : (bytes : List ℕ) → IsUtf8 bytes → NoZero bytes → read_text bytes ≡ text_at bytes
 unfolding read_text text_at
-good_is_read bytes u z = ap (λ (b : Bool). cond b (fault (first_bad_byte bytes) 1) (text_at bytes)) (good_bytes bytes u z)
+good_is_read bytes u z = ap (λ (b : Bool). cond b (fault (sound_len bytes) 1) (text_at bytes)) (good_bytes bytes u z)
 
 abbrev as_read : Option Found → Built → Result Reading Fault
 as_read construct b = Ok (record { built = b; construct = construct })
@@ -177,7 +178,7 @@ text_at_is bytes = refl
 
 pub text_of : (bytes : List ℕ) (r : Reading) → read_text bytes ≡ Ok r → (tree : Forest) × IsText bytes tree r.construct × (r ≡ reading_as tree r.construct)
 unfolding read_text
-text_of bytes r h = by_bytes (nat_lt (first_bad_byte bytes) (length bytes)) refl h
+text_of bytes r h = by_bytes (nat_lt (sound_len bytes) (length bytes)) refl h
   where
     made : (u : IsUtf8 bytes) → NoZero bytes → (toks : List Token) → IsLexed toks (places_of (chars bytes)) → (b : Built) → built (length bytes) toks ≡ Ok b → as_read (first_construct toks) b ≡ Ok r
         → (tree : Forest) × IsText bytes tree r.construct × (r ≡ reading_as tree r.construct)
@@ -195,7 +196,7 @@ text_of bytes r h = by_bytes (nat_lt (first_bad_byte bytes) (length bytes)) refl
     by_built u z toks l (inl b) k = made u z toks l b.0 b.1 (sym (ap (λ (x : Result Built Fault). x >>= as_read (first_construct toks)) b.1) ∙ k)
     by_built u z toks l (inr f) k = let g : (built (length bytes) toks >>= as_read (first_construct toks)) ≡ Err f.0 = ap (λ (x : Result Built Fault). x >>= as_read (first_construct toks)) f.1 in absurd cc
 
-    by_bytes : (b : Bool) → nat_lt (first_bad_byte bytes) (length bytes) ≡ b → cond b (fault (first_bad_byte bytes) 1) (read_from (length bytes) (length bytes) None opening_state (places_of (chars bytes))) ≡ Ok r
+    by_bytes : (b : Bool) → nat_lt (sound_len bytes) (length bytes) ≡ b → cond b (fault (sound_len bytes) 1) (read_from (length bytes) (length bytes) None opening_state (places_of (chars bytes))) ≡ Ok r
         → (tree : Forest) × IsText bytes tree r.construct × (r ≡ reading_as tree r.construct)
     by_bytes true e h = absurd cc
     by_bytes false e h =

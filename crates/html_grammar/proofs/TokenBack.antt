@@ -3,9 +3,10 @@ use Rattle.std.proofs.Common.{◌≡◌, ℕ, suc, ◌+◌, ◌≤◌, List, [],
 use Rattle.std.specs.Prelude.{codes, ◌==◌}
 use Rattle.std.specs.Char.{to_ascii_lowercase, is_ascii_alphabetic}
 use Rattle.std.proofs.lemmas.Bool.{eq-eqb, eqb-true, or_parts, ne_eqb}
+use Rattle.mc_base.specs.Reading.{◌>>=◌, fault}
 use lib.Dec.{eqb}
 use Rattle.html_grammar.specs.declared.place.Place.{Place}
-use Rattle.html_grammar.specs.declared.token.Fault.{Fault}
+use Rattle.mc_base.specs.declared.read_error.Fault.{Fault}
 use Rattle.html_grammar.specs.declared.token.Meaning.TheVariants as meanings
 use Rattle.html_grammar.specs.declared.token.Piece.{Piece}
 use Rattle.html_grammar.specs.declared.token.ReadAttributes.{ReadAttributes}
@@ -16,7 +17,7 @@ use Rattle.html_grammar.specs.declared.token.Token.{Token}
 use Rattle.html_grammar.specs.declared.token.Token.TheVariants.{Start, Raw, End, Comment, Doctype, Char}
 use Rattle.html_grammar.specs.Names.{is_raw}
 use Rattle.html_grammar.specs.Places.{behind_first, place_or, behind_while, begins_with, begins}
-use Rattle.html_grammar.specs.Tokens.{is_space, ◌>>=◌, fault}
+use Rattle.html_grammar.specs.Tokens.{is_space}
 use Rattle.html_grammar.specs.Lexing.{is_doubled, is_name_char, is_other, begins_text, begins_folded, meaning_at, no_attributes, attributes_from, tag_name, end_at, ends_raw, raw_codes, behind_raw, raw_piece, raw_ended, raw_at, tag_of, behind_tag, or_doubled, start_at, from_text, comment_at, doctype_at, mark_at, char_by_meaning, token_at, with_late}
 use Rattle.html_grammar.specs.Spelling.{codes_of, NoneBegins, BeginsReference, IsCharacter, IsTagName, IsTag, IsOnce, IsEndTag, takes_line_feed, IsStart, IsRaw, IsComment, IsDoctype, begins_markup, IsToken}
 use Rattle.html_grammar.proofs.Spans.{begins_back, codes_back, behind_back}

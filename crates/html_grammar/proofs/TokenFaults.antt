@@ -4,8 +4,9 @@ use Rattle.std.specs.Prelude.{◌⊎◌, codes, ◌==◌}
 use Rattle.std.specs.Char.{is_ascii_alphabetic}
 use Rattle.std.proofs.lemmas.List.{append-nil}
 use Rattle.std.proofs.lemmas.Bool.{true≢false, eqb-true, and_parts}
+use Rattle.mc_base.specs.Reading.{◌>>=◌, fault}
 use Rattle.html_grammar.specs.declared.place.Place.{Place}
-use Rattle.html_grammar.specs.declared.token.Fault.{Fault}
+use Rattle.mc_base.specs.declared.read_error.Fault.{Fault}
 use Rattle.html_grammar.specs.declared.token.Meaning.{Meaning}
 use Rattle.html_grammar.specs.declared.token.Meaning.TheVariants as meanings
 use Rattle.html_grammar.specs.declared.token.Piece.{Piece}
@@ -17,7 +18,7 @@ use Rattle.html_grammar.specs.declared.token.Token.{Token}
 use Rattle.html_grammar.specs.declared.token.Token.TheVariants.{Start, Raw, End, Comment, Doctype, Char}
 use Rattle.html_grammar.specs.Names.{is_raw}
 use Rattle.html_grammar.specs.Places.{behind_first, place_or, behind_while, begins_with, begins}
-use Rattle.html_grammar.specs.Tokens.{is_space, ◌>>=◌, fault}
+use Rattle.html_grammar.specs.Tokens.{is_space}
 use Rattle.html_grammar.specs.Lexing.{is_name_char, is_key_char, is_bare_char, is_other, begins_text, begins_folded, meaning_at, empty_value, value_from, read_as, quoted_at, bare_at, value_at, assigned_at, key, attribute_at, some_attribute, piece_at, no_attributes, with_attribute, continued, attributes_from, is_doubled, tag_name, end_at, raw_codes, behind_raw, raw_piece, with_late, raw_ended, raw_at, tag_of, behind_tag, or_doubled, start_at, from_text, comment_at, doctype_at, mark_at, char_by_meaning, token_at}
 use Rattle.html_grammar.specs.Spelling.{NoneBegins, takes_line_feed, IsToken}
 use Rattle.html_grammar.specs.FirstFaults.{fault_as, HasTag, IsOpenComment, IsOffForm, IsTwice, IsBadHere}

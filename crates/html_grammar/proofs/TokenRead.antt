@@ -3,9 +3,10 @@ use Rattle.std.proofs.Common.{◌≡◌, ℕ, ◌≤◌, List, [], ◌∷◌, �
 use Rattle.std.specs.Prelude.{codes, ◌==◌, option_map}
 use Rattle.std.specs.Char.{to_ascii_lowercase, is_ascii_alphabetic}
 use Rattle.std.proofs.lemmas.Bool.{true≢false, eq-eqb, eqb-true, and_parts}
+use Rattle.mc_base.specs.Reading.{fault}
 use lib.Dec.{eqb}
 use Rattle.html_grammar.specs.declared.place.Place.{Place}
-use Rattle.html_grammar.specs.declared.token.Fault.{Fault}
+use Rattle.mc_base.specs.declared.read_error.Fault.{Fault}
 use Rattle.html_grammar.specs.declared.token.Meaning.{Meaning}
 use Rattle.html_grammar.specs.declared.token.Meaning.TheVariants as meanings
 use Rattle.html_grammar.specs.declared.token.ReadAttributes.{ReadAttributes}
@@ -15,7 +16,7 @@ use Rattle.html_grammar.specs.declared.token.Token.{Token}
 use Rattle.html_grammar.specs.declared.token.Token.TheVariants.{Start, Raw, End, Char}
 use Rattle.html_grammar.specs.Names.{same, is_raw}
 use Rattle.html_grammar.specs.Places.{behind_first, place_or, codes_while, behind_while, begins_with, begins}
-use Rattle.html_grammar.specs.Tokens.{is_space, fault, late_of}
+use Rattle.html_grammar.specs.Tokens.{is_space, late_of}
 use Rattle.html_grammar.specs.declared.dom.Attribute.{Attribute}
 use Rattle.html_grammar.specs.Lexing.{is_past_name, is_name_char, is_other, begins_text, begins_folded, meaning_at, no_attributes, attributes_from, is_doubled, tag_name, end_at, ends_raw, raw_codes, behind_raw, raw_piece, raw_ended, raw_at, bad_reference, tag_of, behind_tag, or_doubled, start_at, from_text, comment_at, doctype_at, mark_at, char_by_meaning, token_at, with_late}
 use Rattle.html_grammar.specs.Spelling.{IsAttributes, BeginsUnknown, codes_of, Passes, NoneBegins, BeginsReference, IsTagName, IsTag, IsOnce, IsEndTag, takes_line_feed, begins_markup, IsToken}

@@ -3,7 +3,7 @@ use Rattle.std.proofs.Common.{◌≡◌, ℕ, List, [], ◌∷◌, ◌++◌, Opt
 use Rattle.std.specs.Prelude.{IsTrue, MatchBool, encode_utf8, codes}
 use Rattle.std.proofs.lemmas.Bool.{true≢false}
 use Rattle.html_grammar.specs.declared.dom.Attribute.{Attribute}
-use Rattle.html_grammar.specs.declared.token.Fault.{Fault}
+use Rattle.mc_base.specs.declared.read_error.Fault.{Fault}
 use Rattle.html_grammar.specs.declared.token.Piece.{Piece}
 use Rattle.html_grammar.specs.declared.token.Spelled.{Spelled}
 use Rattle.html_grammar.specs.declared.token.Tag.{Tag}

@@ -3,7 +3,7 @@ use Rattle.std.proofs.Common.{◌≡◌, ℕ, suc, ◌+◌, List, [], ◌∷◌,
 use Rattle.std.specs.Prelude.{codes}
 use Rattle.std.proofs.lemmas.List.{append-nil}
 use Rattle.html_grammar.specs.declared.dom.DomNode.{DomNode}
-use Rattle.html_grammar.specs.declared.token.Fault.{Fault}
+use Rattle.mc_base.specs.declared.read_error.Fault.{Fault}
 use Rattle.html_grammar.specs.declared.token.Token.{Token}
 use Rattle.html_grammar.specs.Tree.{Forest, element_node, nodes_from}
 use Rattle.html_grammar.specs.Grammar.{depth_of, Content, Begun, html_begun, head_begun, body_begun, whole_tree, IsDocument}

@@ -1,6 +1,6 @@
 -- Which fault of tokens is the first, by the grammar alone.
 use Rattle.std.specs.Prelude.{◌≡◌, ℕ, List, [], ◌∷◌, ◌++◌, ◌⊎◌}
-use Rattle.html_grammar.specs.declared.token.Fault.{Fault}
+use Rattle.mc_base.specs.declared.read_error.Fault.{Fault}
 use Rattle.html_grammar.specs.declared.token.Token.{Token}
 use Rattle.html_grammar.specs.declared.token.Token.TheVariants.{Start, Raw, End, Comment, Doctype, Char}
 use Rattle.html_grammar.specs.Tokens.{place_of}

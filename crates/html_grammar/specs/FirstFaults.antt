@@ -10,7 +10,8 @@ use Rattle.mc_base.specs.declared.refusal.Refusal.{Refusal}
 use Rattle.mc_base.specs.declared.refusal.Refusal.TheVariants as refusals
 use Rattle.mc_base.specs.declared.refusal.LimitName.TheVariants as limits
 use Rattle.html_grammar.specs.declared.place.Place.{Place}
-use Rattle.html_grammar.specs.declared.token.Fault.{Fault}
+use Rattle.mc_base.specs.declared.read_error.Fault.{Fault}
+use Rattle.mc_base.specs.SoundText.{sound_len}
 use Rattle.html_grammar.specs.declared.token.Tag.{Tag}
 use Rattle.html_grammar.specs.declared.token.Token.{Token}
 use Rattle.html_grammar.specs.declared.token.Token.TheVariants.{Start, Raw, End, Comment, Doctype, Char}
@@ -21,7 +22,7 @@ use Rattle.html_grammar.specs.Grammar.{IsDocument, depth_of}
 use Rattle.html_grammar.specs.Faults.{IsFront, rule_of}
 use Rattle.html_grammar.specs.Lexing.{begins_text, is_doubled, ends_raw}
 use Rattle.html_grammar.specs.Spelling.{NoneBegins, BeginsBad, IsTag, IsOnce, IsEndTag, IsDoctype, IsToken}
-use Rattle.html_grammar.specs.Whole.{first_bad_byte, read_text, count_elements, grammar_refusal, dom_of}
+use Rattle.html_grammar.specs.Whole.{read_text, count_elements, grammar_refusal, dom_of}
 use Rattle.html_grammar.specs.Documents.{NoZero, IsText}
 
 abbrev pub fault_as : ℕ → ℕ → Fault
@@ -127,7 +128,7 @@ pub record IsFaultOf (size : ℕ) (ps : List Place) (f : Fault) : Type 0 where
 -- The first fault of a text: its first byte that is zero or where no character begins (1), before all others.
 abbrev pub IsFirstFaultOf : List ℕ → Fault → Type 0
 IsFirstFaultOf bytes f =
-    ((first_bad_byte bytes < length bytes) × (f ≡ fault_as (first_bad_byte bytes) 1))
+    ((sound_len bytes < length bytes) × (f ≡ fault_as (sound_len bytes) 1))
     ⊎ (IsUtf8 bytes × NoZero bytes × IsFaultOf (length bytes) (places_of (chars bytes)) f)
 
 -- the fault of a text that is reported is the first

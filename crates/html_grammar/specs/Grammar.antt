@@ -1,7 +1,7 @@
 -- Which tokens have which tree: by recursion on the tree, without any list of open elements.
 use Rattle.std.specs.Prelude.{◌≡◌, ◌⊎◌, ℕ, List, [], ◌∷◌, ◌++◌, Bool, true, false, IsTrue, MatchBool, if◌then◌else◌, Option, Some, None, max, suc, codes, encode_utf8}
 use Rattle.html_grammar.specs.declared.dom.Attribute.{Attribute}
-use Rattle.html_grammar.specs.declared.token.Fault.{Fault}
+use Rattle.mc_base.specs.declared.read_error.Fault.{Fault}
 use Rattle.html_grammar.specs.declared.token.Piece.{Piece}
 use Rattle.html_grammar.specs.declared.token.Spelled.{Spelled}
 use Rattle.html_grammar.specs.declared.token.Tag.{Tag}

@@ -1,6 +1,6 @@
 -- The laws of documents on tokens.
 use Rattle.std.specs.Prelude.{◌≡◌, ℕ, List, None, Ok, Err}
-use Rattle.html_grammar.specs.declared.token.Fault.{Fault}
+use Rattle.mc_base.specs.declared.read_error.Fault.{Fault}
 use Rattle.html_grammar.specs.declared.token.Token.{Token}
 use Rattle.html_grammar.specs.Tree.{Forest, nodes_from}
 use Rattle.html_grammar.specs.Grammar.{IsDocument, depth_of}

@@ -2,9 +2,10 @@
 -- the places.
 use Rattle.std.specs.Prelude.{ℕ, zero, suc, ◌+◌, ◌*◌, ◌==◌, nat_lt, min, List, [], ◌∷◌, ◌++◌, map, drop, length, Bool, true, false, ◌&&◌, ◌||◌, not, if◌then◌else◌, Option, Some, None, Result, Ok, Err, codes, encode_utf8, encode_utf8_all, option_map, unwrap_or}
 use Rattle.std.specs.Char.{to_ascii_lowercase, is_ascii_alphabetic, is_ascii_alphanumeric, is_digit, digit_value}
+use Rattle.mc_base.specs.Reading.{◌>>=◌, fault}
 use Rattle.html_grammar.specs.declared.dom.Attribute.{Attribute}
 use Rattle.html_grammar.specs.declared.place.Place.{Place}
-use Rattle.html_grammar.specs.declared.token.Fault.{Fault}
+use Rattle.mc_base.specs.declared.read_error.Fault.{Fault}
 use Rattle.html_grammar.specs.declared.token.Meaning.{Meaning}
 use Rattle.html_grammar.specs.declared.token.Meaning.TheVariants as meanings
 use Rattle.html_grammar.specs.declared.token.Piece.{Piece}
@@ -18,7 +19,7 @@ use Rattle.html_grammar.specs.declared.token.Value.{Value}
 use Rattle.html_grammar.specs.Names.{same, is_raw}
 use Rattle.html_grammar.specs.References.{named_character}
 use Rattle.html_grammar.specs.Places.{behind_first, place_or, codes_while, behind_while, begins_with, begins}
-use Rattle.html_grammar.specs.Tokens.{is_space, ◌>>=◌, fault}
+use Rattle.html_grammar.specs.Tokens.{is_space}
 
 -- letters, digits and - of a tag's name
 abbrev pub is_name_char : ℕ → Bool

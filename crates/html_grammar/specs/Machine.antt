@@ -1,18 +1,19 @@
 -- The tree of tokens, or the first fault, as a run of steps.
 use Rattle.std.specs.Prelude.{ℕ, ◌+◌, max, List, [], ◌∷◌, ◌++◌, length, Option, Some, None, Result, Ok, Bool, true, false, ◌&&◌, not, if◌then◌else◌, codes, encode_utf8}
+use Rattle.mc_base.specs.Reading.{◌>>=◌, fault}
 use Rattle.html_grammar.specs.declared.dom.Attribute.{Attribute}
 use Rattle.html_grammar.specs.declared.dom.DomNode.{DomNode}
 use Rattle.html_grammar.specs.declared.stage.Open.{Open}
 use Rattle.html_grammar.specs.declared.stage.Stage.{Stage}
 use Rattle.html_grammar.specs.declared.stage.Stage.TheVariants.{Opening, BeforeHead, InHead, BehindHead, InBody}
-use Rattle.html_grammar.specs.declared.token.Fault.{Fault}
+use Rattle.mc_base.specs.declared.read_error.Fault.{Fault}
 use Rattle.html_grammar.specs.declared.token.Piece.{Piece}
 use Rattle.html_grammar.specs.declared.token.Spelled.{Spelled}
 use Rattle.html_grammar.specs.declared.token.Tag.{Tag}
 use Rattle.html_grammar.specs.declared.token.Token.{Token}
 use Rattle.html_grammar.specs.declared.token.Token.TheVariants.{Start, Raw, End, Comment, Doctype, Char}
 use Rattle.html_grammar.specs.Names.{same, is_outer, is_void, omits, closes}
-use Rattle.html_grammar.specs.Tokens.{◌>>=◌, fault, place_of, is_white, is_blank, is_start, is_end, is_doctype, is_head_element, attributes_of}
+use Rattle.html_grammar.specs.Tokens.{place_of, is_white, is_blank, is_start, is_end, is_doctype, is_head_element, attributes_of}
 use Rattle.html_grammar.specs.Tree.{element_node, words_node}
 
 -- How far reading has come, the nodes so far, text that goes on, the elements whose end is to come from body inwards

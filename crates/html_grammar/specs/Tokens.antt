@@ -2,26 +2,18 @@
 use Rattle.std.specs.Prelude.{ℕ, ◌==◌, List, [], Bool, true, false, ◌||◌, Option, Some, None, Result, Ok, Err, if◌then◌else◌}
 use Rattle.mc_base.specs.declared.refusal.Found.{Found}
 use Rattle.mc_base.specs.declared.refusal.ConstructName.TheVariants as constructs
+use Rattle.mc_base.specs.declared.read_error.Fault.{Fault}
 use Rattle.html_grammar.specs.declared.dom.Attribute.{Attribute}
 use Rattle.html_grammar.specs.declared.token.Tag.{Tag}
 use Rattle.html_grammar.specs.declared.token.Token.{Token}
 use Rattle.html_grammar.specs.declared.token.Token.TheVariants.{Start, Raw, End, Comment, Doctype, Char}
 use Rattle.html_grammar.specs.declared.token.Spelled.{Spelled}
 use Rattle.html_grammar.specs.declared.token.Spelled.TheVariants.{Plain, Reference, Unknown}
-use Rattle.html_grammar.specs.declared.token.Fault.{Fault}
 use Rattle.html_grammar.specs.Names.{same, is_refused, is_head_void}
 
 -- white space: space, tab and line feed
 abbrev pub is_space : ℕ → Bool
 is_space c = (c == 32) || ((c == 10) || (c == 9))
-
-infixl 10 ◌>>=◌
-abbrev pub ◌>>=◌ : {A B : Type 0} → Result A Fault → (A → Result B Fault) → Result B Fault
-(Ok x) >>= f = f x
-(Err e) >>= f = Err e
-
-abbrev pub fault : {A : Type 0} → ℕ → ℕ → Result A Fault
-fault at rule = Err (record { at = at; rule = rule })
 
 -- the byte at which a token begins
 abbrev pub place_of : Token → ℕ

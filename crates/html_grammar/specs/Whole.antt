@@ -6,14 +6,16 @@ use Rattle.mc_base.specs.declared.refusal.Refusal.{Refusal}
 use Rattle.mc_base.specs.declared.refusal.Refusal.TheVariants as refusals
 use Rattle.mc_base.specs.declared.refusal.Input.TheVariants as inputs
 use Rattle.mc_base.specs.declared.refusal.LimitName.TheVariants as limits
+use Rattle.mc_base.specs.Reading.{◌>>=◌, fault}
 use Rattle.html_grammar.specs.declared.dom.Dom.{Dom}
 use Rattle.html_grammar.specs.declared.dom.DomNode.{DomNode}
 use Rattle.html_grammar.specs.declared.dom.NodeKind.{NodeKind}
 use Rattle.html_grammar.specs.declared.dom.NodeKind.TheVariants as kinds
 use Rattle.html_grammar.specs.declared.place.Place.{Place}
-use Rattle.html_grammar.specs.declared.token.Fault.{Fault}
+use Rattle.mc_base.specs.declared.read_error.Fault.{Fault}
+use Rattle.mc_base.specs.SoundText.{sound_len}
 use Rattle.html_grammar.specs.Places.{places_of}
-use Rattle.html_grammar.specs.Tokens.{◌>>=◌, fault, late_of, construct_of}
+use Rattle.html_grammar.specs.Tokens.{late_of, construct_of}
 use Rattle.html_grammar.specs.Machine.{State, Built, opening_state, take_token, conclude}
 use Rattle.html_grammar.specs.Lexing.{token_at}
 
@@ -42,17 +44,10 @@ read_from zero size seen s (p ∷ ps) = concluded size seen s
 read_from (suc n) size seen s (p ∷ ps) =
     token_at size p ps >>= λ t. not_late (late_of t.0) (take_token s t.0) >>= λ next. read_from n size (or_found seen (construct_of t.0)) next t.1
 
-abbrev pub is_nonzero : ℕ → Bool
-is_nonzero b = not (b == 0)
-
--- the first byte that is a zero or begins no character, or the length
-abbrev pub first_bad_byte : List ℕ → ℕ
-first_bad_byte bytes = min (utf8_valid_len bytes) (length (take_while is_nonzero bytes))
-
 -- the reading of a text, or its first fault
 unfoldable pub read_text : List ℕ → Result Reading Fault
 read_text bytes =
-    if nat_lt (first_bad_byte bytes) (length bytes) then fault (first_bad_byte bytes) 1
+    if nat_lt (sound_len bytes) (length bytes) then fault (sound_len bytes) 1
     else read_from (length bytes) (length bytes) None opening_state (places_of (chars bytes))
 
 abbrev pub is_element_kind : NodeKind → Bool

@@ -18,4 +18,5 @@ pub use laws::{
 };
 pub use place::Place;
 pub use stage::{Open, Stage};
-pub use token::{Fault, Meaning, Piece, ReadAttribute, ReadAttributes, Spelled, Tag, Token, Value};
+pub use mc_base::Fault;
+pub use token::{Meaning, Piece, ReadAttribute, ReadAttributes, Spelled, Tag, Token, Value};

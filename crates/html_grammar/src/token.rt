@@ -1,12 +1,5 @@
 use crate::dom::Attribute;
-use mc_base::{List, Text};
-
-/// A fault: the byte where it stands, and the number of its rule, as 7 of `h7`.
-#[derive(Clone, Copy)]
-pub struct Fault {
-    pub at: u64,
-    pub rule: u8,
-}
+use mc_base::{Fault, List, Text};
 
 /// A text, and the byte of the input at which it begins.
 #[derive(Drop)]

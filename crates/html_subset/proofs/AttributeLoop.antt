@@ -1,13 +1,13 @@
 -- Reading attributes one after the other, as a loop does.
 use Rattle.std.proofs.Common.{◌≡◌, ℕ, suc, ◌+◌, ◌-◌, ◌≤◌, ◌<◌, List, Some, None, Result, Ok, Err, refl, sym, ◌∙◌, arith}
 use Rattle.html_grammar.specs.declared.place.Place.{Place}
-use Rattle.html_grammar.specs.declared.token.Fault.{Fault}
+use Rattle.mc_base.specs.declared.read_error.Fault.{Fault}
 use Rattle.html_grammar.specs.declared.token.ReadAttribute.{ReadAttribute}
 use Rattle.html_grammar.specs.declared.token.ReadAttributes.{ReadAttributes}
-use Rattle.html_grammar.specs.Tokens.{fault}
 use Rattle.html_grammar.specs.Lexing.{piece_at, attributes_from, with_attribute}
 use Rattle.mc_base.specs.declared.read_error.ReadError.{ReadError}
 use Rattle.mc_base.specs.declared.read_error.ReadError.TheVariants as errors
+use Rattle.mc_base.specs.Reading.{fault}
 use Rattle.html_subset.specs.Gives.{Fails}
 
 abbrev Read : Type 0

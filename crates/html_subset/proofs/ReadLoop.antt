@@ -2,15 +2,16 @@
 use Rattle.std.proofs.Common.{◌≡◌, ℕ, zero, suc, ◌-◌, ◌+◌, ◌≤◌, ◌<◌, List, [], ◌∷◌, Option, Some, None, Result, Ok, Err, refl, sym, ap, ◌∙◌, arith}
 use Rattle.mc_base.specs.declared.refusal.Found.{Found}
 use Rattle.html_grammar.specs.declared.place.Place.{Place}
-use Rattle.html_grammar.specs.declared.token.Fault.{Fault}
+use Rattle.mc_base.specs.declared.read_error.Fault.{Fault}
 use Rattle.html_grammar.specs.declared.token.Token.{Token}
 use Rattle.html_grammar.specs.Places.{first, behind_first}
-use Rattle.html_grammar.specs.Tokens.{◌>>=◌, late_of, construct_of}
+use Rattle.html_grammar.specs.Tokens.{late_of, construct_of}
 use Rattle.html_grammar.specs.Machine.{State, take_token}
 use Rattle.html_grammar.specs.Lexing.{token_at}
 use Rattle.html_grammar.specs.Whole.{Reading, or_found, not_late, concluded, read_from}
 use Rattle.mc_base.specs.declared.read_error.ReadError.{ReadError}
 use Rattle.mc_base.specs.declared.read_error.ReadError.TheVariants as errors
+use Rattle.mc_base.specs.Reading.{◌>>=◌}
 use Rattle.html_subset.specs.Gives.{Fails}
 use Rattle.html_subset.specs.Turn.{turn}
 

@@ -4,11 +4,11 @@ use Rattle.std.specs.Prelude.{IsSome}
 use Rattle.std.specs.Option.{option_to_list}
 use Rattle.std.proofs.lemmas.List.{take_more, take_all, reverse-append, length-reverse}
 use Rattle.html_grammar.specs.declared.stage.Open.{Open}
-use Rattle.html_grammar.specs.declared.token.Fault.{Fault}
+use Rattle.mc_base.specs.declared.read_error.Fault.{Fault}
 use Rattle.mc_base.specs.declared.read_error.ReadError.{ReadError}
+use Rattle.mc_base.specs.Reading.{fault}
 use Rattle.html_subset.specs.Gives.{Gives}
 use Rattle.html_grammar.specs.Names.{same, omits, closes}
-use Rattle.html_grammar.specs.Tokens.{fault}
 use Rattle.html_grammar.specs.Machine.{without, drop_closed, all_omit}
 use Rattle.html_subset.specs.Stack.{stack_of, closed_on_top}
 

@@ -2,13 +2,9 @@
 use Rattle.std.specs.Prelude.{◌≡◌, ◌⊎◌, Result, Ok, Err}
 use Rattle.mc_base.specs.declared.refusal.Refusal.{Refusal}
 use Rattle.mc_base.specs.declared.refusal.Refusal.TheVariants as refusals
-use Rattle.html_grammar.specs.declared.token.Fault.{Fault}
+use Rattle.mc_base.specs.declared.read_error.Fault.{Fault}
 use Rattle.mc_base.specs.declared.read_error.ReadError.{ReadError}
-use Rattle.mc_base.specs.declared.read_error.ReadError.TheVariants as errors
-
-abbrev pub Fails : {Y : Type 0} → ReadError Fault → Result Y Fault → Type 0
-Fails errors.Memory read = Unit {0}
-Fails (errors.Fault f) read = read ≡ Err f
+pub use Rattle.mc_base.specs.Reading.{Fails}
 
 -- What a function returned, seen by view, is what reading gives, unless memory ran out.
 abbrev pub Gives : {X Y : Type 0} → (X → Y) → Result X (ReadError Fault) → Result Y Fault → Type 0

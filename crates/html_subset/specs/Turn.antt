@@ -1,9 +1,10 @@
 -- One token of a document: it is read, then the structure takes it, then comes what it has behind its place.
 use Rattle.std.specs.Prelude.{ℕ, List, Option, Result, Ok}
 use Rattle.mc_base.specs.declared.refusal.Found.{Found}
+use Rattle.mc_base.specs.Reading.{◌>>=◌}
 use Rattle.html_grammar.specs.declared.place.Place.{Place}
-use Rattle.html_grammar.specs.declared.token.Fault.{Fault}
-use Rattle.html_grammar.specs.Tokens.{◌>>=◌, late_of, construct_of}
+use Rattle.mc_base.specs.declared.read_error.Fault.{Fault}
+use Rattle.html_grammar.specs.Tokens.{late_of, construct_of}
 use Rattle.html_grammar.specs.Machine.{State, take_token}
 use Rattle.html_grammar.specs.Lexing.{token_at}
 use Rattle.html_grammar.specs.Whole.{Reading, not_late}

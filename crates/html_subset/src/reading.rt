@@ -21,7 +21,7 @@ use crate::facts::{construct_of, late_of};
 use crate::fault::ReadError;
 use crate::tokens::token_at;
 use html_grammar::{Dom, DomNode, Fault, NodeKind, Place};
-use mc_base::{Found, Input, LimitName, List, Refusal, Rule};
+use mc_base::{Found, Input, LimitName, List, Refusal, Rule, nonzero_len};
 use std::alloc::Global;
 use std::str;
 
@@ -103,27 +103,13 @@ fn read_tokens(alloc: Global, text: &str) -> Result<Read, ReadError>
     conclude(alloc, size, builder, seen)
 }
 
-/// How many bytes stand before the first zero.
-fn nonzero_length(bytes: &[u8]) -> usize
-    ensures { result ≡ length (take_while whole.is_nonzero bytes.now) }
-{
-    let mut count = 0;
-    for byte in bytes {
-        if *byte == 0 {
-            return count;
-        }
-        count += 1;
-    }
-    count
-}
-
 /// Reads the characters of a text, in which no byte is zero and each begins a character.
 #[tactic(auto, unfolding(html_grammar::specs::Whole::read_text))]
 fn read_text(alloc: Global, bytes: &[u8]) -> Result<Read, ReadError>
     requires { length bytes.now ≤ 2 ^ 28 }
     ensures { Gives (λ r. reading_of r) result (whole.read_text bytes.now) }
 {
-    let zero = nonzero_length(bytes);
+    let zero = nonzero_len(bytes);
     match str::from_utf8(bytes) {
         Err(error) => {
             let at = error.valid_up_to().min(zero) as u64;

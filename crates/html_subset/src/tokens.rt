@@ -2,7 +2,7 @@
 
 ghost use Rattle.std.specs.Prelude.{◌≡◌, ℕ, List, [], Result, IfOk, OnOk, encode_utf8_all, option_map};
 ghost use Rattle.html_grammar.specs.declared.token.Token.{Token as AToken};
-ghost use Rattle.html_grammar.specs.declared.token.Fault.{Fault as AFault};
+ghost use Rattle.mc_base.specs.declared.read_error.Fault.{Fault as AFault};
 ghost use Rattle.html_grammar.specs.declared.place.Place.{Place as APlace};
 ghost use Rattle.html_grammar.specs.Lexing as lex;
 ghost use Rattle.html_subset.specs.Gives.{Gives, Fails};

@@ -1,4 +1,9 @@
+pub mod Finding
 pub mod PlainTree
+pub mod Places
 pub mod Outside
 pub mod Memory
+pub mod Reading
 pub mod SoundText
+pub mod Decimals
+pub mod DecimalReading

@@ -1,15 +1,21 @@
 //! How far bytes are a text of characters.
 
-ghost use Rattle.std.specs.Prelude.{◌≡◌, ◌==◌};
-ghost use Rattle.std.specs.List.{position};
+ghost use Rattle.std.specs.Prelude.{◌≡◌, length, take_while};
 ghost use Rattle.std.specs.Str.Lossy.{utf8_valid_len};
 ghost use Rattle.mc_base.specs.SoundText as texts;
 
-/// Where the first U+0000 stands.
-fn first_nul(text: &[u8]) -> Option<usize>
-    ensures { result ≡ position (λ b. b == 0) text.now }
+/// How many bytes stand before the first zero: all where there is none.
+pub fn nonzero_len(text: &[u8]) -> usize
+    ensures { result ≡ length (take_while texts.is_nonzero text.now) }
 {
-    text.iter().position(|byte| *byte == 0)
+    let mut count = 0;
+    for byte in text {
+        if *byte == 0 {
+            return count;
+        }
+        count += 1;
+    }
+    count
 }
 
 /// How many bytes stand before the first sequence that is no UTF-8.
@@ -27,25 +33,5 @@ fn valid_len(text: &[u8]) -> usize
 pub fn sound_len(text: &[u8]) -> usize
     ensures { result ≡ texts.sound_len text.now }
 {
-    first_nul(text).unwrap_or(text.len()).min(valid_len(text))
-}
-
-#[cfg(test)]
-mod tests {
-    use super::*;
-
-    #[test]
-    fn a_text_ends_at_its_first_bad_byte(rt: HostRuntime) {
-        let cases: [(&[u8], usize); 6] = [
-            (b"", 0),
-            (b"abc", 3),
-            (b"ab\x00c", 2),
-            (b"a\xc3\xa4b", 4),
-            (b"a\xc3\x28\x00", 1),
-            (b"\x00\xff", 0),
-        ];
-        for (text, wanted) in cases {
-            assert_eq!(rt; sound_len(text), wanted);
-        }
-    }
+    valid_len(text).min(nonzero_len(text))
 }

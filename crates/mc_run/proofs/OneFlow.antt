@@ -5,7 +5,7 @@ use Rattle.mc_base.specs.declared.refusal.Input.{Input}
 use Rattle.mc_base.specs.declared.refusal.Refusal.{Refusal}
 use Rattle.mc_base.specs.declared.refusal.Refusal.TheVariants.{Grammar, Construct, Limit, NoMemory}
 use Rattle.mc_base.specs.declared.refusal.Rule.{Rule}
-use Rattle.flow_text.specs.declared.fault.Fault.{Fault}
+use Rattle.mc_base.specs.declared.read_error.Fault.{Fault}
 use Rattle.flow_text.specs.declared.line.Line.{Line}
 use Rattle.flow_text.specs.Grammar.{FlowFile, IsFlowFile, file_lines}
 use Rattle.flow_text.specs.Text.{lines_of}

@@ -1,5 +1,5 @@
-use Rattle.flow_laws.proofs.Rejects.{tall-and-area}
-use Rattle.flow_laws.proofs.RejectingRanges.{ranges-account}
+use Rattle.flow_laws.proofs.TallAndArea.{tall-and-area}
+use Rattle.flow_laws.proofs.AllRanges.{ranges-account}
 use Rattle.flow_laws.proofs.ranges_account.Goals as goal
 
 pub returns : goal.returns

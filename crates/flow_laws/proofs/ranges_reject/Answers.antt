@@ -1,5 +1,5 @@
-use Rattle.flow_laws.proofs.Rejects.{tall-and-area}
-use Rattle.flow_laws.proofs.Rejecting.{ranges-reject}
+use Rattle.flow_laws.proofs.TallAndArea.{tall-and-area}
+use Rattle.flow_laws.proofs.OneRange.{ranges-reject}
 use Rattle.flow_laws.proofs.ranges_reject.Goals as goal
 
 pub returns : goal.returns

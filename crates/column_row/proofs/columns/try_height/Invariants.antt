@@ -2,7 +2,8 @@ use Rattle.std.proofs.Common.{◌≡◌, ℕ, ◌-◌, ◌≤◌, [], ◌∷◌,
 use Rattle.flow_data.specs.Flows.{flow_of}
 use Rattle.flow_list.specs.Rows.{all_rows, columns, reach_end}
 use Rattle.flow_list.specs.Tokens.{row_start}
-use Rattle.column_row.specs.Ending.{IsAcross, IsBelow}
+use Rattle.column_row.specs.Ending.{IsAcross}
+use Rattle.flow_list.specs.Ranges.{IsBelow}
 use Rattle.column_row.proofs.columns.try_height.Given as goal
 
 abbrev pub invariant-loop-begin : goal.invariant-loop-begin

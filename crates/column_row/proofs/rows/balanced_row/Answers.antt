@@ -1,6 +1,5 @@
 use Rattle.std.proofs.Common.{◌∙◌, ap, sym}
-use Rattle.flow_list.specs.RowHeights.{ends_of}
-use Rattle.column_row.specs.Ending.{items_of}
+use Rattle.flow_list.specs.RowHeights.{ends_of, items_of}
 use Rattle.column_row.proofs.RowColumns.{balanced-height, balanced-same}
 use Rattle.column_row.proofs.rows.balanced_row.Goals as goal
 

@@ -1,6 +1,6 @@
 use Rattle.std.proofs.Common.{◌≡◌, ℕ, ◌<◌, ◌≤◌, false, sym, subst, ◌∙◌, arith}
 use Rattle.flow_list.specs.RowHeights.{height_fits}
-use Rattle.column_row.specs.Ending.{IsBelow}
+use Rattle.flow_list.specs.Ranges.{IsBelow}
 use Rattle.column_row.proofs.RowColumns.{Tried, made-fits, some-fits, tried-fits, tried-first, tried-nearer, tried-next, tried-whole}
 use Rattle.column_row.proofs.rows.least_height.Goals as goal
 

@@ -20,7 +20,7 @@ returns-then-not-nest c =
 
 pub returns : goal.returns
 returns c =
-    let few = c.are_few.ensures.0 c.if-not-are_few.false in
+    let few = c.has_such_counts.ensures.0 c.if-not-has_such_counts.false in
     let ranges = c.are_in_range.ensures.0 c.if-not-are_in_range.false in
     let owners = c.in_ok-belong.ensures.0 c.if-not-branch-2.false in
     let nested = c.nest.ensures.0 c.if-not-nest.false in
@@ -30,6 +30,7 @@ returns c =
       row_count = few.1;
       box_count = few.2;
       stack_count = few.3;
+      some_stack = few.4;
       flows = c.in_ok-flows_are_sound.ensures.0 c.if-not-branch.false;
       rows = ranges.0;
       boxes = ranges.1;

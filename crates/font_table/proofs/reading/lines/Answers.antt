@@ -1,7 +1,8 @@
 use Rattle.std.proofs.Common.{◌≡◌, ◌-◌, ◌∙◌, ap, sym, refl, arith, [], cond, eqb, false, Ok}
 use Rattle.std.proofs.lemmas.Bool.{ne_eqb}
 use Rattle.std.proofs.lemmas.Result.{err_from_is_err_and}
-use Rattle.font_table.specs.Reading.{fault, nothing_yet, read_from}
+use Rattle.mc_base.specs.Reading.{fault}
+use Rattle.font_table.specs.Reading.{nothing_yet, read_from}
 use Rattle.font_table.proofs.LineLoop.{line_ends, byte_goes_on, byte_is_bad, text_ends, goes_on, fails_along}
 use Rattle.font_table.proofs.reading.lines.Goals as goal
 use Rattle.font_table.proofs.reading.lines.Goals.{then-byte-eq10+in_ok-building, else-byte-eq10+else-not-is_plain}

@@ -2,8 +2,9 @@ use Rattle.std.proofs.Common.{◌∙◌, ap, sym, subst, Ok, Result, List, ℕ}
 use Rattle.std.proofs.lemmas.Result.{err_from_is_err_and}
 use Rattle.mc_base.specs.declared.refusal.Refusal.{Refusal}
 use Rattle.mc_base.specs.declared.refusal.Refusal.TheVariants as refusals
+use Rattle.mc_base.specs.declared.read_error.Fault.{Fault}
 use Rattle.font_table.specs.declared.fonts.Face.{Face}
-use Rattle.font_table.specs.Reading.{Fault, Fails, IsRefusalOf, all_of}
+use Rattle.font_table.specs.Reading.{Fails, IsRefusalOf, all_of}
 use Rattle.font_table.proofs.Whole.{first_fault, is_found, is_read, is_sound}
 use Rattle.font_table.proofs.reading.read_fonts.Goals as goal
 

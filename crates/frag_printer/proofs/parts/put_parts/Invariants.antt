@@ -4,7 +4,7 @@ use Rattle.flow_data.specs.Flows.{flow_of}
 use Rattle.flow_list.specs.TreeText.{tree_text}
 use Rattle.frag_printer.specs.Limits.{KeepsLimit}
 use Rattle.frag_printer.specs.PartLines.{part_lines}
-use Rattle.frag_printer.specs.Parts.{feet_of, frame_of, no_stacks}
+use Rattle.frag_printer.specs.Parts.{part_bottom, frame_of, no_stacks}
 use Rattle.frag_printer.proofs.parts.put_parts.Given as goal
 
 abbrev pub invariant-loop-part : goal.invariant-loop-part
@@ -15,5 +15,5 @@ invariant-loop-part l = record {
   x : l.at.x ≡ l.initial.at.x;
   y : l.at.y ≡ l.initial.at.y;
   depth : l.at.depth ≤ l.initial.at.depth + l.part-index;
-  feet : l.at.feet + sum_by (feet_of l.flows) (drop l.part-index l.parts) ≤ l.initial.at.feet + sum_by (feet_of l.flows) l.parts;
+  bottoms : l.at.bottoms + sum_by (part_bottom l.flows) (drop l.part-index l.parts) ≤ l.initial.at.bottoms + sum_by (part_bottom l.flows) l.parts;
 }

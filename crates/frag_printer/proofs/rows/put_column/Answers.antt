@@ -15,9 +15,9 @@ use Rattle.frag_printer.specs.declared.parts.Part.{Part}
 use Rattle.frag_printer.specs.Columns.{column_extent, column_places}
 use Rattle.frag_printer.specs.FlatLines.{flat_lines}
 use Rattle.frag_printer.specs.PartLines.{part_lines}
-use Rattle.frag_printer.specs.Parts.{IsPartIn, feet_of, frame_of, no_stacks, parts_of}
-use Rattle.frag_printer.proofs.PartLines.{parts-flat, feet-are, parts-known, column-text}
-use Rattle.frag_printer.proofs.Placements.{IsPlacedIn, feet_in}
+use Rattle.frag_printer.specs.Parts.{IsPartIn, part_bottom, frame_of, no_stacks, parts_of}
+use Rattle.frag_printer.proofs.PartLines.{parts-flat, part_bottoms-are, parts-known, column-text}
+use Rattle.frag_printer.proofs.Placements.{IsPlacedIn, placed_bottom}
 use Rattle.frag_printer.proofs.Rowless.{IsNoRow}
 use Rattle.frag_printer.proofs.ColumnKnown.{column-known}
 use Rattle.frag_printer.proofs.rows.put_column.Goals as goal
@@ -36,15 +36,15 @@ put_parts-requires-clause-known c =
     subst R (sym (c.as_slice-2.ensures.value ∙ c.in_ok-parts.ensures ∙ ap parts_of c.as_slice.ensures.value))
     (parts-known d f (2 ^ 60) (2 ^ 63 - c.args.at.y) le c.in_ok-column.column.placed.items (subst P (sym c.in_ok-column.ensures.placed) k.known) (subst Q (sym c.in_ok-column.ensures.placed) k.low) (subst N (sym c.in_ok-column.ensures.placed) k.none))
 
-pub put_parts-requires-clause-feet : goal.put_parts-requires-clause-feet
-put_parts-requires-clause-feet c =
+pub put_parts-requires-clause-bottoms : goal.put_parts-requires-clause-bottoms
+put_parts-requires-clause-bottoms c =
     let d = c.args.flows.now in
     let f = flow_of d c.args.flow in
     let k = column-known d c.args.flow c.flow_counts-counts.ensures.sound c.requires.flow c.requires.atoms c.args.begin c.args.end c.requires.begin c.requires.end in
-    let feet = k.feet in
-    let none = c.requires.feet in
-    let s : sum_by (feet_of d) c.as_slice-2.result.now ≡ sum_by (feet_in d) (column_places d f c.args.begin c.args.end) =
-    ap (sum_by (feet_of d)) (c.as_slice-2.ensures.value ∙ c.in_ok-parts.ensures ∙ ap parts_of c.as_slice.ensures.value) ∙ feet-are d f c.in_ok-column.column.placed.items ∙ ap (sum_by (feet_in d)) c.in_ok-column.ensures.placed in
+    let below = k.bottoms in
+    let none = c.requires.bottoms in
+    let s : sum_by (part_bottom d) c.as_slice-2.result.now ≡ sum_by (placed_bottom d) (column_places d f c.args.begin c.args.end) =
+    ap (sum_by (part_bottom d)) (c.as_slice-2.ensures.value ∙ c.in_ok-parts.ensures ∙ ap parts_of c.as_slice.ensures.value) ∙ part_bottoms-are d f c.in_ok-column.column.placed.items ∙ ap (sum_by (placed_bottom d)) c.in_ok-column.ensures.placed in
     omega arith
 
 -- the lines of a column's parts are those of what is placed there

@@ -4,7 +4,7 @@ use Rattle.flow_data.specs.Flows.{flow_of}
 use Rattle.flow_list.specs.TreeText.{tree_text}
 use Rattle.frag_printer.specs.Limits.{KeepsLimit}
 use Rattle.frag_printer.specs.PartLines.{part_lines}
-use Rattle.frag_printer.specs.Parts.{feet_of, frame_of, no_stacks, opens_of}
+use Rattle.frag_printer.specs.Parts.{part_bottom, frame_of, no_stacks, opens_of}
 use Rattle.frag_printer.specs.StackLines.{row_parts}
 use Rattle.frag_printer.proofs.tree.put_stack_parts.Given as goal
 
@@ -17,5 +17,5 @@ invariant-loop-part l = record {
   x : l.reached.at.x ≡ 0;
   y : l.reached.at.y ≡ 0;
   depth : l.reached.at.depth + sum_by opens_of (drop l.part-index l.parts) ≤ l.initial.reached.at.depth + sum_by opens_of l.parts;
-  feet : l.reached.at.feet + sum_by (feet_of l.flows) (drop l.part-index l.parts) ≤ l.initial.reached.at.feet + sum_by (feet_of l.flows) l.parts;
+  bottoms : l.reached.at.bottoms + sum_by (part_bottom l.flows) (drop l.part-index l.parts) ≤ l.initial.reached.at.bottoms + sum_by (part_bottom l.flows) l.parts;
 }

@@ -1,6 +1,6 @@
 use Rattle.std.proofs.Common.{◌≡◌, ◌-◌, length, chars, Some, None, Result, sym, subst, ◌∙◌, arith}
 use Rattle.std.proofs.lemmas.Result.{err_from_is_err_and}
-use Rattle.html_grammar.specs.declared.token.Fault.{Fault}
+use Rattle.mc_base.specs.declared.read_error.Fault.{Fault}
 use Rattle.html_grammar.specs.Machine.{opening_state}
 use Rattle.html_grammar.specs.Places.{places_of, first}
 use Rattle.html_grammar.specs.Whole.{Reading, read_from}
