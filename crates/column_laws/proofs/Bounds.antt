@@ -194,8 +194,11 @@ module _ (d : FlowsData) (sound : IsSound d) where
           let same = total-same d sound (height_in d) (length d.rows - r) r (suc (length d.rows)) (length d.rows) (nests-by-number d sound (length d.rows - r) r known (omega arith)) (omega arith) (omega arith) in
           let whole = total-le d sound r known in
           let here : total_within d (height_in d) (suc (length d.rows)) (row_of d r).flow ≤ sum_by (flow_height d) d.flows = omega arith in
-          subst (λ f. total_within d (height_in d) (suc (length d.rows)) f ≤ sum_by (flow_height d) d.flows) is here
-      go (inr (s, known, is)) = subst (λ f. total_within d (height_in d) (suc (length d.rows)) f ≤ sum_by (flow_height d) d.flows) is (stack-total d sound (suc (length d.rows)) s known)
+          let P : ℕ → Type 0 = λ f. total_within d (height_in d) (suc (length d.rows)) f ≤ sum_by (flow_height d) d.flows in
+          subst P is here
+      go (inr (s, known, is)) =
+          let P : ℕ → Type 0 = λ f. total_within d (height_in d) (suc (length d.rows)) f ≤ sum_by (flow_height d) d.flows in
+          subst P is (stack-total d sound (suc (length d.rows)) s known)
 
   pub reach-small : (f : ℕ) → f < length d.flows → (t : Token) → reach (all_rows d) d (flow_of d f) t < 2 ^ 60
   unfolding all_rows

@@ -57,7 +57,7 @@ module _ (d : FlowsData) (sound : IsSound d) where
   left-small : (r : ℕ) (t : Token) → r < length d.rows → left_in (all_rows d) (flow_in d r) t ≤ 100000
   unfolding all_rows rows_to
   left-small r t lt =
-      let within = left-within (suc (length d.rows)) r t lt in
+      let some : left_in (rows_to d (length d.rows)) (flow_in d r) t ≤ row_total d (count_in d) (suc (length d.rows)) r = left-within (suc (length d.rows)) r t lt in
       let same = total-same d sound (count_in d) (length d.rows - r) r (suc (length d.rows)) (length d.rows) (nests-by-number d sound (length d.rows - r) r lt (omega arith)) (omega arith) (omega arith) in
       let whole = total-up d sound (count_in d) r lt in
       let counts = counts-le d sound in

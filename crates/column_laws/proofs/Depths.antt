@@ -3,6 +3,7 @@
 use Rattle.std.proofs.Common.{◌≡◌, ℕ, zero, suc, ◌+◌, ◌-◌, ◌==◌, ◌<◌, ◌≤◌, Bool, true, false, cond, not, ◌&&◌, List, [], ◌∷◌, ◌++◌, length, drop, Option, Some, None, refl, sym, subst, ◌∙◌, ap, arith}
 use Rattle.std.specs.Prelude.{All}
 use Rattle.std.specs.List.{flat_map, AllByRecursion as Each}
+use Rattle.std.proofs.lemmas.List.Elements.{recursion_from_All}
 use Rattle.mc_base.specs.PlainTree.{PlainTree, plain_trees, row_piece, atom as atom_tree, piece, column as column_tree}
 use Rattle.flow_data.specs.declared.data.Flow.{Flow}
 use Rattle.flow_data.specs.declared.data.FlowsData.{FlowsData}
@@ -180,7 +181,7 @@ module _ (x y : Inner) (d : FlowsData) (f : Flow) (alike : ItemsAlike x y f.item
   own-same a b t h same =
       ap (λ ss. owned_by a h (cut h ss).before (cut h ss).stop) (from-same t) ∙ go (cut h (steps_from y d f t)).stop (stop-from y d f t h)
     where
-      in-row : (s : Step) → IsStepFrom y f (item_number t) s → (use : Option Use) → s.row ≡ use → owned_in_fill a use (room s h) ≡ owned_in_fill b use (room s h)
+      in-row : (s : Step) → IsStepFrom y f (item_number t) s → (u : Option Use) → s.row ≡ u → owned_in_fill a u (room s h) ≡ owned_in_fill b u (room s h)
       in-row s of None is = refl
       in-row s of (Some u) is = at (item_of f s.item) refl (sym of.row ∙ is)
         where
@@ -229,13 +230,13 @@ module _ (d : FlowsData) (a b : ℕ) (r : ℕ) (P : ℕ → Type 0) (all : All P
           ≡ fragments_from (fragment_of (row_fragments d b) y d (row_of d n).flow (flow_in d n) h) from (columns_by (column_made y d (flow_in d n) h) (flow_in d n) other from)
       go n is from h most other e =
           let Q : ℕ → Type 0 = λ n. fragments_from (fragment_of (row_fragments d a) x d (row_of d n).flow (flow_in d n) h) from (columns_by (column_made x d (flow_in d n) h) (flow_in d n) most from)
-              ≡ fragments_from (fragment_of (row_fragments d b) y d (row_of d n).flow (flow_in d n) h) from (columns_by (column_made y d (flow_in d n) h) (flow_in d n) other from) in
+          ≡ fragments_from (fragment_of (row_fragments d b) y d (row_of d n).flow (flow_in d n) h) from (columns_by (column_made y d (flow_in d n) h) (flow_in d n) other from) in
           let f = flow_in d r in
           let number = (row_of d r).flow in
           let here : Q r =
-              fragments-same (fragment_of (row_fragments d a) x d number f h) (fragment_of (row_fragments d b) y d number f h)
-              (λ t. fragment-same x y d f alike (row_fragments d a) (row_fragments d b) number h t (placed h t)) from (columns_by (column_made x d f h) f most from)
-              ∙ ap (fragments_from (fragment_of (row_fragments d b) y d number f h) from) (by-same (column_made x d f h) (column_made y d f h) (made-same x y d f alike h) f most from ∙ ap (λ m. columns_by (column_made y d f h) f m from) e) in
+          fragments-same (fragment_of (row_fragments d a) x d number f h) (fragment_of (row_fragments d b) y d number f h)
+          (λ t. fragment-same x y d f alike (row_fragments d a) (row_fragments d b) number h t (placed h t)) from (columns_by (column_made x d f h) f most from)
+          ∙ ap (fragments_from (fragment_of (row_fragments d b) y d number f h) from) (by-same (column_made x d f h) (column_made y d f h) (made-same x y d f alike h) f most from ∙ ap (λ m. columns_by (column_made y d f h) f m from) e) in
           subst Q (sym is) here
 
   owned-deeper : ((s : ℕ) (q : Token) (h : ℕ) → P s → (owned_to d a).fill s q h ≡ (owned_to d b).fill s q h) → (q : Token) (h : ℕ) → (owned_to d (suc a)).fill r q h ≡ (owned_to d (suc b)).fill r q h
@@ -316,7 +317,7 @@ entered-alike d (suc n) (suc a) (suc b) book us nests le ge =
     (λ u deep k. entered-alike d n a b k (size_uses d u) (size-nests d n u deep) (omega arith) (omega arith)) us nests) book
 
 pub depths-alike : (d : FlowsData) → DepthsAlike d
-depths-alike d = record { fragments_alike = fragments-alike d; owned_alike = owned-alike d; contents_alike = contents-alike d; entered_alike = entered-alike d }
+depths-alike d = record { fragments_alike = fragments-alike d; owned_alike = owned-alike d; contents_alike = contents-alike d; entered_alike = λ n a b book us nests. entered-alike d n a b book us (recursion_from_All (λ u. NestsAtMost d n u.0) us nests) }
 
 -- ---- sound data
 
@@ -353,9 +354,9 @@ module _ (d : FlowsData) (sound : IsSound d) where
   unfolding contents_to
   atoms-are depth r q lt le = contents-alike d (length d.rows) r depth (suc (length d.rows)) q (deep r lt) le (omega arith)
 
-  entered-is : (depth : ℕ) (book us : List Use) → Each (λ (u : Use). u.0 < length d.rows) us → length d.rows ≤ depth → entered d depth book us ≡ entered d (length d.rows) book us
+  entered-is : (depth : ℕ) (book us : List Use) → All (λ (u : Use). u.0 < length d.rows) us → length d.rows ≤ depth → entered d depth book us ≡ entered d (length d.rows) book us
   entered-is depth book us known le =
-      entered-alike d (length d.rows) depth (length d.rows) book us (each-use (λ u. u.0 < length d.rows) (λ u. NestsAtMost d (length d.rows) u.0) (λ u lt. deep u.0 lt) us known) le (omega arith)
+      entered-alike d (length d.rows) depth (length d.rows) book us (each-use (λ u. u.0 < length d.rows) (λ u. NestsAtMost d (length d.rows) u.0) (λ u lt. deep u.0 lt) us (recursion_from_All (λ u. u.0 < length d.rows) us known)) le (omega arith)
 
 pub rows-are-told : (d : FlowsData) → IsSound d → RowsAreTold d
 rows-are-told d sound = record {

@@ -1,13 +1,12 @@
 -- What is true of the flow of each row is true of any flow of the data, also of those of stacks: columns advance, all that is computed stays
 -- small, and fragments hold each item once (CSS Fragmentation 3, sections 2 and 4.5; the bounds are this project's own).
-use Rattle.std.specs.Prelude.{◌≡◌, ℕ, ◌<◌, ◌≤◌, ◌^◌, true, List, ◌++◌, length, flat_map, Option, AllPairs, ◌≢◌}
-use Rattle.std.specs.List.{AllByRecursion as Each}
+use Rattle.std.specs.Prelude.{◌≡◌, ℕ, ◌+◌, ◌<◌, ◌≤◌, ◌^◌, true, List, ◌++◌, length, flat_map, Option, All, AllPairs, ◌≢◌}
 use Rattle.mc_base.specs.PlainTree.{PlainTree, plain_trees}
 use Rattle.flow_data.specs.declared.data.Flow.{Flow}
 use Rattle.flow_data.specs.declared.data.FlowsData.{FlowsData}
 use Rattle.flow_data.specs.Flows.{flow_of}
 use Rattle.flow_list.specs.Tokens.{Token, is_end, IsPlaceBefore, IsPlace}
-use Rattle.flow_list.specs.Column.{Column, column, steps_from, loose_need}
+use Rattle.flow_list.specs.Column.{Column, Step, column, steps_from, tail_from, loose_need}
 use Rattle.flow_list.specs.Rows.{columns_by, end_of, left_in, reach, all_rows}
 use Rattle.flow_list.specs.RowHeights.{column_within}
 use Rattle.flow_list.specs.Fragments.{fragment_of, fragments_from, row_fragments}
@@ -51,8 +50,11 @@ pub record FlowIsSmall (d : FlowsData) (f : ℕ) : Type 0 where
   pub loose_needs_are_small : (k : ℕ) → k < length (flow_of d f).items → loose_need (all_rows d) d (flow_of d f) k < 2 ^ 60
   -- so is how far a column reaches
   pub extents_are_small : (t : Token) (h : Option ℕ) → IsPlaceBefore d (flow_of d f) t → (column_within d (flow_of d f) h t).extent < 2 ^ 60
+  -- and where a row of it ends that is cut, with the tail of the seam behind it
+  pub cuts_are_small : (t : Token) → IsPlaceBefore d (flow_of d f) t →
+      All (λ (s : Step). (a : ℕ) → a ≤ s.height → (s.y + a + s.bottoms < 2 ^ 60) × (tail_from (s.y + a) s.tail + s.bottoms_after < 2 ^ 60)) (steps_from (all_rows d) d (flow_of d f) t)
   -- and each bound of a column, also those of the fills in it
-  pub bounds_are_small : (t : Token) (h : ℕ) → Each (λ b. b < 2 ^ 60) (column (all_rows d) d (flow_of d f) t h).bounds
+  pub bounds_are_small : (t : Token) (h : ℕ) → All (λ b. b < 2 ^ 60) (column (all_rows d) d (flow_of d f) t h).bounds
 
 -- The law of holding, of flow f of sound data.
 pub record FlowHolds (d : FlowsData) (f : ℕ) : Type 0 where
@@ -63,6 +65,9 @@ pub record FlowHolds (d : FlowsData) (f : ℕ) : Type 0 where
   pub columns_atoms : (r n : ℕ) (t : Token) (h : Option ℕ) → IsPlaceBefore d (flow_of d f) t →
       atoms_in_trees r (plain_trees (fragments_from (flow_fragment d f h) t (flow_columns d f n t h))) ++ atoms_of_flow d r (flow_of d f) (end_of t (flow_columns d f n t h))
       ≡ atoms_of_flow d r (flow_of d f) t
+  -- and all columns from a place on hold all its atoms
+  pub all_atoms : (r : ℕ) (t : Token) (h : Option ℕ) → IsPlaceBefore d (flow_of d f) t →
+      atoms_in_trees r (plain_trees (fragments_from (flow_fragment d f h) t (flow_columns d f (left_in (all_rows d) (flow_of d f) t) t h))) ≡ atoms_of_flow d r (flow_of d f) t
   -- the items in a column's tree are those from its place to its end, each once and in order, a row that is cut with them
   pub column_parts : (t : Token) (h : Option ℕ) → IsPlaceBefore d (flow_of d f) t → parts_in_tree (flow_fragment d f h t) ≡ parts_between (flow_of d f) t (column_within d (flow_of d f) h t).end
   -- no row is there twice

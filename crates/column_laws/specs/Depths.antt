@@ -1,7 +1,6 @@
 -- How many rows stand one inside another doesn't matter, once it is counted deep enough, to fragments, to the sizes that lines rest on, to the
 -- content of rows and to what is entered in a book either (this project's own: each of these is defined by recursion on a depth).
-use Rattle.std.specs.Prelude.{◌≡◌, ℕ, ◌<◌, ◌≤◌, List, length}
-use Rattle.std.specs.List.{AllByRecursion as Each}
+use Rattle.std.specs.Prelude.{◌≡◌, ℕ, ◌<◌, ◌≤◌, List, length, All}
 use Rattle.flow_data.specs.declared.data.FlowsData.{FlowsData}
 use Rattle.flow_data.specs.Flows.{row_of, flow_in}
 use Rattle.flow_data.specs.Soundness.{NestsAtMost}
@@ -22,7 +21,7 @@ pub record DepthsAlike (d : FlowsData) : Type 0 where
   -- and its atoms
   pub contents_alike : (n r a b : ℕ) (q : Token) → NestsAtMost d n r → n ≤ a → n ≤ b → (contents_to d a).atoms r q ≡ (contents_to d b).atoms r q
   -- and what is entered in a book where such rows are used
-  pub entered_alike : (n a b : ℕ) (book us : List Use) → Each (λ (u : Use). NestsAtMost d n u.0) us → n ≤ a → n ≤ b → entered d a book us ≡ entered d b book us
+  pub entered_alike : (n a b : ℕ) (book us : List Use) → All (λ (u : Use). NestsAtMost d n u.0) us → n ≤ a → n ≤ b → entered d a book us ≡ entered d b book us
 
 -- The law of sound data: what is told of a row is what the definitions say over all rows, at each depth from the count of rows on.
 pub record RowsAreTold (d : FlowsData) : Type 0 where
@@ -41,4 +40,4 @@ pub record RowsAreTold (d : FlowsData) : Type 0 where
   -- its atoms are those of its flow
   pub atoms_are : (depth r : ℕ) (q : Token) → r < length d.rows → length d.rows ≤ depth → (contents_to d depth).atoms r q ≡ atoms_in (contents_to d (length d.rows)) r (flow_in d r) q
   -- and the same is entered in a book
-  pub entered_is : (depth : ℕ) (book us : List Use) → Each (λ (u : Use). u.0 < length d.rows) us → length d.rows ≤ depth → entered d depth book us ≡ entered d (length d.rows) book us
+  pub entered_is : (depth : ℕ) (book us : List Use) → All (λ (u : Use). u.0 < length d.rows) us → length d.rows ≤ depth → entered d depth book us ≡ entered d (length d.rows) book us

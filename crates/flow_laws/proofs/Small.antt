@@ -1,7 +1,7 @@
 -- Sizes, needs and extents are no more than all that stands in a row.
 use Rattle.std.proofs.Common.{◌≡◌, ℕ, zero, suc, ◌+◌, ◌-◌, ◌<◌, ◌≤◌, ◌^◌, Bool, true, false, cond, not, ◌&&◌, List, [], ◌∷◌, ◌++◌, length, drop, get_or, Option, Some, None, refl, arith, sum_by}
 use Rattle.std.specs.Prelude.{All, nat_lt, nat_le}
-use Rattle.std.specs.List.{flat_map}
+use Rattle.std.specs.List.{flat_map, AllByRecursion as Each}
 use Rattle.std.proofs.lemmas.Bool.Decides.{nat_tests}
 use Rattle.std.proofs.lemmas.List.Sums.{sum_by-cons}
 use Rattle.flow_data.specs.declared.data.Flow.{Flow}
@@ -246,6 +246,13 @@ module _ (inner : Inner) (d : FlowsData) (f : Flow) (top : ℕ) where
   unfolding AllWithinTop
   needs-small [] small all = tt
   needs-small (s ∷ ss) small all = let a = all.0.need in let b = all.0.place in (omega arith, omega arith, needs-small ss small all.1)
+
+  -- where a row is cut, and the tail of the seam behind it
+  pub cuts-small : (ss : List Step) → top < 2 ^ 60 → AllWithinTop ss →
+      Each (λ (s : Step). (a : ℕ) → a ≤ s.height → (s.y + a + s.bottoms < 2 ^ 60) × (tail_from (s.y + a) s.tail + s.bottoms_after < 2 ^ 60)) ss
+  unfolding AllWithinTop
+  cuts-small [] small all = tt
+  cuts-small (s ∷ ss) small all = (λ a le. ((let c = all.0.cut in omega arith), (let b = all.0.behind a le in omega arith)), cuts-small ss small all.1)
 
 -- at a height or without end
 pub extent-le : (d : FlowsData) (f : Flow) (top : ℕ) (h : Option ℕ) (t : Token) → item_number t < length f.items → reach (all_rows d) d f t ≤ top → (column_within d f h t).extent ≤ top
