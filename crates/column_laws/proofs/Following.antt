@@ -20,7 +20,7 @@ use Rattle.flow_list.specs.Ranges.{judged, to_failure, bounds_of, lines_of}
 use Rattle.flow_list.specs.Fragments.{fragments_from}
 use Rattle.flow_list.specs.Folds.{Folded, shortage, folded_by}
 use Rattle.flow_list.proofs.Fitting.{columns_by-step, columns_by-past}
-use Rattle.column_laws.specs.Following.{ColumnsFollow, lesser, told_after, FoldsFollow, FitsExactly, columns_of_fills, fragments_of_fills, FillsFollow}
+use Rattle.column_laws.specs.Following.{end_after, ColumnsFollow, lesser, told_after, FoldsFollow, FitsExactly, columns_of_fills, fragments_of_fills, FillsFollow}
 
 -- ---- columns
 
@@ -35,9 +35,8 @@ module _ (make : Token → Column) (f : Flow) where
   abbrev pub from : ℕ → Token → List Column
   from n t = columns_by make f n t
 
-  -- where the first n columns end
   abbrev pub after : ℕ → Token → Token
-  after n t = end_of t (columns_by make f n t)
+  after n t = end_after make f n t
 
   pub joined : (n m : ℕ) (t : Token) → from (n + m) t ≡ from n t ++ from m (after n t)
   unfolding columns_by

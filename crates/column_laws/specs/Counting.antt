@@ -1,6 +1,6 @@
 -- How long places are, and how many columns there are, in sound data; so all columns of a row, its fills one after another, and the heights
 -- that fit it (this project's own: the limits are).
-use Rattle.std.specs.Prelude.{◌≡◌, ℕ, ◌<◌, ◌≤◌, ◌^◌, ◌&&◌, not, length, nat_le, Option, Some}
+use Rattle.std.specs.Prelude.{◌≡◌, ℕ, ◌<◌, ◌≤◌, ◌^◌, ◌&&◌, false, not, length, nat_le, Option, Some}
 use Rattle.std.specs.List.{list_any}
 use Rattle.flow_data.specs.declared.data.FlowsData.{FlowsData}
 use Rattle.flow_data.specs.Flows.{row_of, flow_in}

@@ -15,26 +15,29 @@ use Rattle.flow_list.specs.Folds.{Folded, folded_by}
 
 -- ---- columns
 
+-- where the first n columns from a place on end
+abbrev pub end_after : (Token → Column) → Flow → ℕ → Token → Token
+end_after make f n t = end_of t (columns_by make f n t)
+
 -- The law of a flow's columns, however they are made.
 pub record ColumnsFollow (make : Token → Column) (f : Flow) : Type 0 where
   -- the columns of n + m are those of n, and then those of m from where these end
-  pub joined : (n m : ℕ) (t : Token) → columns_by make f (n + m) t ≡ columns_by make f n t ++ columns_by make f m (end_of t (columns_by make f n t))
+  pub joined : (n m : ℕ) (t : Token) → columns_by make f (n + m) t ≡ columns_by make f n t ++ columns_by make f m (end_after make f n t)
   -- they end where the latter do
-  pub ends_joined : (n m : ℕ) (t : Token) → end_of t (columns_by make f (n + m) t) ≡ end_of (end_of t (columns_by make f n t)) (columns_by make f m (end_of t (columns_by make f n t)))
+  pub ends_joined : (n m : ℕ) (t : Token) → end_after make f (n + m) t ≡ end_after make f m (end_after make f n t)
   -- so do their fragments follow one another
   pub fragments_joined : (piece : Token → PlainTree) (n m : ℕ) (t : Token) →
       fragments_from piece t (columns_by make f (n + m) t)
-      ≡ fragments_from piece t (columns_by make f n t) ++ fragments_from piece (end_of t (columns_by make f n t)) (columns_by make f m (end_of t (columns_by make f n t)))
+      ≡ fragments_from piece t (columns_by make f n t) ++ fragments_from piece (end_after make f n t) (columns_by make f m (end_after make f n t))
   -- before the end there is one more
-  pub one_more : (n : ℕ) (t : Token) → is_end f (end_of t (columns_by make f n t)) ≡ false →
-      columns_by make f (n + 1) t ≡ columns_by make f n t ++ make (end_of t (columns_by make f n t)) ∷ []
+  pub one_more : (n : ℕ) (t : Token) → is_end f (end_after make f n t) ≡ false → columns_by make f (n + 1) t ≡ columns_by make f n t ++ make (end_after make f n t) ∷ []
   -- from the end on there are none
   pub none_at_end : (n : ℕ) (t : Token) → is_end f t ≡ true → columns_by make f n t ≡ []
   -- once the end is reached there are no more
-  pub no_more : (n m : ℕ) (t : Token) → n ≤ m → is_end f (end_of t (columns_by make f n t)) ≡ true → columns_by make f m t ≡ columns_by make f n t
+  pub no_more : (n m : ℕ) (t : Token) → n ≤ m → is_end f (end_after make f n t) ≡ true → columns_by make f m t ≡ columns_by make f n t
   -- there are n at most, and fewer only where they reach the end
   pub at_most : (n : ℕ) (t : Token) → length (columns_by make f n t) ≤ n
-  pub fewer_at_end : (n : ℕ) (t : Token) → length (columns_by make f n t) < n → is_end f (end_of t (columns_by make f n t)) ≡ true
+  pub fewer_at_end : (n : ℕ) (t : Token) → length (columns_by make f n t) < n → is_end f (end_after make f n t) ≡ true
 
 -- ---- what is told of columns
 
