@@ -6,8 +6,6 @@
 
 mod rules;
 mod seam;
-#[cfg(test)]
-mod tests;
 
 pub use rules::level;
 pub use seam::{BreakValue, LineCounts, SeamBoxes};

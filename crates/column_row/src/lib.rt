@@ -13,6 +13,3 @@ mod rows;
 mod strip;
 
 pub use rows::{FlatColumns, flat_columns, flat_row};
-
-#[cfg(test)]
-mod tests;

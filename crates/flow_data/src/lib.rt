@@ -20,6 +20,3 @@ mod sound_stacks;
 
 pub use data::{AtomKind, Bound, BoxInfo, Edge, Flow, FlowsData, Item, RowInfo, Seam, Stack};
 pub use sound_data::sound;
-
-#[cfg(test)]
-mod tests;

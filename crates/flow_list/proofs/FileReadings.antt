@@ -1,15 +1,18 @@
 -- What was read of the lines of a text, and what a refusal says of it.
-use Rattle.std.proofs.Common.{◌≡◌, ℕ, ◌≤◌, ◌^◌, List, [], ◌∷◌, length, Some, None, Result, refl, sym, ap, ◌∙◌, subst, inl, inr, All}
+use Rattle.std.proofs.Common.{◌≡◌, ℕ, ◌≤◌, ◌^◌, List, [], ◌∷◌, length, Some, None, Result, Err, refl, sym, ap, ◌∙◌, subst, inl, inr, All}
 use Rattle.std.specs.Prelude.{◌⊎◌}
 use Rattle.std.proofs.lemmas.List.Elements.{All-nil, All-cons}
 use Rattle.mc_base.specs.declared.refusal.Refusal.{Refusal}
 use Rattle.mc_base.specs.declared.refusal.Refusal.TheVariants as refusals
+use Rattle.mc_base.specs.declared.read_error.Fault.{Fault}
 use Rattle.flow_text.specs.declared.line.Line.{Line}
-use Rattle.flow_text.specs.Answer.{IsAnswer, IsRead, IsRefused, within_limits}
+use Rattle.flow_text.specs.Answer.{IsAnswer, IsRead, IsRefused, faulty, refusal_of, within_limits}
+use Rattle.flow_text.specs.Faults.{IsFirstFault}
 use Rattle.flow_text.specs.Grammar.{FlowFile, IsFlowFile}
 use Rattle.flow_text.specs.Limits.{limit_passed}
 use Rattle.flow_text.specs.Text.{IsText}
-use Rattle.flow_text.proofs.AnswerLaws.{denied, given, limits_ok, lines_denied}
+use Rattle.flow_text.proofs.AnswerLaws.{denied, denied_is, given, limits_ok, lines_denied}
+use Rattle.flow_text.proofs.OneFault.{no_fault_of_file}
 use Rattle.flow_data.specs.declared.data.FlowsData.{FlowsData}
 use Rattle.flow_list.specs.Building.{IsLow}
 use Rattle.flow_list.specs.FileFlows.{IsFile, RefusesText, flows_of, limit_of}
@@ -76,3 +79,21 @@ refuses text (refusals.Construct input offset name) h = h
 refuses text (refusals.Limit name reached limit) h =
     (h.file, record { lines = h.lines; spelled = h.spelled; on_grammar = h.on_grammar }, ap limit_passed (sym h.on_grammar.whole) ∙ h.passed)
 refuses text refusals.NoMemory h = tt
+
+-- ---- the fault that is told
+
+abbrev no_flows : Refusal → Result FlowsData Refusal
+no_flows r = Err r
+
+denies_again : (r : Refusal) (f : Fault) → IsAnswer (denied r) (faulty f) → IsAnswer (no_flows r) (no_flows (refusal_of f))
+denies_again (refusals.Grammar input offset rule) f h = ap no_flows (denied_is (refusal_of f) (refusals.Grammar input offset rule) h)
+denies_again (refusals.Construct input offset name) f h = ap no_flows (denied_is (refusal_of f) (refusals.Construct input offset name) h)
+denies_again (refusals.Limit name reached limit) f h = ap no_flows (denied_is (refusal_of f) (refusals.Limit name reached limit) h)
+denies_again refusals.NoMemory f h = tt
+
+pub refused_told : (text : List ℕ) (r : Refusal) → ((f : Fault) → IsFirstFault text f → IsAnswer (denied r) (faulty f)) → (f : Fault) → IsFirstFault text f → IsAnswer (no_flows r) (no_flows (refusal_of f))
+refused_told text r told f is = denies_again r f (told f is)
+
+-- a text that is read has no fault
+pub read_faultless : (text : List ℕ) (lines : List Line) → IsRead text lines → (f : Fault) → IsFirstFault text f → ⊥
+read_faultless text lines read f is = no_fault_of_file text lines read.file f read.spelled read.on_grammar is

@@ -22,6 +22,3 @@ pub use flows::{
 };
 pub use read::read_flow;
 pub use tally::{Counts, Tally};
-
-#[cfg(test)]
-mod tests;

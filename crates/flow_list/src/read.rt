@@ -1,6 +1,9 @@
 //! Reading flow files.
 
 ghost use Rattle.std.specs.Prelude.{◌≡◌, ◌^◌, ◌≤◌, ◌⊎◌, length, None, Some, IfOk, IfErr, MatchResult};
+ghost use Rattle.mc_base.specs.declared.read_error.Fault.{Fault};
+ghost use Rattle.flow_text.specs.Answer.{IsAnswer, refusal_of};
+ghost use Rattle.flow_text.specs.Faults.{IsFirstFault};
 ghost use Rattle.flow_text.specs.Grammar.{FlowFile};
 ghost use Rattle.flow_list.specs.FileFlows.{IsFile, RefusesText, flows_of, limit_of};
 
@@ -22,6 +25,9 @@ pub fn read_flow(alloc: Global, text: &[u8]) -> Result<Flows, Refusal>
     ensures only { (file : FlowFile) → IsFile text.now file →
         MatchResult result (λ flows. (limit_of file ≡ None) × (flows ≡ flows_of file))
         (λ refusal. (refusal ≡ Refusal.NoMemory) ⊎ (limit_of file ≡ Some refusal)) }
+
+    // A text with a first fault, of which there is at most one, is refused by it.
+    ensures told { (fault : Fault) → IsFirstFault text.now fault → IsAnswer result (Err (refusal_of fault)) }
 
     // Every other text is refused for its first fault.
     ensures refused { IfErr result (RefusesText text.now) }

@@ -11,7 +11,8 @@ use Rattle.mc_base.specs.declared.refusal.LimitName.TheVariants.{Items}
 use Rattle.flow_text.specs.Faults.{IsFirstFault}
 use Rattle.flow_text.specs.Limits.{limit_passed, first_long, first_wide, is_deep, items, has_crowded_row, no_counts, or_crowded, or_many, or_deep, or_wide, or_long}
 use Rattle.flow_text.proofs.FaultLaws.{first_fault}
-use Rattle.flow_text.specs.Answer.{IsAnswer, refusal_of, or_lines, within_limits, answered, answer_of, IsRead, IsRefused}
+use Rattle.flow_text.proofs.OneFault.{fault_is_told}
+use Rattle.flow_text.specs.Answer.{IsAnswer, refusal_of, or_lines, within_limits, faulty, answered, answer_of, IsRead, IsRefused}
 use Rattle.flow_text.proofs.Complete.{file_is_read}
 use Rattle.flow_text.proofs.Sound.{read_is_file}
 use Rattle.flow_text.proofs.TextLaws.{text_again, text_takes}
@@ -42,6 +43,10 @@ pub only : (text : List ℕ) (r : Result (List Line) Refusal) → IsAnswer r (an
 only text r h lines file spelled is =
     let e = text_again text lines spelled (file_is_read lines file is) in
     rw e at h
+
+-- a first fault is told
+pub told : (text : List ℕ) (r : Result (List Line) Refusal) → IsAnswer r (answer_of text) → (f : Fault) → IsFirstFault text f → IsAnswer r (faulty f)
+told text r h f first = rw (fault_is_told text f first) at h
 
 -- a refusal by a limit
 abbrev pub IsLimit : Refusal → Type 0

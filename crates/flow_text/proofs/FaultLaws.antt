@@ -52,7 +52,7 @@ bad_line f = Err f
 abbrev some_form : Form → Option Form
 some_form f = Some f
 
-abbrev failed_lines : Fault → Result (List Line) Fault
+abbrev pub failed_lines : Fault → Result (List Line) Fault
 failed_lines f = Err f
 
 is_the_fault : (f g : Fault) → failed_lines f ≡ failed_lines g → g ≡ f
@@ -76,7 +76,7 @@ ended_is bytes = by_length (cases_lt (line_len bytes) (length bytes))
     by_length (inr le) = zero_left (length (drop (line_len bytes) bytes)) (simp length-drop (omega arith)) ∙ sym (le-ltb (line_len bytes) (length bytes) le)
 
 -- a line with its line feed would have been read
-line_reads : (r : Reading) (at : ℕ) (bytes : List ℕ) (form : Form) (text more : List ℕ) → IsForm form text → bytes ≡ text ++ 10 ∷ more
+pub line_reads : (r : Reading) (at : ℕ) (bytes : List ℕ) (form : Form) (text more : List ℕ) → IsForm form text → bytes ≡ text ++ 10 ∷ more
     → line_at r at (take (line_len bytes) bytes) (not (eqb (length (drop (line_len bytes) bytes)) 0)) ≡ Ok (record { at = at; form = form })
 line_reads r at bytes form text more is e =
     let len = line_len_at text more (printable_form form text is) in
@@ -150,7 +150,7 @@ ending_is readings.Ended base size g b h = absurd cc
 not_ended : (r : Reading) (size : ℕ) (g : Fault) → fault_of_ending r size ≡ Some g → r ≡ readings.Ended → ⊥
 not_ended r size g h e = let no : fault_of_ending readings.Ended size ≡ Some g = rw e at h in cc
 
-cut_short : (front : List Line) (r : Reading) (so_far : List Line) (size : ℕ) (g : Fault) → run readings.Opening front ≡ passed r → unless (fault_of_ending r size) (Ok so_far) ≡ failed_lines g → IsCutShort front [] size g
+pub cut_short : (front : List Line) (r : Reading) (so_far : List Line) (size : ℕ) (g : Fault) → run readings.Opening front ≡ passed r → unless (fault_of_ending r size) (Ok so_far) ≡ failed_lines g → IsCutShort front [] size g
 cut_short front r so_far size g h e =
     let some = unless_bad (fault_of_ending r size) so_far g e in
     let due = due_behind_lines front r h in (
@@ -180,7 +180,7 @@ here at bytes front size g is which =
     let P : List Line → Type 0 = λ ls. IsCutShort ls bytes size g ⊎ (IsMisshapen ls at bytes g ⊎ IsMisplaced ls at bytes g) in
     ([], at, bytes, (refl, refl), subst IsFront (sym (append-nil front)) is, subst P (sym (append-nil front)) which)
 
-misshapen : (front : List Line) (r : Reading) (at : ℕ) (bytes : List ℕ) (g : Fault) → 0 < length bytes → run readings.Opening front ≡ passed r
+pub misshapen : (front : List Line) (r : Reading) (at : ℕ) (bytes : List ℕ) (g : Fault) → 0 < length bytes → run readings.Opening front ≡ passed r
     → line_at r at (take (line_len bytes) bytes) (not (eqb (length (drop (line_len bytes) bytes)) 0)) ≡ bad_line g → IsMisshapen front at bytes g
 misshapen front r at bytes g some h e =
     let due = due_behind_lines front r h in

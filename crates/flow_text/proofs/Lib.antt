@@ -9,3 +9,4 @@ pub mod Stands
 pub mod FaultLaws
 pub mod LimitLaws
 pub mod Unique
+pub mod OneFault

@@ -1,5 +1,5 @@
 -- The limits on lines are those on rows.
-use Rattle.std.proofs.Common.{◌≡◌, ℕ, suc, ◌+◌, ◌-◌, ◌<◌, ◌≤◌, List, [], ◌∷◌, length, ltb, ◌||◌, Bool, true, false, Option, Some, None, refl, sym, ap, ◌∙◌, arith, inl, inr}
+use Rattle.std.proofs.Common.{◌≡◌, ℕ, suc, ◌+◌, ◌-◌, ◌<◌, ◌≤◌, List, [], ◌∷◌, ◌++◌, length, ltb, cond, ◌||◌, Bool, true, false, Option, Some, None, refl, sym, ap, ◌∙◌, arith, inl, inr}
 use Rattle.std.specs.Prelude.{◌⊎◌, max}
 use Rattle.std.proofs.Math.Dec.{eqb-suc-zero}
 use Rattle.std.proofs.lemmas.Bool.{lt-ltb, le-ltb, cases_lt}
@@ -8,21 +8,22 @@ use Rattle.flow_text.specs.declared.line.Form.{Form}
 use Rattle.flow_text.specs.declared.line.Form.TheVariants as forms
 use Rattle.flow_text.specs.declared.limit.Counts.{Counts}
 use Rattle.flow_text.specs.Grammar.{Rest, no_more, edge, place, atom, row, line, lines_of, boxes_behind, IsRest, FlowFile, content_lines, IsContent, IsFlowFile}
-use Rattle.flow_text.specs.Limits.{is_item, items, open_behind, is_deep, one_more, no_counts, counted, crowded, has_crowded_row}
-use Rattle.flow_text.specs.TreeLimits.{depth, own_items, all_items, most_inner, of_content, file_depth, file_items, file_most_inner}
+use Rattle.flow_text.specs.Limits.{first_above, or_else, first_numbers, numbers, columns, first_long, wide_in, first_wide, is_item, items, open_behind, is_deep, one_more, no_counts, counted, crowded, has_crowded_row}
+use Rattle.flow_text.specs.TreeLimits.{depth, own_items, all_items, most_inner, of_content, file_depth, file_items, file_most_inner, rest_numbers, rest_columns, in_content, file_numbers, file_columns}
 
 -- an edge opens and ends no row, and is no item
 record IsPlain (f : Form) : Type 0 where
+  narrow : columns f ≡ []
   stays : (n : ℕ) → open_behind n f ≡ n
   no_item : is_item f ≡ false
   counts : (c : Counts) → counted c f ≡ c
 
 plain : (f : Form) (t : Bool) (boxes next : List ℕ) → boxes_behind f t boxes ≡ Some next → IsPlain f
-plain (forms.Margin u) t boxes next h = record { stays = λ n. refl; no_item = refl; counts = λ c. refl }
-plain (forms.Solid u) t boxes next h = record { stays = λ n. refl; no_item = refl; counts = λ c. refl }
-plain forms.Wall t boxes next h = record { stays = λ n. refl; no_item = refl; counts = λ c. refl }
-plain (forms.Start number x w avoid top bottom) t boxes next h = record { stays = λ n. refl; no_item = refl; counts = λ c. refl }
-plain (forms.End number) t boxes next h = record { stays = λ n. refl; no_item = refl; counts = λ c. refl }
+plain (forms.Margin u) t boxes next h = record { narrow = refl; stays = λ n. refl; no_item = refl; counts = λ c. refl }
+plain (forms.Solid u) t boxes next h = record { narrow = refl; stays = λ n. refl; no_item = refl; counts = λ c. refl }
+plain forms.Wall t boxes next h = record { narrow = refl; stays = λ n. refl; no_item = refl; counts = λ c. refl }
+plain (forms.Start number x w avoid top bottom) t boxes next h = record { narrow = refl; stays = λ n. refl; no_item = refl; counts = λ c. refl }
+plain (forms.End number) t boxes next h = record { narrow = refl; stays = λ n. refl; no_item = refl; counts = λ c. refl }
 plain forms.Flow t boxes next h = absurd cc
 plain (forms.First n w st available auto) t boxes next h = absurd cc
 plain (forms.Atom u) t boxes next h = absurd cc
@@ -212,3 +213,62 @@ content_crowded (Some r) ended h = let m = first_crowd r false [] 0 (line ended 
 
 pub file_crowded : (lines : List Line) (f : FlowFile) → IsFlowFile lines f → has_crowded_row no_counts lines ≡ ltb 2000 (file_most_inner f)
 file_crowded lines f h = rw h.whole (content_crowded f.content f.ended h.content)
+
+-- ---- the greatest numbers
+
+or_else_twice : (a b c : Option ℕ) → or_else (or_else a b) c ≡ or_else a (or_else b c)
+or_else_twice None b c = refl
+or_else_twice (Some x) b c = refl
+
+or_else_none : (a : Option ℕ) → or_else a None ≡ a
+or_else_none None = refl
+or_else_none (Some x) = refl
+
+above_both : (limit : ℕ) (a b : List ℕ) → first_above limit (a ++ b) ≡ or_else (first_above limit a) (first_above limit b)
+above_both limit [] b = refl
+above_both limit (n ∷ a) b = by_number (ltb limit n) (above_both limit a b)
+  where
+    by_number : (t : Bool) → first_above limit (a ++ b) ≡ or_else (first_above limit a) (first_above limit b)
+        → cond t (Some n) (first_above limit (a ++ b)) ≡ or_else (cond t (Some n) (first_above limit a)) (first_above limit b)
+    by_number true h = refl
+    by_number false h = h
+
+-- what stands in front, then what is left
+in_front : (limit : ℕ) (front rest : List ℕ) (after behind : Option ℕ) → behind ≡ or_else (first_above limit rest) after → or_else (first_above limit front) behind ≡ or_else (first_above limit (front ++ rest)) after
+in_front limit front rest after behind h = rw (h, above_both limit front rest) (sym (or_else_twice (first_above limit front) (first_above limit rest) after))
+
+long_are : (r : Rest) (after : List Line) → first_long (lines_of r after) ≡ or_else (first_above 16777216 (rest_numbers r)) (first_long after)
+long_are no_more after = refl
+long_are (edge l r) after = in_front 16777216 (numbers l.form) (rest_numbers r) (first_long after) _ (long_are r after)
+long_are (place a level r) after = long_are r after
+long_are (atom a u r) after = in_front 16777216 (u ∷ []) (rest_numbers r) (first_long after) _ (long_are r after)
+long_are (row a n w st x content ended r) after =
+    let inside = long_are content (line ended forms.Close ∷ lines_of r after) ∙ in_front 16777216 (rest_numbers content) (rest_numbers r) (first_long after) _ (long_are r after) in
+    in_front 16777216 (n ∷ w ∷ st ∷ x ∷ []) (rest_numbers content ++ rest_numbers r) (first_long after) _ inside
+
+wide_are : (r : Rest) (t : Bool) (boxes : List ℕ) (after : List Line) → IsRest t boxes r → first_wide (lines_of r after) ≡ or_else (first_above 32 (rest_columns r)) (first_wide after)
+wide_are no_more t boxes after h = refl
+wide_are (edge l r) t boxes after h =
+    let p = plain l.form t boxes h.0 h.1 in
+    ap (λ (ns : List ℕ). or_else (first_above 32 ns) (first_wide (lines_of r after))) p.narrow ∙ wide_are r t h.0 after h.2
+wide_are (place a level r) t boxes after h = wide_are r false boxes after h.1
+wide_are (atom a u r) t boxes after h = wide_are r true boxes after h.1
+wide_are (row a n w st x content ended r) t boxes after h =
+    let inside = wide_are content false [] (line ended forms.Close ∷ lines_of r after) h.1 ∙ in_front 32 (rest_columns content) (rest_columns r) (first_wide after) _ (wide_are r true boxes after h.2) in
+    in_front 32 (n ∷ []) (rest_columns content ++ rest_columns r) (first_wide after) _ inside
+
+content_long : (content : Option Rest) (ended : ℕ) → first_long (content_lines content (line ended forms.Close ∷ [])) ≡ first_above 16777216 (in_content rest_numbers content)
+content_long None ended = refl
+content_long (Some r) ended = long_are r (line ended forms.Close ∷ []) ∙ or_else_none (first_above 16777216 (rest_numbers r))
+
+pub file_long : (lines : List Line) (f : FlowFile) → IsFlowFile lines f → first_long lines ≡ first_above 16777216 (file_numbers f)
+file_long lines f h =
+    rw (h.whole, content_long f.content f.ended) (sym (above_both 16777216 (first_numbers f.n f.w f.step f.available) (in_content rest_numbers f.content)))
+
+content_wide : (content : Option Rest) (ended : ℕ) → IsContent content → first_wide (content_lines content (line ended forms.Close ∷ [])) ≡ first_above 32 (in_content rest_columns content)
+content_wide None ended h = refl
+content_wide (Some r) ended h = wide_are r false [] (line ended forms.Close ∷ []) h ∙ or_else_none (first_above 32 (rest_columns r))
+
+pub file_wide : (lines : List Line) (f : FlowFile) → IsFlowFile lines f → first_wide lines ≡ first_above 32 (file_columns f)
+file_wide lines f h =
+    rw (h.whole, content_wide f.content f.ended h.content) (sym (above_both 32 (f.n ∷ []) (in_content rest_columns f.content)))

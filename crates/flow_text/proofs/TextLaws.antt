@@ -29,6 +29,7 @@ use Rattle.mc_base.specs.Reading.{◌>>=◌, fault}
 use Rattle.mc_base.proofs.ReadSteps.{step, no_fault}
 use Rattle.flow_text.specs.Text.{IsText, line_len, cuts, line_of, line_at, Read, read_on, ended_at, lines_of}
 use Rattle.flow_text.specs.Run.{run}
+use Rattle.flow_text.specs.Faults.{Begins}
 use Rattle.flow_text.proofs.FormLemmas.{own, form_takes, form_again}
 use Rattle.flow_text.proofs.TextLemmas.{first_line}
 
@@ -119,19 +120,30 @@ lines_are lines = Ok lines
 abbrev read_is : Reading → List Line → Result Read Fault
 read_is r lines = Ok (record { reading = r; lines = lines })
 
+-- lines that stand at the front are read so, and reading goes on behind them
+pub front_again : (lines : List Line) (at : ℕ) (bytes : List ℕ) (end : ℕ) (rest : List ℕ) (r next : Reading) (so_far : List Line) → Begins at lines bytes end rest → run r lines ≡ answer next
+    → read_on r so_far (cuts at bytes) ≡ read_on next (so_far ++ lines) (cuts end rest)
+unfolding read_on cuts
+front_again [] at bytes end rest r next so_far h e =
+    let same : r ≡ next = cc in
+    rw (h.0, h.1, append-nil) (ap (λ (x : Reading). read_on x so_far (cuts at bytes)) same)
+front_again (line ∷ lines) at bytes end rest r next so_far h e = step (structure.take r line) _ next e (λ middle taken more.
+    let cut = cut_again at h.1 h.2 (printable_form line.form h.1 h.3) in
+    let form = form_again line.form h.1 h.3 in
+    let deeper = front_again lines (at + length h.1 + 1) h.2 end rest middle next (so_far ++ line ∷ []) h.5 more in
+    let line_is : line ≡ record { at = at; form = line.form } = ap (λ (n : ℕ). placed n line.form) h.0 in
+    let taken' : structure.take r (record { at = at; form = line.form }) ≡ Ok middle = subst (λ (l : Line). structure.take r l ≡ Ok middle) line_is taken in
+    rw (h.4, cut, form, taken') (ap (λ (l : Line). read_on middle (so_far ++ l ∷ []) (cuts (at + length h.1 + 1) h.2)) (sym line_is) ∙ deeper ∙ ap (λ (x : List Line). read_on next x (cuts end rest)) (append_assoc so_far (line ∷ []) lines)))
+
+-- the lines of a text stand at its front, with nothing behind them
+begins : (lines : List Line) (at : ℕ) (bytes : List ℕ) → IsText at lines bytes → (end : ℕ) × Begins at lines bytes end []
+begins [] at bytes h = (at, (refl, sym h))
+begins (line ∷ lines) at bytes h = let b = begins lines (at + length h.1 + 1) h.2 h.5 in (b.0, (h.0, h.1, h.2, h.3, h.4, b.1))
+
 -- lines that are spelled so are read so
 read_again : (lines : List Line) (at : ℕ) (bytes : List ℕ) (r next : Reading) (so_far : List Line) → IsText at lines bytes → run r lines ≡ answer next → read_on r so_far (cuts at bytes) ≡ read_is next (so_far ++ lines)
 unfolding read_on cuts
-read_again [] at bytes r next so_far h e =
-    let same : r ≡ next = cc in
-    rw (h, append-nil) (ap (λ (x : Reading). read_is x so_far) same)
-read_again (line ∷ lines) at bytes r next so_far h e = step (structure.take r line) _ next e (λ middle taken more.
-    let cut = cut_again at h.1 h.2 (printable_form line.form h.1 h.3) in
-    let form = form_again line.form h.1 h.3 in
-    let deeper = read_again lines (at + length h.1 + 1) h.2 middle next (so_far ++ line ∷ []) h.5 more in
-    let line_is : line ≡ record { at = at; form = line.form } = ap (λ (n : ℕ). placed n line.form) h.0 in
-    let taken' : structure.take r (record { at = at; form = line.form }) ≡ Ok middle = subst (λ (l : Line). structure.take r l ≡ Ok middle) line_is taken in
-    rw (h.4, cut, form, taken') (ap (λ (l : Line). read_on middle (so_far ++ l ∷ []) (cuts (at + length h.1 + 1) h.2)) (sym line_is) ∙ deeper ∙ ap (λ (x : List Line). read_is next x) (append_assoc so_far (line ∷ []) lines)))
+read_again lines at bytes r next so_far h e = let b = begins lines at bytes h in front_again lines at bytes b.0 [] r next so_far b.1 e
 
 -- what a text of lines is made of
 plain : ℕ → Bool
@@ -230,7 +242,7 @@ read_takes (suc n) at (b ∷ bytes) r so_far out le h =
     let t = line_takes r at (take (line_len (b ∷ bytes)) (b ∷ bytes)) _ l is in
     one_line at (b ∷ bytes) r next so_far out l t.0 t.1 t.2 taken (read_takes n (at + line_len (b ∷ bytes) + 1) (drop (suc (line_len (b ∷ bytes))) (b ∷ bytes)) next (so_far ++ l ∷ []) out shorter rest)))
 
-may_end : (r : Reading) (size : ℕ) → fault_of_ending r size ≡ None → r ≡ readings.Ended
+pub may_end : (r : Reading) (size : ℕ) → fault_of_ending r size ≡ None → r ≡ readings.Ended
 may_end readings.Opening size h = absurd cc
 may_end readings.Heading size h = absurd cc
 may_end (readings.Within s) size h = by_due s.due h

@@ -29,9 +29,13 @@ or_lines (Some r) lines = Err r
 abbrev pub within_limits : List Line → Result (List Line) Refusal
 within_limits lines = or_lines (limit_passed lines) lines
 
+-- the answer to a text with this first fault
+abbrev pub faulty : Fault → Result (List Line) Refusal
+faulty f = Err (refusal_of f)
+
 abbrev pub answered : Result (List Line) Fault → Result (List Line) Refusal
 answered (Ok lines) = within_limits lines
-answered (Err f) = Err (refusal_of f)
+answered (Err f) = faulty f
 
 -- the lines of a text within its limits, else its first fault or the first limit that it passes
 abbrev pub answer_of : List ℕ → Result (List Line) Refusal

@@ -1,6 +1,7 @@
 -- The limits of a flow file, on its rows.
-use Rattle.std.specs.Prelude.{ℕ, suc, ◌+◌, max, Option, Some, None}
+use Rattle.std.specs.Prelude.{ℕ, suc, ◌+◌, max, List, [], ◌∷◌, ◌++◌, Option, Some, None}
 use Rattle.flow_text.specs.Grammar.{Rest, no_more, edge, place, atom, row, FlowFile}
+use Rattle.flow_text.specs.Limits.{first_numbers, numbers}
 
 -- how many rows stand one inside another in what is left of a row
 abbrev pub depth : Rest → ℕ
@@ -47,3 +48,31 @@ file_items f = of_content all_items f.content
 
 abbrev pub file_most_inner : FlowFile → ℕ
 file_most_inner f = of_content most_inner f.content
+
+-- the numbers of what is left of a row, in order, those of inner rows included
+abbrev pub rest_numbers : Rest → List ℕ
+rest_numbers no_more = []
+rest_numbers (edge l rest) = numbers l.form ++ rest_numbers rest
+rest_numbers (place at level rest) = rest_numbers rest
+rest_numbers (atom at height rest) = height ∷ rest_numbers rest
+rest_numbers (row at n w step x content ended rest) = n ∷ w ∷ step ∷ x ∷ (rest_numbers content ++ rest_numbers rest)
+
+-- how many columns each row has that is left, those within other rows included
+abbrev pub rest_columns : Rest → List ℕ
+rest_columns no_more = []
+rest_columns (edge l rest) = rest_columns rest
+rest_columns (place at level rest) = rest_columns rest
+rest_columns (atom at height rest) = rest_columns rest
+rest_columns (row at n w step x content ended rest) = n ∷ (rest_columns content ++ rest_columns rest)
+
+abbrev pub in_content : (Rest → List ℕ) → Option Rest → List ℕ
+in_content f None = []
+in_content f (Some rest) = f rest
+
+-- the numbers of the file, in order
+abbrev pub file_numbers : FlowFile → List ℕ
+file_numbers f = first_numbers f.n f.w f.step f.available ++ in_content rest_numbers f.content
+
+-- how many columns each row of the file has
+abbrev pub file_columns : FlowFile → List ℕ
+file_columns f = f.n ∷ in_content rest_columns f.content

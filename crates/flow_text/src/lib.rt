@@ -19,14 +19,12 @@ mod reading;
 mod structure;
 
 pub use laws::{
-    a_line_that_may_not_follow_is_a_fault, flow_files_are_read, forms_are_read,
-    limits_are_those_of_the_rows, lines_are_one_flow_file_at_most, texts_of_flow_files_are_read,
-    the_fault_of_a_text_is_the_first, what_is_read_is_a_flow_file, what_is_read_is_a_form,
-    what_is_read_is_the_text_of_a_flow_file, what_is_read_so_far_begins_a_flow_file,
+    a_line_that_may_not_follow_is_a_fault, a_text_has_one_first_fault_at_most, flow_files_are_read,
+    forms_are_read, limits_are_those_of_the_rows, lines_are_one_flow_file_at_most,
+    texts_of_flow_files_are_read, the_fault_of_a_text_is_the_first, what_is_read_is_a_flow_file,
+    what_is_read_is_a_form, what_is_read_is_the_text_of_a_flow_file,
+    what_is_read_so_far_begins_a_flow_file,
 };
 pub use line::{Form, Line};
 pub use pile::Pile;
 pub use reading::read;
-
-#[cfg(test)]
-mod tests;

@@ -139,6 +139,8 @@ pub fn read(alloc: Global, text: &[u8]) -> Result<List<Line>, Refusal>
     ensures only { (lines : List Line) (file : FlowFile) → IsText 0 lines text.now → IsFlowFile lines file → IsAnswer result (answers.within_limits lines) }
     // The fault that is answered is the first, by the grammar.
     ensures first { (fault : Fault) → IsErrOf result (answers.refusal_of fault) → IsFirstFault text.now fault }
+    // A text with a first fault, of which there is at most one, is refused by it.
+    ensures told { (fault : Fault) → IsFirstFault text.now fault → IsAnswer result (answers.faulty fault) }
     // Each refusal has its cause: the first fault, or the first limit that a flow file passes.
     ensures refused { IfErr result (IsRefused text.now) }
     // Which answer it is, line by line from the front.

@@ -12,6 +12,3 @@ mod reading;
 
 pub use fonts::{Advance, Face, FaceId, Fonts};
 pub use reading::read_fonts;
-
-#[cfg(test)]
-mod tests;

@@ -16,6 +16,3 @@ mod tree;
 
 pub use stack::available_in;
 pub use tree::{write_flat, write_flat_within};
-
-#[cfg(test)]
-mod tests;

@@ -16,8 +16,6 @@ mod reading;
 mod references;
 mod stack;
 mod tags;
-#[cfg(test)]
-mod tests;
 mod tokens;
 mod values;
 

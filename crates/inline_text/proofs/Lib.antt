@@ -1,4 +1,7 @@
 pub mod Scan
 pub mod Settled
-pub mod Laws
+pub mod CollapsedRun
 pub mod PlaceLemmas
+pub mod Marks
+pub mod Renumbered
+pub mod Blank

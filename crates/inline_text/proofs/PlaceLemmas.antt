@@ -6,7 +6,7 @@ use Rattle.inline_text.specs.declared.content.Piece.{Piece}
 use Rattle.inline_text.specs.declared.content.RunStyle.{RunStyle}
 use Rattle.inline_text.specs.declared.content.Runs.{Runs}
 use Rattle.inline_text.specs.Opportunities.{may_wrap, wrap_or, begins_with_letter, letter_or, begins_with_image, lets_break, is_opportunity, opportunity_at, opportunities_behind}
-use Rattle.inline_text.proofs.Laws.{reversed_onto}
+use Rattle.inline_text.proofs.CollapsedRun.{reversed_onto}
 
 -- the opportunities behind these pieces, where what stands before them allows wrapping or not, and ends with a letter or not
 abbrev pub opportunities_after : List RunStyle → (wraps letter : Bool) → List Piece → List Bool

@@ -116,3 +116,56 @@ is_no_space (Char ch style) = not (is_white ch)
 is_no_space (Image w h style) = true
 is_no_space Forced = false
 is_no_space Chance = true
+
+-- an image or a forced break
+abbrev pub is_mark : Piece → Bool
+is_mark (Char ch style) = false
+is_mark (Image w h style) = true
+is_mark Forced = true
+is_mark Chance = false
+
+-- a line feed that is kept is a forced break
+abbrev pub mark_of_char : (keep : Bool) (ch : ℕ) → List Piece
+mark_of_char true ch = if ch == 10 then Forced ∷ [] else []
+mark_of_char false ch = []
+
+abbrev pub mark_of : List RunStyle → Piece → List Piece
+mark_of styles (Char ch style) = mark_of_char (keeps styles style) ch
+mark_of styles (Image w h style) = Image w h style ∷ []
+mark_of styles Forced = Forced ∷ []
+mark_of styles Chance = []
+
+-- the images of these pieces and their forced breaks, in order
+abbrev pub marks : List RunStyle → List Piece → List Piece
+marks styles [] = []
+marks styles (piece ∷ pieces) = mark_of styles piece ++ marks styles pieces
+
+abbrev pub is_chance : Piece → Bool
+is_chance (Char ch style) = false
+is_chance (Image w h style) = false
+is_chance Forced = false
+is_chance Chance = true
+
+abbrev pub is_blank_kind : Kind → Bool
+is_blank_kind Space = true
+is_blank_kind Content = false
+is_blank_kind Break = false
+is_blank_kind Through = true
+
+-- white space that collapses, or a `wbr`
+abbrev pub is_blank_piece : List RunStyle → Piece → Bool
+is_blank_piece styles piece = is_blank_kind (kind_of styles piece)
+
+-- a piece whose style has another number
+abbrev pub renumbered : (ℕ → ℕ) → Piece → Piece
+renumbered number (Char ch style) = Char ch (number style)
+renumbered number (Image w h style) = Image w h (number style)
+renumbered number Forced = Forced
+renumbered number Chance = Chance
+
+-- The style that a character has by its new number keeps white space where its own one does.
+abbrev pub KeepsToo : List RunStyle → List RunStyle → (ℕ → ℕ) → Piece → Type 0
+KeepsToo styles others number (Char ch style) = keeps others (number style) ≡ keeps styles style
+KeepsToo styles others number (Image w h style) = Unit {0}
+KeepsToo styles others number Forced = Unit {0}
+KeepsToo styles others number Chance = Unit {0}

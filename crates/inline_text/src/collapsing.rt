@@ -1,16 +1,22 @@
 //! The collapsing of white space.
 
-ghost use Rattle.std.specs.Prelude.{◌≡◌, ◌++◌, ◌&&◌, filter, OnOk, IfOk};
+ghost use Rattle.std.specs.Prelude.{◌≡◌, ◌↔◌, ◌≤◌, ◌*◌, ◌++◌, ◌&&◌, filter, length, IsTrue, OnOk, IfOk};
+ghost use Rattle.std.specs.List.{All, list_all};
+ghost use Rattle.inline_text.specs.WhiteSpace as white_space;
 ghost use Rattle.inline_text.specs.WhiteSpace.{
   HasStyles,
   IsCollapsed,
   SpacesStandBetween,
   collapsed,
   content_or,
+  is_blank_piece,
+  is_chance,
+  is_mark,
   is_no_space,
   is_white,
   kept,
   kind_of,
+  marks,
   piece_becomes,
   precedes_content,
 };
@@ -39,6 +45,10 @@ pub fn collapse(alloc: Global, runs: &Runs) -> Result<Runs, NoMemory>
     ensures spaces { IfOk result SpacesStandBetween }
     ensures others { IfOk result
         (λ answer. filter is_no_space answer.pieces ≡ filter is_no_space runs.now.pieces) }
+
+    // The images, with their measures, and the forced breaks are those of the run, in order.
+    ensures marks { IfOk result (λ answer. filter is_mark answer.pieces ≡ marks runs.now.styles runs.now.pieces) }
+    ensures few { IfOk result (λ answer. length answer.pieces ≤ 8 * length runs.now.pieces) }
 {
     let pieces = collapsed_pieces(alloc, runs)?;
     let styles = Vec::from_slice(alloc, runs.styles.as_slice())?;
@@ -46,6 +56,33 @@ pub fn collapse(alloc: Global, runs: &Runs) -> Result<Runs, NoMemory>
         pieces: List::of(pieces),
         styles: List::of(styles),
     })
+}
+
+/// Whether pieces are nothing but white space that collapses and `wbr`. Such a run makes no line, and no anonymous block
+/// (CSS 2.1, section 9.2.2.1).
+pub fn is_blank(styles: &[RunStyle], pieces: &[Piece]) -> bool
+    ensures pieces { IsTrue result ↔ All (λ piece. IsTrue (is_blank_piece styles.now piece)) pieces.now }
+    // Nothing but `wbr` is left of it.
+    ensures left { IsTrue result ↔ All (λ piece. IsTrue (is_chance piece)) (collapsed (record { pieces = pieces.now; styles = styles.now })) }
+{
+    all_blank(styles, pieces)
+}
+
+/// Whether each piece is white space that collapses or a `wbr`.
+fn all_blank(styles: &[RunStyle], pieces: &[Piece]) -> bool
+    ensures { result ≡ list_all (is_blank_piece styles.now) pieces.now }
+{
+    pieces.iter().all(|piece| is_blank_kind(kind(styles, piece)))
+}
+
+/// Whether a piece of this kind is white space that collapses or a `wbr`.
+fn is_blank_kind(kind: Kind) -> bool
+    ensures { result ≡ white_space.is_blank_kind kind }
+{
+    match kind {
+        Kind::Space | Kind::Through => true,
+        Kind::Content | Kind::Break => false,
+    }
 }
 
 /// What the pieces of a run become.

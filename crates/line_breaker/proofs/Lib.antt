@@ -2,4 +2,5 @@ pub mod Halves
 pub mod Between
 pub mod Following
 pub mod Ends
-pub mod Laws
+pub mod AllLines
+pub mod OneList

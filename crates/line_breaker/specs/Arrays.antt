@@ -113,7 +113,7 @@ pub data IsEnd (places : List Place) (ahead : List Ahead) (from end width to : �
 
 -- the lengths of a place are far from what 64 bits hold
 pub record IsSmall (place : Place) : Type 0 where
-  pub before : place.before < 2 ^ 62
+  pub before : place.before ≤ 10 * 2 ^ 56
   pub hyphen : place.hyphen ≤ 10 * 2 ^ 24
 
 -- how wide a line is between two places, in a stretch that ends at `end`

@@ -9,6 +9,7 @@ use Rattle.inline_text.specs.declared.content.RunStyle.{RunStyle}
 use Rattle.inline_text.specs.declared.content.Runs.{Runs}
 use Rattle.inline_text.specs.Opportunities.{opportunity_at}
 use Rattle.inline_text.specs.WhiteSpace.{HasStyle}
+pub use Rattle.inline_text.specs.WhiteSpace.{is_chance}
 use Rattle.line_breaker.specs.declared.line.Line.{Line}
 use Rattle.line_breaker.specs.Measures.{style_of, width_sum, last_space, last_hyphen, above_of, below_of, greatest_above, greatest_below}
 
@@ -87,12 +88,6 @@ pub record IsLine (runs : Runs) (faces : List Face) (width strut from : ℕ) (li
   pub ends : EndsAt runs faces width from line.to
   pub is_width : line.w ≡ line_width runs faces from line.to
   pub is_height : HasHeight runs faces strut (part runs.pieces from line.to) line.h
-
-abbrev pub is_chance : Piece → Bool
-is_chance (Char ch style) = false
-is_chance (Image w h style) = false
-is_chance Forced = false
-is_chance Chance = true
 
 -- The lines from a place on, each behind the one before. What has no character, image or forced break makes no line.
 abbrev pub AreLines : Runs → List Face → (width strut from : ℕ) → List Line → Type 0

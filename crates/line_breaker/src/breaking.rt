@@ -1,6 +1,6 @@
 //! Where lines end.
 
-ghost use Rattle.std.specs.Prelude.{◌≡◌, ◌≤◌, ◌<◌, ◌^◌, ◌*◌, ◌+◌, ℕ, drop, IsTrue, length, IfOk};
+ghost use Rattle.std.specs.Prelude.{◌≡◌, ◌≤◌, ◌<◌, ◌^◌, ◌*◌, ◌+◌, ℕ, List as Items, drop, IsTrue, length, IfOk};
 ghost use Rattle.std.specs.List.{All};
 ghost use Rattle.line_breaker.specs.Lines.{CanBreak, AreLines, IsLine, IsNarrow, HoldsAll, is_chance as is_chance_piece};
 ghost use Rattle.line_breaker.specs.Arrays as arrays;
@@ -91,7 +91,8 @@ fn line_width(places: &[Place], from: usize, end: usize, to: usize) -> Units
     requires from { from < length places.now }
     requires to { to < length places.now }
     requires small { All IsSmall places.now }
-    ensures { result ≡ arrays.width_between places.now from end to }
+    ensures value { result ≡ arrays.width_between places.now from end to }
+    ensures most { result < 2 ^ 60 }
 {
     let text = edge(&places[to]).saturating_sub(places[from].before);
     if to == end {
@@ -136,6 +137,7 @@ fn next_line(
     ensures line { IsLine runs.now fonts.now width strut from result }
     ensures some { from < result.to }
     ensures within { result.to ≤ length runs.now.pieces }
+    ensures width { result.w < 2 ^ 60 }
 {
     let styles = runs.styles.as_slice();
     let pieces = runs.pieces.as_slice();
@@ -163,7 +165,8 @@ fn cut(
 ) -> Result<List<Line>, NoMemory>
     requires can { CanBreak runs.now fonts.now strut }
     requires measured { IsMeasured runs.now fonts.now places.now ahead.now }
-    ensures { IfOk result (AreLines runs.now fonts.now width strut 0) }
+    ensures lines { IfOk result (AreLines runs.now fonts.now width strut 0) }
+    ensures widths { IfOk result (All (λ line. line.w < 2 ^ 60)) }
 {
     let last = lines_end(runs.pieces.as_slice());
     let mut lines = List::new(alloc);
@@ -195,11 +198,17 @@ pub fn break_lines(
 ) -> Result<List<Line>, NoMemory>
     requires { CanBreak runs.now fonts.now strut }
     ensures lines { IfOk result (AreLines runs.now fonts.now width strut 0) }
+    // No other lines are those of the run.
+    ensures only { (lines : Items Line) → AreLines runs.now fonts.now width strut 0 lines → IfOk result (λ found. found ≡ lines) }
 
     // The lines hold the pieces in order, each once.
     ensures pieces { IfOk result (HoldsAll runs.now.pieces) }
     ensures filled { IfOk result (All (λ line. line.from < line.to)) }
     ensures narrow { IfOk result (All (IsNarrow runs.now fonts.now width)) }
+
+    ensures within { IfOk result (All (λ line. line.to ≤ length runs.now.pieces)) }
+    ensures few { IfOk result (λ lines. length lines ≤ length runs.now.pieces) }
+    ensures widths { IfOk result (All (λ line. line.w < 2 ^ 60)) }
 {
     let styles = runs.styles.as_slice();
     let pieces = runs.pieces.as_slice();

@@ -7,11 +7,11 @@
 mod ahead;
 mod breaking;
 mod height;
+mod laws;
 mod line;
 mod measures;
 mod places;
-#[cfg(test)]
-mod tests;
 
 pub use breaking::break_lines;
+pub use laws::a_run_has_one_list_of_lines;
 pub use line::Line;

@@ -3,3 +3,5 @@ pub mod NameCounts
 pub mod PutParts
 pub mod ReadSteps
 pub mod SoundBytes
+pub mod DecimalForms
+pub mod DecimalDigits

@@ -5,3 +5,5 @@ pub mod Outside
 pub mod Memory
 pub mod Reading
 pub mod SoundText
+pub mod Decimals
+pub mod DecimalReading

@@ -5,6 +5,7 @@
 //! bytes and a `Token` as its numbers, and that reading and writing answer a fault only where a count of faults rose.
 #![tactic(auto)]
 
+mod decimal;
 mod disk;
 mod fragment;
 mod level;
@@ -19,6 +20,7 @@ mod text;
 mod token;
 mod units;
 
+pub use decimal::{Decimal, read_decimal};
 pub use disk::{DiskFiles, StdSink};
 pub use fragment::{FragId, Node};
 pub use level::Level;

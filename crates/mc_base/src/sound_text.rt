@@ -35,23 +35,3 @@ pub fn sound_len(text: &[u8]) -> usize
 {
     valid_len(text).min(nonzero_len(text))
 }
-
-#[cfg(test)]
-mod tests {
-    use super::*;
-
-    #[test]
-    fn a_text_ends_at_its_first_bad_byte(rt: HostRuntime) {
-        let cases: [(&[u8], usize); 6] = [
-            (b"", 0),
-            (b"abc", 3),
-            (b"ab\x00c", 2),
-            (b"a\xc3\xa4b", 4),
-            (b"a\xc3\x28\x00", 1),
-            (b"\x00\xff", 0),
-        ];
-        for (text, wanted) in cases {
-            assert_eq!(rt; sound_len(text), wanted);
-        }
-    }
-}

@@ -32,7 +32,7 @@ status_at_most (Refused NoMemory) = lit≤ tt
 
 -- ---- what is said of the bytes of a refused flow file
 
-abbrev IsRefused : List ℕ → Refusal → Type 0
+abbrev pub IsRefused : List ℕ → Refusal → Type 0
 IsRefused bytes refusal = IsTooLong bytes refusal ⊎ ((length bytes ≤ flow_limit) × RefusesBytes bytes refusal)
 
 of_file : (held : Option (List ℕ)) (refusal : Refusal) (P : List ℕ → Type 0) → (refusal ≡ NoMemory → ⊥) → ((bytes : List ℕ) → IsRefused bytes refusal → P bytes) →
@@ -102,12 +102,12 @@ limited command held before now ob on (Refused NoMemory) cause is = absurd (omeg
 
 -- ---- completeness
 
-read_cause : (before now : List ℕ → ℕ) (o : Option (List ℕ)) → IsSomeAnd o (λ name. before name < now name) → IfSome o (λ name. now name ≤ before name) → ⊥
+pub read_cause : (before now : List ℕ → ℕ) (o : Option (List ℕ)) → IsSomeAnd o (λ name. before name < now name) → IfSome o (λ name. now name ≤ before name) → ⊥
 read_cause before now None rose no_rise = rose
 read_cause before now (Some name) rose no_rise = omega arith
 
 -- no flow file that has a result is refused
-has_result : (bytes text : List ℕ) (refusal : Refusal) → IsFlowResult bytes text → IsRefused bytes refusal → (refusal ≡ NoMemory → ⊥) → ⊥
+pub has_result : (bytes text : List ℕ) (refusal : Refusal) → IsFlowResult bytes text → IsRefused bytes refusal → (refusal ≡ NoMemory → ⊥) → ⊥
 has_result bytes text refusal (few, (d, says, flat, is, short)) (inl long) full = let over = long.0 in omega (arith, few, over)
 has_result bytes text (Grammar input offset rule) (few, (d, says, flat, is, short)) (inr (also, (none, fault))) full = none says.0 says.1
 has_result bytes text (Construct input offset name) (few, (d, says, flat, is, short)) (inr (also, refused)) full =

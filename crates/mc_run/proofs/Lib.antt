@@ -2,3 +2,4 @@ pub mod Pieces
 pub mod Causes
 pub mod OneFlow
 pub mod FlatFile
+pub mod OneReason

@@ -86,6 +86,12 @@ abbrev pub Refuses : Option Command → (List ℕ → Option (List ℕ)) → Ref
 Refuses None held refusal = ⊥
 Refuses (Some (rows flow)) held refusal = RefusesFlow (held flow) refusal
 
+-- the flow file of a command is told, and it is refused for this reason, which isn't want of memory
+abbrev pub RefusesTold : Option Command → (List ℕ → Option (List ℕ)) → Refusal → Type 0
+RefusesTold None held refusal = ⊥
+RefusesTold (Some (rows flow)) held refusal =
+    (refusal ≢ NoMemory) × IsSomeAnd (held flow) (λ bytes. IsTooLong bytes refusal ⊎ ((length bytes ≤ flow_limit) × RefusesBytes bytes refusal))
+
 -- this text is the result of a command
 abbrev pub Gives : Option Command → (List ℕ → Option (List ℕ)) → List ℕ → Type 0
 Gives command held text = OfFlow command held (λ bytes. IsFlowResult bytes text)

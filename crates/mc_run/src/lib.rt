@@ -7,18 +7,17 @@
 ghost use Rattle.std.specs.Prelude.{◌≡◌, ◌≢◌, ◌↔◌, ℕ, ◌≤◌, ◌<◌, List, length, map, None, IsSomeAnd, string_bytes};
 ghost use Rattle.mc_base.specs.Outside.{HasRisen};
 ghost use Rattle.mc_base.specs.declared.refusal.Input.{Input};
+ghost use Rattle.mc_base.specs.declared.refusal.Refusal.{Refusal as AnyRefusal};
 ghost use Rattle.mc_run.specs.declared.stop.Stop.{Stop as AnyStop};
 ghost use Rattle.mc_run.specs.Told.{Tells};
-ghost use Rattle.mc_run.specs.Stops.{line_of, status_of};
+ghost use Rattle.mc_run.specs.Stops.{line_of, refusal_status, status_of};
 ghost use Rattle.mc_run.specs.Words.{command_of};
-ghost use Rattle.mc_run.specs.Outcome.{flow_limit, IsNoFlowFile, HoldsRows, PassesLimit, OfFlow, Accepts, name_asked, OnlyAsked, AllRead, IsCause, GetsResult, GetsPart};
+ghost use Rattle.mc_run.specs.Outcome.{flow_limit, IsNoFlowFile, HoldsRows, PassesLimit, OfFlow, Accepts, name_asked, OnlyAsked, AllRead, IsCause, RefusesTold, GetsResult, GetsPart};
 
 mod answer;
 mod inputs;
 mod rows;
 mod stop;
-#[cfg(test)]
-mod tests;
 mod words;
 
 use mc_base::{Files, Sink};
@@ -68,6 +67,13 @@ pub fn run<F: Files, K: Sink, E: Sink>(
         (F.faults files.old) (F.faults files.new) (K.faults out.old) (K.faults out.new) stop ×
         Tells (E.written err.old) (E.written err.new) (E.faults err.old) (E.faults err.new) (line_of stop) }
     ensures silent { result ≡ 0 → err.new ≡ err.old }
+
+    // A flow file that is refused for a reason is refused for that one and no other, and the line tells it, unless the
+    // file isn't read or memory runs out.
+    ensures refused { (refusal : AnyRefusal) → RefusesTold (command_of (map string_bytes words.now)) (F.held files.old) refusal →
+        AllRead (command_of (map string_bytes words.now)) (F.faults files.old) (F.faults files.new) → result ≢ 7 →
+        (result ≡ refusal_status refusal) ×
+        Tells (E.written err.old) (E.written err.new) (E.faults err.old) (E.faults err.new) (line_of (Stop.Refused refusal)) }
 
     // Where the command stopped before its result was put, the sink is as before.
     ensures untouched { result ≢ 0 → result ≢ 3 → out.new ≡ out.old }

@@ -87,6 +87,3 @@ pub fn rows_result(alloc: Global, bytes: &[u8]) -> Result<Text, Refusal>
         }),
     }
 }
-
-#[cfg(test)]
-mod tests;

@@ -1,6 +1,7 @@
 -- What follows of the cause for which the command stopped.
 use Rattle.std.proofs.Common.{subst, sym, ◌∙◌, ◌≢◌, ◌≤◌}
 use Rattle.mc_run.proofs.Causes.{status_at_most, ungrammatical, unbuilt, limited, complete}
+use Rattle.mc_run.proofs.OneReason.{no_result, stops_for}
 use Rattle.mc_run.proofs.run.Goals as goal
 
 pub returns-clause-grammar : goal.returns-clause-grammar

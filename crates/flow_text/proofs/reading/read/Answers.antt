@@ -1,4 +1,4 @@
-use Rattle.flow_text.proofs.AnswerLaws.{found, only, first, refused_for}
+use Rattle.flow_text.proofs.AnswerLaws.{found, only, first, told, refused_for}
 use Rattle.flow_text.proofs.reading.read.Goals as goal
 
 pub returns-clause-found : goal.returns-clause-found
@@ -12,3 +12,6 @@ returns-clause-first c = first c.args.text.now c.answer.result c.answer.ensures
 
 pub returns-clause-refused : goal.returns-clause-refused
 returns-clause-refused c = refused_for c.args.text.now c.answer.result c.answer.ensures
+
+pub returns-clause-told : goal.returns-clause-told
+returns-clause-told c = told c.args.text.now c.answer.result c.answer.ensures

@@ -1,15 +1,19 @@
-use Rattle.std.proofs.Common.{◌≡◌, ℕ, ◌+◌, ◌-◌, List, [], ◌∷◌, ◌++◌, drop, sym, ap, subst, ◌∙◌, arith, append_assoc}
+use Rattle.std.proofs.Common.{◌≡◌, ℕ, ◌+◌, ◌-◌, ◌<◌, ◌^◌, All, List, [], ◌∷◌, ◌++◌, drop, sym, ap, subst, ◌∙◌, arith, append_assoc}
 use Rattle.std.proofs.lemmas.List.{append-nil, drop-drop}
-use Rattle.std.proofs.lemmas.List.Elements.{All-drop}
+use Rattle.std.proofs.lemmas.List.Elements.{All-drop, All-push}
 use Rattle.inline_text.specs.declared.content.Piece.{Piece}
 use Rattle.line_breaker.specs.declared.line.Line.{Line}
 use Rattle.line_breaker.specs.Lines.{AreLines}
-use Rattle.line_breaker.proofs.Laws.{AreChances, IsChance}
+use Rattle.line_breaker.proofs.AllLines.{AreChances, IsChance}
 use Rattle.line_breaker.proofs.breaking.cut.Goals as goal
 
 pub loop-from-preserved : goal.loop-from-preserved
 loop-from-preserved c = record {
   within = c.next_line-line.ensures.within;
+  widths =
+      let all : All (λ (line : Line). line.w < 2 ^ 60) (c.loop-from.lines ++ c.next_line-line.result ∷ []) =
+      All-push (λ (line : Line). line.w < 2 ^ 60) c.loop-from.lines c.next_line-line.result c.loop-from.invariant.widths c.next_line-line.ensures.width in
+      subst (All (λ (line : Line). line.w < 2 ^ 60)) (sym c.in_ok-push.ensures.ok) all;
   so_far = λ more are.
       let runs = c.args.runs.now in
       let line = c.next_line-line.result in
@@ -19,8 +23,8 @@ loop-from-preserved c = record {
       subst (λ (ls : List Line). AreLines runs c.args.fonts.now c.args.width c.args.strut 0 ls) (sym grown) (c.loop-from.invariant.so_far (line ∷ more) (some, c.next_line-line.ensures.line, are));
 }
 
-pub returns : goal.returns
-returns c =
+pub returns-clause-lines : goal.returns-clause-lines
+returns-clause-lines c =
     let runs = c.args.runs.now in
     let last = c.lines_end-last.result in
     let from = c.loop-from.from in

@@ -5,7 +5,7 @@ use Rattle.line_breaker.specs.Measures.{style_of, above_of, below_of}
 use Rattle.line_breaker.specs.Lines.{part, stretch_end}
 use Rattle.line_breaker.specs.Arrays.{ahead_at, IsEnd, width_between}
 use Rattle.line_breaker.proofs.Ends.{ends, to_within, width_is}
-use Rattle.line_breaker.proofs.Laws.{facts, setting, height_is}
+use Rattle.line_breaker.proofs.AllLines.{facts, setting, height_is}
 use Rattle.line_breaker.proofs.breaking.next_line.Goals as goal
 
 pub bounds-ahead-from : goal.bounds-ahead-from
