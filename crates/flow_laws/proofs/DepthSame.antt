@@ -168,7 +168,7 @@ fill_in-same x y d r q h alike = ap (filled_by (flow_in d r) q) (columns-same x 
 -- ---- by how many rows stand one inside another
 
 -- what is true of each row in a flow is true of each of its items that is a row
-items-alike : (x y : Inner) (P : ℕ → Type 0) → ((r : ℕ) → P r → ToldAlike x y r) → (items : List Item) → All P (flat_map row_in items) → ItemsAlike x y items
+pub items-alike : (x y : Inner) (P : ℕ → Type 0) → ((r : ℕ) → P r → ToldAlike x y r) → (items : List Item) → All P (flat_map row_in items) → ItemsAlike x y items
 items-alike x y P told [] all = tt
 items-alike x y P told (Atom height kind ∷ items) all = (tt, items-alike x y P told items all)
 items-alike x y P told (Row r ∷ items) all = (told r (all 0 r (omega arith)), items-alike x y P told items (λ k e lt. all (suc k) e (omega arith)))

@@ -1,8 +1,9 @@
 mod Advance
-mod BoundsAbove
-mod DepthSame
+pub mod AllRanges
+pub mod BoundsAbove
+pub mod DepthSame
 mod Descent
-mod Exists
+pub mod Exists
 mod FillEnds
 mod Held
 pub mod HeldSums
@@ -10,25 +11,24 @@ mod Holding
 mod HoldingColumns
 mod HoldingEnds
 mod HoldingLaid
-mod HoldingOnce
-mod HoldingParts
+pub mod HoldingOnce
+pub mod HoldingParts
 mod HoldingRows
 mod HoldingStacks
 mod HoldingTrees
 pub mod LaidSums
 mod Laying
 pub mod Needs
+pub mod OneRange
 pub mod PlacedSums
-mod Places
-mod OneRange
-mod AllRanges
-mod TallAndArea
+pub mod Places
 pub mod RowHeightBounds
-mod RowsAdvance
-mod RowsStay
+pub mod RowsAdvance
+pub mod RowsStay
 pub mod Small
-mod SoundRows
+pub mod SoundRows
 mod StackSums
-mod StopStays
-mod Totals
+pub mod StopStays
+pub mod TallAndArea
+pub mod Totals
 mod TreeBounds
