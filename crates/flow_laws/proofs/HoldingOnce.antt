@@ -31,7 +31,7 @@ sum-two g (x ∷ xs) zero (suc j) d lt known = omega (arith, sum_by-cons g x xs,
 sum-two g (x ∷ xs) (suc i) (suc j) d lt known = omega (arith, sum_by-cons g x xs, sum-two g xs i j d (omega arith) (omega arith))
 
 -- where a sum is 1 at most, it has one place
-one-place : {X : Type 0} (g : X → ℕ) (xs : List X) (i j : ℕ) (d : X) → sum_by g xs ≤ 1 → i < length xs → j < length xs → 1 ≤ g (get_or xs i d) → 1 ≤ g (get_or xs j d) → i ≡ j
+pub one-place : {X : Type 0} (g : X → ℕ) (xs : List X) (i j : ℕ) (d : X) → sum_by g xs ≤ 1 → i < length xs → j < length xs → 1 ≤ g (get_or xs i d) → 1 ≤ g (get_or xs j d) → i ≡ j
 one-place g xs i j d few in_i in_j at_i at_j = go (cases_lt i j) (cases_lt j i)
   where
     go : (i < j) ⊎ (j ≤ i) → (j < i) ⊎ (i ≤ j) → i ≡ j
@@ -39,7 +39,7 @@ one-place g xs i j d few in_i in_j at_i at_j = go (cases_lt i j) (cases_lt j i)
     go (inr ge) (inl lt) = absurd (let two = sum-two g xs j i d lt in_i in omega arith)
     go (inr ge) (inr le) = omega arith
 
-one-at : (m n : ℕ) → m ≡ n → 1 ≤ cond (m == n) 1 0
+pub one-at : (m n : ℕ) → m ≡ n → 1 ≤ cond (m == n) 1 0
 one-at m n e = let yes : (m == n) ≡ true = grind (arith, nat_tests) in let P : Bool → Type 0 = λ b. 1 ≤ cond b 1 0 in subst P (sym yes) (omega arith)
 
 -- these atoms differ from each other

@@ -1,4 +1,5 @@
 pub mod Advance
+pub mod AllRanges
 pub mod BoundsAbove
 pub mod DepthSame
 pub mod Descent
@@ -18,11 +19,9 @@ pub mod HoldingTrees
 pub mod LaidSums
 pub mod Laying
 pub mod Needs
+pub mod OneRange
 pub mod PlacedSums
 pub mod Places
-pub mod OneRange
-pub mod AllRanges
-pub mod TallAndArea
 pub mod RowHeightBounds
 pub mod RowsAdvance
 pub mod RowsStay
@@ -30,5 +29,6 @@ pub mod Small
 pub mod SoundRows
 pub mod StackSums
 pub mod StopStays
+pub mod TallAndArea
 pub mod Totals
 pub mod TreeBounds

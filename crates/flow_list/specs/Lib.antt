@@ -1,4 +1,5 @@
 pub mod Atoms
+pub mod Book
 pub mod Building
 pub mod Certificate
 pub mod ClonedEdges
