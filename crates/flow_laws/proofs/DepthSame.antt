@@ -156,12 +156,14 @@ unfolding fits
 fits-same x y d r q h alike =
     ap (λ cs. is_end (flow_in d r) (end_of q cs) && not (list_any fails cs)) (columns-same x y d (flow_in d r) alike (most_columns (row_of d r).n (flow_in d r) q) q h)
 
-pub size-same : (x y : Inner) (d : FlowsData) (r : ℕ) (q : Token) → ItemsAlike x y (flow_in d r).items → size_in x d r q ≡ size_in y d r q
+pub size-same : (x y : Inner) (d : FlowsData) (r : ℕ) (q : Token) → ItemsAlike x y (flow_in d r).items →
+    size_in x d r q ≡ size_in y d r q
 unfolding size_in
 size-same x y d r q alike =
     ap (λ n. least (fits x d r q) n 0) (reach-same x y d (flow_in d r) alike q) ∙ least-same (fits x d r q) (fits y d r q) (λ h. fits-same x y d r q h alike) (reach y d (flow_in d r) q) 0
 
-pub fill_in-same : (x y : Inner) (d : FlowsData) (r : ℕ) (q : Token) (h : ℕ) → ItemsAlike x y (flow_in d r).items → fill_in x d r q h ≡ fill_in y d r q h
+pub fill_in-same : (x y : Inner) (d : FlowsData) (r : ℕ) (q : Token) (h : ℕ) → ItemsAlike x y (flow_in d r).items →
+    fill_in x d r q h ≡ fill_in y d r q h
 unfolding fill_in
 fill_in-same x y d r q h alike = ap (filled_by (flow_in d r) q) (columns-same x y d (flow_in d r) alike (row_of d r).n q h)
 

@@ -102,7 +102,8 @@ pub record IsStepFrom (inner : Inner) (f : Flow) (k : ℕ) (s : Step) : Type 0 w
   pub row : s.row ≡ row_from (item_of f s.item) from
   pub height : s.height ≡ height_of inner (item_of f s.item) from
 
-pub steps-from : (inner : Inner) (d : FlowsData) (f : Flow) (low : ℕ) (s : Strip) (k : ℕ) (q : Token) (n : ℕ) → low ≤ k → Each (IsStepFrom inner f low) (steps inner d f s k q n)
+pub steps-from : (inner : Inner) (d : FlowsData) (f : Flow) (low : ℕ) (s : Strip) (k : ℕ) (q : Token) (n : ℕ) → low ≤ k →
+    Each (IsStepFrom inner f low) (steps inner d f s k q n)
 unfolding steps
 steps-from inner d f low s k q zero le = tt
 steps-from inner d f low s k q (suc n) le =

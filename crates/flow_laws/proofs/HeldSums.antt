@@ -148,7 +148,8 @@ items-total inner total q (Row r ∷ items) all =
     let rest = items-total inner total row_start items (λ k e lt. all (suc k) e (omega arith)) in
     omega (arith, sum_by-cons total r (flat_map row_in items))
 
-pub items-part : (inner : Inner) (total : ℕ → ℕ) (q : Token) (n : ℕ) (items : List Item) → All (λ s. (p : Token) → inner.left s p ≤ total s) (flat_map row_in items) →
+pub items-part : (inner : Inner) (total : ℕ → ℕ) (q : Token) (n : ℕ) (items : List Item) →
+    All (λ s. (p : Token) → inner.left s p ≤ total s) (flat_map row_in items) →
     items_left inner q (drop n items) ≤ length items + sum_by total (flat_map row_in items)
 items-part inner total q zero items all = items-total inner total q items all
 items-part inner total q (suc n) [] all = omega arith

@@ -33,10 +33,14 @@ module _ (d : FlowsData) (x : Inner) (c : Contents) (columns : RowLaid → List 
   -- A row within holds its atoms: whole, all from a place on; filled, those before the place that it leaves. That place is a later one.
   pub record RowHolds (s : ℕ) : Type 0 where
     pub whole : (q : Token) (a : ℕ) → IsReached d (flow_in d s) q → piece_of s q a false ≡ c.atoms s q
-    pub part : (q : Token) (a : ℕ) → IsReached d (flow_in d s) q → piece_of s q a true ++ c.atoms s (x.fill s q a).end ≡ c.atoms s q
-    pub none : (q : Token) (a : ℕ) → IsReached d (flow_in d s) q → (x.fill s q a).at_end ≡ true → c.atoms s (x.fill s q a).end ≡ []
-    pub place : (q : Token) (a : ℕ) → IsReached d (flow_in d s) q → (x.fill s q a).at_end ≡ false → IsPlaceBefore d (flow_in d s) (x.fill s q a).end
-    pub fewer : (q : Token) (a : ℕ) → IsReached d (flow_in d s) q → (x.fill s q a).at_end ≡ false → x.left s (x.fill s q a).end < x.left s q
+    pub part : (q : Token) (a : ℕ) → IsReached d (flow_in d s) q →
+        piece_of s q a true ++ c.atoms s (x.fill s q a).end ≡ c.atoms s q
+    pub none : (q : Token) (a : ℕ) → IsReached d (flow_in d s) q → (x.fill s q a).at_end ≡ true →
+        c.atoms s (x.fill s q a).end ≡ []
+    pub place : (q : Token) (a : ℕ) → IsReached d (flow_in d s) q → (x.fill s q a).at_end ≡ false →
+        IsPlaceBefore d (flow_in d s) (x.fill s q a).end
+    pub fewer : (q : Token) (a : ℕ) → IsReached d (flow_in d s) q → (x.fill s q a).at_end ≡ false →
+        x.left s (x.fill s q a).end < x.left s q
 
   abbrev pub ItemHolds : Item → Type 0
   ItemHolds (Atom height kind) = Unit {0}

@@ -266,7 +266,8 @@ module _ (d : FlowsData) (sound : IsSound d) where
 
     fine-drop : (i : ℕ) → Fine (drop i (flow_in d s).items)
     fine-drop i = record {
-      few = λ u known. let a = split-count u i (flow_in d s).items in let b = once-in-flow d sound (row_of d s).flow (sound.rows s no_row lt).flow u known in omega arith;
+      few = λ u known. let a = split-count u i (flow_in d s).items in let b =
+          once-in-flow d sound (row_of d s).flow (sound.rows s no_row lt).flow u known in omega arith;
       child = λ u some. let a = split-count u i (flow_in d s).items in omega arith;
     }
 

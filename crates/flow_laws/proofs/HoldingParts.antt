@@ -154,19 +154,24 @@ split-count m n items =
     ∙ ap (count_of m) (sym (flat_map-append row_in (take n items) (drop n items))) ∙ ap (λ xs. count_of m (flat_map row_in xs)) (take-append-drop n items)
 
 -- in sound data a row stands once at most in a flow
-pub once-in-flow : (d : FlowsData) → IsSound d → (f : ℕ) → f < length d.flows → (m : ℕ) → m < length d.rows → count_of m (rows_in (flow_of d f)) ≤ 1
+pub once-in-flow : (d : FlowsData) → IsSound d → (f : ℕ) → f < length d.flows → (m : ℕ) → m < length d.rows →
+    count_of m (rows_in (flow_of d f)) ≤ 1
 once-in-flow d sound f lt m known =
     let belongs = sound.row_belongs m known in
-    let in_all : count_of m (rows_in (flow_of d f)) ≤ sum_by (λ f. count_of m (rows_in f)) d.flows = get_or-le-sum_by (λ f. count_of m (rows_in f)) d.flows f no_flow lt in
+    let in_all : count_of m (rows_in (flow_of d f)) ≤ sum_by (λ f. count_of m (rows_in f)) d.flows =
+    get_or-le-sum_by (λ f. count_of m (rows_in f)) d.flows f no_flow lt in
     let all = sum-flat (λ k. cond (k == m) 1 0) rows_in d.flows in
     omega arith
 
 -- In sound data no row is twice among items of a flow.
-pub rows-apart : (d : FlowsData) → IsSound d → (f : ℕ) → f < length d.flows → (k i n : ℕ) (q : Token) → AllPairs (λ a b. a ≢ b) (flat_map row_of_part (parts_of k q (take n (drop i (flow_of d f).items))))
+pub rows-apart : (d : FlowsData) → IsSound d → (f : ℕ) → f < length d.flows → (k i n : ℕ) (q : Token) →
+    AllPairs (λ a b. a ≢ b) (flat_map row_of_part (parts_of k q (take n (drop i (flow_of d f).items))))
 rows-apart d sound f lt k i n q =
     subst (AllPairs (λ a b. a ≢ b)) (sym (rows-are k q (take n (drop i (flow_of d f).items))))
     (distinct-once (length d.rows) (flat_map row_in (take n (drop i (flow_of d f).items)))
-    (rows-in-range d (take n (drop i (flow_of d f).items)) (All-take (IsSoundItem d) n (drop i (flow_of d f).items) (All-drop (IsSoundItem d) i (flow_of d f).items flow.items))) once)
+    (rows-in-range d (take n (drop i (flow_of d f).items))
+    (All-take (IsSoundItem d) n (drop i (flow_of d f).items)
+    (All-drop (IsSoundItem d) i (flow_of d f).items flow.items))) once)
   where
     flow : IsSoundFlow d (flow_of d f)
     flow = sound.flows f no_flow lt

@@ -61,14 +61,16 @@ module _ (d : FlowsData) where
   size-total zero r q = omega arith
   size-total (suc m) r q =
       let a = size-reach (rows_to d m) d r q in
-      let b = reach-total (rows_to d m) d (flow_in d r) (row_total d (height_in d) m) q (λ k e lt p. size-total m (get_or (rows_in (flow_in d r)) k e) p) in
+      let b = reach-total (rows_to d m) d (flow_in d r) (row_total d (height_in d) m) q
+      (λ k e lt p. size-total m (get_or (rows_in (flow_in d r)) k e) p) in
       let c = total-more d (height_in d) m (row_of d r).flow in
       omega arith
 
   -- and what a column of a flow may reach no more than all that stands in the flow
   pub all-total : (m f : ℕ) (t : Token) → reach (rows_to d m) d (flow_of d f) t ≤ total_within d (height_in d) (suc m) f
   all-total m f t =
-      let b = reach-total (rows_to d m) d (flow_of d f) (row_total d (height_in d) m) t (λ k e lt p. size-total m (get_or (rows_in (flow_of d f)) k e) p) in
+      let b = reach-total (rows_to d m) d (flow_of d f) (row_total d (height_in d) m) t
+      (λ k e lt p. size-total m (get_or (rows_in (flow_of d f)) k e) p) in
       let c = total-more d (height_in d) m f in
       omega arith
 
@@ -78,7 +80,8 @@ module _ (d : FlowsData) (sound : IsSound d) (r : ℕ) (lt : r < length d.rows) 
   reach-small t =
       let nests = nests-by-number d sound (length d.rows - r) r lt (omega arith) in
       let reached = all-total d (length d.rows) (row_of d r).flow t in
-      let same = total-same d sound (height_in d) (length d.rows - r) r (suc (length d.rows)) (length d.rows) nests (omega arith) (omega arith) in
+      let same = total-same d sound (height_in d) (length d.rows - r) r (suc (length d.rows)) (length d.rows) nests (omega arith)
+      (omega arith) in
       let whole = total-le d sound r lt in
       let small = sound.heights in
       omega arith
@@ -101,7 +104,9 @@ module _ (inner : Inner) (d : FlowsData) (f : Flow) (top : ℕ) where
   AllWithinTop [] = Unit {0}
   AllWithinTop (s ∷ ss) = IsWithinTop s × AllWithinTop ss
 
-  pub steps-within : (s : Strip) (k : ℕ) (q : Token) (n : ℕ) → k + n ≤ length f.items → s.y + s.pending + heights_from inner q (drop k f.items) + amounts_in (drop (k + 1) f.seams) + bottoms d (boxes_in f) ≤ top → AllWithinTop (steps inner d f s k q n)
+  pub steps-within : (s : Strip) (k : ℕ) (q : Token) (n : ℕ) → k + n ≤ length f.items →
+      s.y + s.pending + heights_from inner q (drop k f.items) + amounts_in (drop (k + 1) f.seams) + bottoms d (boxes_in f)
+      ≤ top → AllWithinTop (steps inner d f s k q n)
   unfolding steps AllWithinTop
   steps-within s k q zero le b = tt
   steps-within s k q (suc n) le b =
@@ -129,7 +134,8 @@ module _ (inner : Inner) (d : FlowsData) (f : Flow) (top : ℕ) where
       go true r = tt
       go false r = r
 
-  pub within-reach : (t : Token) → item_number t < length f.items → reach inner d f t ≤ top → AllWithinTop (steps_from inner d f t)
+  pub within-reach : (t : Token) → item_number t < length f.items → reach inner d f t ≤ top →
+      AllWithinTop (steps_from inner d f t)
   within-reach t lt b =
       let a = strip-start d f t in
       let e = first-amounts f.seams (item_number t) in
@@ -249,10 +255,14 @@ module _ (inner : Inner) (d : FlowsData) (f : Flow) (top : ℕ) where
 
   -- where a row is cut, and the tail of the seam behind it
   pub cuts-small : (ss : List Step) → top < 2 ^ 60 → AllWithinTop ss →
-      Each (λ (s : Step). (a : ℕ) → a ≤ s.height → (s.y + a + s.bottoms < 2 ^ 60) × (tail_from (s.y + a) s.tail + s.bottoms_after < 2 ^ 60)) ss
+      Each (λ (s : Step). (a : ℕ) → a ≤ s.height → (s.y + a + s.bottoms < 2 ^ 60)
+      × (tail_from (s.y + a) s.tail + s.bottoms_after < 2 ^ 60)) ss
   unfolding AllWithinTop
   cuts-small [] small all = tt
-  cuts-small (s ∷ ss) small all = (λ a le. ((let c = all.0.cut in omega arith), (let b = all.0.behind a le in omega arith)), cuts-small ss small all.1)
+  cuts-small (s ∷ ss) small all = (
+    λ a le. ((let c = all.0.cut in omega arith), (let b = all.0.behind a le in omega arith)),
+    cuts-small ss small all.1,
+  )
 
 -- at a height or without end
 pub extent-le : (d : FlowsData) (f : Flow) (top : ℕ) (h : Option ℕ) (t : Token) → item_number t < length f.items → reach (all_rows d) d f t ≤ top → (column_within d f h t).extent ≤ top
@@ -261,7 +271,8 @@ extent-le d f top (Some h) t lt le = column-reach (all_rows d) d f top t h lt le
 
 -- ---- the law
 
-pub needs-rise : (inner : Inner) (d : FlowsData) (f : Flow) (sound : IsSoundFlow d f) (k base prev : ℕ) (ss : List Step) → AreGoodSteps inner d f sound k base prev ss → NeedsRise prev ss
+pub needs-rise : (inner : Inner) (d : FlowsData) (f : Flow) (sound : IsSoundFlow d f) (k base prev : ℕ) (ss : List Step) →
+    AreGoodSteps inner d f sound k base prev ss → NeedsRise prev ss
 needs-rise inner d f sound k base prev [] good = tt
 needs-rise inner d f sound k base prev (s ∷ ss) good = (good.0.rises, needs-rise inner d f sound (k + 1) (base + atom_height (item_of f k)) s.need ss good.1)
 

@@ -22,7 +22,8 @@ rows-in-range d (Row r ∷ items) all = both (all 0 (Row r) (omega arith)) (rows
     both first rest (suc k) e lt = rest k e (omega arith)
 
 -- so are those in any flow
-pub rows-of-data : (d : FlowsData) → IsSound d → (f : ℕ) → f < length d.flows → All (λ r. r < length d.rows) (rows_in (flow_of d f))
+pub rows-of-data : (d : FlowsData) → IsSound d → (f : ℕ) → f < length d.flows →
+    All (λ r. r < length d.rows) (rows_in (flow_of d f))
 rows-of-data d sound f lt = rows-in-range d (flow_of d f).items (sound.flows f no_flow lt).items
 
 pub good-rows : (d : FlowsData) → IsSound d → (r : ℕ) → r < length d.rows → All (IsGoodRow d) (rows_in (flow_in d r))

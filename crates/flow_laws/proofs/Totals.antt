@@ -254,18 +254,28 @@ module _ (d : FlowsData) (sound : IsSound d) where
     total-same (suc n) r (suc a) zero nests le ge = absurd (omega arith)
     total-same (suc n) r (suc a) (suc b) nests le ge =
         ap (λ m. weight (row_of d r).flow + m)
-        (sum-same (row_total d weight a) (row_total d weight b) (rows_in (flow_in d r)) (λ k e lt. total-same n (get_or (rows_in (flow_in d r)) k e) a b (nests k e lt) (omega arith) (omega arith)))
+        (sum-same (row_total d weight a) (row_total d weight b) (rows_in (flow_in d r))
+        (λ k e lt. total-same n (get_or (rows_in (flow_in d r)) k e) a b (nests k e lt) (omega arith) (omega arith)))
 
-    total-row : (r : ℕ) → r < length d.rows → row_total d weight (length d.rows) r ≡ weight (row_of d r).flow + sum_by (row_total d weight (length d.rows)) (rows_in (flow_in d r))
+    total-row : (r : ℕ) → r < length d.rows → row_total d weight (length d.rows) r
+        ≡ weight (row_of d r).flow + sum_by (row_total d weight (length d.rows)) (rows_in (flow_in d r))
     total-row r lt =
         let fuel : suc (length d.rows - 1) ≡ length d.rows = omega arith in
         let good = good-rows d sound r lt in
-        let P : ℕ → Type 0 = λ n. row_total d weight n r ≡ weight (row_of d r).flow + sum_by (row_total d weight (length d.rows - 1)) (rows_in (flow_in d r)) in
-        let one : row_total d weight (length d.rows) r ≡ weight (row_of d r).flow + sum_by (row_total d weight (length d.rows - 1)) (rows_in (flow_in d r)) = subst P fuel (total-more d weight (length d.rows - 1) (row_of d r).flow) in
-        one ∙ ap (λ m. weight (row_of d r).flow + m) (sum-same (row_total d weight (length d.rows - 1)) (row_total d weight (length d.rows)) (rows_in (flow_in d r))
-        (λ k e l. let g = (good k e l).0 in let later = (sound.inner_rows r lt k e l).later in total-same (length d.rows - get_or (rows_in (flow_in d r)) k e) (get_or (rows_in (flow_in d r)) k e) (length d.rows - 1) (length d.rows) (nests-by-number d sound (length d.rows - get_or (rows_in (flow_in d r)) k e) (get_or (rows_in (flow_in d r)) k e) g (omega arith)) (omega arith) (omega arith)))
+        let P : ℕ → Type 0 = λ n. row_total d weight n r
+        ≡ weight (row_of d r).flow + sum_by (row_total d weight (length d.rows - 1)) (rows_in (flow_in d r)) in
+        let one : row_total d weight (length d.rows) r
+        ≡ weight (row_of d r).flow + sum_by (row_total d weight (length d.rows - 1)) (rows_in (flow_in d r)) =
+        subst P fuel (total-more d weight (length d.rows - 1) (row_of d r).flow) in
+        one ∙ ap (λ m. weight (row_of d r).flow + m)
+        (sum-same (row_total d weight (length d.rows - 1)) (row_total d weight (length d.rows)) (rows_in (flow_in d r))
+        (λ k e l. let g = (good k e l).0 in let later = (sound.inner_rows r lt k e l).later in
+        total-same (length d.rows - get_or (rows_in (flow_in d r)) k e) (get_or (rows_in (flow_in d r)) k e)
+        (length d.rows - 1) (length d.rows) (nests-by-number d sound (length d.rows - get_or (rows_in (flow_in d r)) k e)
+        (get_or (rows_in (flow_in d r)) k e) g (omega arith)) (omega arith) (omega arith)))
 
-    totals-split : (k m : ℕ) → k + m ≤ length d.rows → up (row_total d weight (length d.rows)) k m ≡ up (λ i. weight (row_of d i).flow) k m + sum_by (row_total d weight (length d.rows)) (children k m)
+    totals-split : (k m : ℕ) → k + m ≤ length d.rows → up (row_total d weight (length d.rows)) k m
+        ≡ up (λ i. weight (row_of d i).flow) k m + sum_by (row_total d weight (length d.rows)) (children k m)
     unfolding up children count_up
     totals-split k zero le = refl
     totals-split k (suc m) le =
@@ -275,7 +285,8 @@ module _ (d : FlowsData) (sound : IsSound d) where
           total-row k (omega arith),
           sum_by-cons (row_total d weight (length d.rows)) k (count_up (suc k) m),
           sum_by-cons (λ i. weight (row_of d i).flow) k (count_up (suc k) m),
-          sum_by-append (row_total d weight (length d.rows)) (rows_in (flow_in d k)) (flat_map (λ i. rows_in (flow_in d i)) (count_up (suc k) m)),
+          sum_by-append (row_total d weight (length d.rows)) (rows_in (flow_in d k))
+              (flat_map (λ i. rows_in (flow_in d i)) (count_up (suc k) m)),
         )
 
     -- what stands in a row weighs no more than all flows together
@@ -286,8 +297,11 @@ module _ (d : FlowsData) (sound : IsSound d) where
         let split = totals-split r (suc (length d.rows - r - 1)) (omega arith) in
         let first = up-more (row_total d weight (length d.rows)) r (length d.rows - r - 1) in
         let range : suc r + (length d.rows - r - 1) ≡ length d.rows = omega arith in
-        let inside : AllIn (suc r) (suc r + (length d.rows - r - 1)) (children r (suc (length d.rows - r - 1))) = rw range (children-in r r (suc (length d.rows - r - 1)) (omega arith) (omega arith)) in
-        let below = within-up (row_total d weight (length d.rows)) (suc r) (length d.rows - r - 1) (children r (suc (length d.rows - r - 1))) inside (λ n l. children-once r (suc (length d.rows - r - 1)) n whole (omega arith)) in
+        let inside : AllIn (suc r) (suc r + (length d.rows - r - 1)) (children r (suc (length d.rows - r - 1))) =
+        rw range (children-in r r (suc (length d.rows - r - 1)) (omega arith) (omega arith)) in
+        let below = within-up (row_total d weight (length d.rows)) (suc r) (length d.rows - r - 1)
+        (children r (suc (length d.rows - r - 1))) inside
+        (λ n l. children-once r (suc (length d.rows - r - 1)) n whole (omega arith)) in
         let by_flows = rows-by-flows weight r (suc (length d.rows - r - 1)) whole in
         omega arith
 
@@ -295,5 +309,6 @@ module _ (d : FlowsData) (sound : IsSound d) where
   pub total-le : (r : ℕ) → r < length d.rows → row_total d (height_in d) (length d.rows) r ≤ sum_by (flow_height d) d.flows
   total-le r lt =
       let whole = total-up (height_in d) r lt in
-      let listed = up-list (height_in d) (flow_height d) no_flow 0 d.flows (λ i l. let z : 0 + i ≡ i = omega arith in rw z refl) in
+      let listed = up-list (height_in d) (flow_height d) no_flow 0 d.flows
+      (λ i l. let z : 0 + i ≡ i = omega arith in rw z refl) in
       omega arith
