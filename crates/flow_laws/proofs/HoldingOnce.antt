@@ -20,7 +20,7 @@ use Rattle.flow_list.proofs.PlaceBounds.{Each-append}
 use Rattle.flow_laws.specs.Progress.{AtomAt, atoms_of_items, contents_to, atoms_from}
 use Rattle.flow_laws.proofs.Totals.{sum-flat, sum-map, count-cons}
 use Rattle.flow_laws.proofs.HoldingRows.{IsWithin, rows-within}
-use Rattle.flow_laws.proofs.HoldingParts.{count-own, split-count, once-in-row}
+use Rattle.flow_laws.proofs.HoldingParts.{count-own, split-count, once-in-flow}
 
 -- ---- lists
 
@@ -266,7 +266,7 @@ module _ (d : FlowsData) (sound : IsSound d) where
 
     fine-drop : (i : ℕ) → Fine (drop i (flow_in d s).items)
     fine-drop i = record {
-      few = λ u known. let a = split-count u i (flow_in d s).items in let b = once-in-row d sound s lt u known in omega arith;
+      few = λ u known. let a = split-count u i (flow_in d s).items in let b = once-in-flow d sound (row_of d s).flow (sound.rows s no_row lt).flow u known in omega arith;
       child = λ u some. let a = split-count u i (flow_in d s).items in omega arith;
     }
 

@@ -1,23 +1,23 @@
-mod Advance
+pub mod Advance
 pub mod AllRanges
 pub mod BoundsAbove
 pub mod DepthSame
-mod Descent
+pub mod Descent
 pub mod Exists
-mod FillEnds
-mod Held
+pub mod FillEnds
+pub mod Held
 pub mod HeldSums
-mod Holding
-mod HoldingColumns
-mod HoldingEnds
-mod HoldingLaid
+pub mod Holding
+pub mod HoldingColumns
+pub mod HoldingEnds
+pub mod HoldingLaid
 pub mod HoldingOnce
 pub mod HoldingParts
-mod HoldingRows
-mod HoldingStacks
-mod HoldingTrees
+pub mod HoldingRows
+pub mod HoldingStacks
+pub mod HoldingTrees
 pub mod LaidSums
-mod Laying
+pub mod Laying
 pub mod Needs
 pub mod OneRange
 pub mod PlacedSums
@@ -27,8 +27,8 @@ pub mod RowsAdvance
 pub mod RowsStay
 pub mod Small
 pub mod SoundRows
-mod StackSums
+pub mod StackSums
 pub mod StopStays
 pub mod TallAndArea
 pub mod Totals
-mod TreeBounds
+pub mod TreeBounds

@@ -6,6 +6,7 @@ pub mod ClonedEdges
 pub mod Column
 pub mod Counts
 pub mod FileFlows
+pub mod Folds
 pub mod Fragments
 pub mod Looks
 pub mod Placing
