@@ -13,7 +13,7 @@ use Rattle.flow_list.specs.Strip.{Strip, lay_all}
 use Rattle.flow_list.specs.Column.{Filled, Inner, Step, Place, Cut, cut, longer, steps, steps_from, start_strip, strip_behind, is_forced, row_from, fill_in_room, room, seams_before, seams_between, inside, inside_place, alone_place, whole_place, is_cut, best, choose, last_place, no_place, column, column_over, column_up_to, avoids_at, endless_column}
 use Rattle.flow_list.specs.Rows.{item_left, items_left, left_in}
 use Rattle.flow_laws.specs.Progress.{AtomAt, Contents, item_atoms, atoms_of_items, atoms_in, EndsWith}
-use Rattle.flow_laws.proofs.Places.{in-items, some-left}
+use Rattle.flow_laws.proofs.Places.{in-items, some-left, IsReached, start-reached}
 
 -- ---- what is left of a list of items
 
@@ -62,8 +62,7 @@ module _ (d : FlowsData) (x : Inner) (c : Contents) where
     pub rest : filled.at_end ≡ false → EndsWith (c.atoms s filled.end) (c.atoms s q)
 
   pub record RowMoves (s : ℕ) : Type 0 where
-    pub some : 0 < length (flow_in d s).items
-    pub fills : (q : Token) (a : ℕ) → IsPlaceBefore d (flow_in d s) q → FillMoves s q (x.fill s q a)
+    pub fills : (q : Token) (a : ℕ) → IsReached d (flow_in d s) q → FillMoves s q (x.fill s q a)
 
   abbrev pub ItemMoves : Item → Type 0
   ItemMoves (Atom height kind) = Unit {0}
@@ -133,7 +132,7 @@ module _ (d : FlowsData) (x : Inner) (c : Contents) where
     -- the row of item k, taken from a place in it, where that is reached
     abbrev RowReached : ℕ → Option (ℕ × Token) → Type 0
     RowReached k None = Unit {0}
-    RowReached k (Some row) = (item_of f k ≡ Row row.0) × IsPlaceBefore d (flow_in d row.0) row.1 × Reached k row.1 × RowMoves row.0
+    RowReached k (Some row) = (item_of f k ≡ Row row.0) × IsReached d (flow_in d row.0) row.1 × Reached k row.1 × RowMoves row.0
 
     abbrev StepsReached : ℕ → List Step → Type 0
     StepsReached k [] = Unit {0}
@@ -247,16 +246,16 @@ module _ (d : FlowsData) (x : Inner) (c : Contents) where
 
     -- ---- the items of the column
 
-    -- the place from which item k is taken is one in it, where it is a row
+    -- the place from which item k is taken is one in it, where it is a row, or its end
     abbrev IsPlaceIn : ℕ → Token → Type 0
-    IsPlaceIn k q = (s : ℕ) → item_of f k ≡ Row s → IsPlaceBefore d (flow_in d s) q
+    IsPlaceIn k q = (s : ℕ) → item_of f k ≡ Row s → IsReached d (flow_in d s) q
 
     row-reached : (k : ℕ) (q : Token) (item : Item) → item_of f k ≡ item → ItemMoves item → Reached k q → IsPlaceIn k q → RowReached k (row_from item q)
     row-reached k q (Atom height kind) is m reached place = tt
     row-reached k q (Row s) is m reached place = (is, place s is, reached, m)
 
     starts-place : (k : ℕ) → IsPlaceIn k row_start
-    starts-place k s is = let m : ItemMoves (Row s) = rw is at (item-moves f.items k moves) in m.some
+    starts-place k s is = start-reached d (flow_in d s)
 
     steps-reached : (s : Strip) (k : ℕ) (q : Token) (n : ℕ) → item_number t ≤ k → k + n ≡ length f.items → Reached k q → IsPlaceIn k q → StepsReached k (steps x d f s k q n)
     unfolding steps
@@ -282,7 +281,7 @@ module _ (d : FlowsData) (x : Inner) (c : Contents) where
         let same : Row h.1 ≡ Row s = sym h.2 ∙ is in
         let rows : h.1 ≡ s = cc in
         let P : ℕ → Type 0 = λ n. IsPlaceBefore d (flow_in d n) (j ∷ rest) in
-        subst P rows h.3
+        inr (subst P rows h.3)
 
     some-steps : (s : Strip) (k : ℕ) (q : Token) (n : ℕ) → 0 < n → (first : Step) × (more : List Step) × (steps x d f s k q n ≡ first ∷ more)
     unfolding steps

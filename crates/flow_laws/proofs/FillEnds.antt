@@ -102,7 +102,7 @@ pub record IsStepFrom (inner : Inner) (f : Flow) (k : ℕ) (s : Step) : Type 0 w
   pub row : s.row ≡ row_from (item_of f s.item) from
   pub height : s.height ≡ height_of inner (item_of f s.item) from
 
-steps-from : (inner : Inner) (d : FlowsData) (f : Flow) (low : ℕ) (s : Strip) (k : ℕ) (q : Token) (n : ℕ) → low ≤ k → Each (IsStepFrom inner f low) (steps inner d f s k q n)
+pub steps-from : (inner : Inner) (d : FlowsData) (f : Flow) (low : ℕ) (s : Strip) (k : ℕ) (q : Token) (n : ℕ) → low ≤ k → Each (IsStepFrom inner f low) (steps inner d f s k q n)
 unfolding steps
 steps-from inner d f low s k q zero le = tt
 steps-from inner d f low s k q (suc n) le =
@@ -120,7 +120,7 @@ abbrev pub OfStop : (Step → Type 0) → Option Step → Type 0
 OfStop P None = Unit {0}
 OfStop P (Some s) = P s
 
-cut-of-steps : (P : Step → Type 0) (h : ℕ) (ss : List Step) → Each P ss → OfStop P (cut h ss).stop
+pub cut-of-steps : (P : Step → Type 0) (h : ℕ) (ss : List Step) → Each P ss → OfStop P (cut h ss).stop
 cut-of-steps P h [] all = tt
 cut-of-steps P h (s ∷ ss) all = go (nat_lt h s.need) (cut-of-steps P h ss all.1)
   where

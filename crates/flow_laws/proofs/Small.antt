@@ -1,7 +1,7 @@
 -- Sizes, needs and extents are no more than all that stands in a row.
 use Rattle.std.proofs.Common.{◌≡◌, ℕ, zero, suc, ◌+◌, ◌-◌, ◌<◌, ◌≤◌, ◌^◌, Bool, true, false, cond, not, ◌&&◌, List, [], ◌∷◌, ◌++◌, length, drop, get_or, Option, Some, None, refl, arith, sum_by}
 use Rattle.std.specs.Prelude.{All, nat_lt, nat_le}
-use Rattle.std.specs.List.{flat_map}
+use Rattle.std.specs.List.{flat_map, AllByRecursion as Each}
 use Rattle.std.proofs.lemmas.Bool.Decides.{nat_tests}
 use Rattle.std.proofs.lemmas.List.Sums.{sum_by-cons}
 use Rattle.flow_data.specs.declared.data.Flow.{Flow}
@@ -24,7 +24,7 @@ use Rattle.flow_laws.proofs.Needs.{AreGoodSteps, column-steps}
 use Rattle.flow_laws.proofs.Places.{in-items}
 use Rattle.flow_laws.proofs.StopStays.{cut-room}
 use Rattle.flow_laws.proofs.SoundRows.{nests-by-number}
-use Rattle.flow_laws.proofs.Totals.{sum-both, total_within, row_total, total-more, total-same, total-le}
+use Rattle.flow_laws.proofs.Totals.{sum-both, total_within, row_total, height_in, total-more, total-same, total-le}
 
 -- ---- the reach is no more than the total
 
@@ -56,20 +56,20 @@ reach-total inner d f total q all =
 
 module _ (d : FlowsData) where
   -- the size of a row is no more than all that stands in it
-  size-total : (m r : ℕ) (q : Token) → (rows_to d m).size r q ≤ row_total d m r
+  pub size-total : (m r : ℕ) (q : Token) → (rows_to d m).size r q ≤ row_total d (height_in d) m r
   unfolding rows_to
   size-total zero r q = omega arith
   size-total (suc m) r q =
       let a = size-reach (rows_to d m) d r q in
-      let b = reach-total (rows_to d m) d (flow_in d r) (row_total d m) q (λ k e lt p. size-total m (get_or (rows_in (flow_in d r)) k e) p) in
-      let c = total-more d m (row_of d r).flow in
+      let b = reach-total (rows_to d m) d (flow_in d r) (row_total d (height_in d) m) q (λ k e lt p. size-total m (get_or (rows_in (flow_in d r)) k e) p) in
+      let c = total-more d (height_in d) m (row_of d r).flow in
       omega arith
 
   -- and what a column of a flow may reach no more than all that stands in the flow
-  pub all-total : (m f : ℕ) (t : Token) → reach (rows_to d m) d (flow_of d f) t ≤ total_within d (suc m) f
+  pub all-total : (m f : ℕ) (t : Token) → reach (rows_to d m) d (flow_of d f) t ≤ total_within d (height_in d) (suc m) f
   all-total m f t =
-      let b = reach-total (rows_to d m) d (flow_of d f) (row_total d m) t (λ k e lt p. size-total m (get_or (rows_in (flow_of d f)) k e) p) in
-      let c = total-more d m f in
+      let b = reach-total (rows_to d m) d (flow_of d f) (row_total d (height_in d) m) t (λ k e lt p. size-total m (get_or (rows_in (flow_of d f)) k e) p) in
+      let c = total-more d (height_in d) m f in
       omega arith
 
 module _ (d : FlowsData) (sound : IsSound d) (r : ℕ) (lt : r < length d.rows) where
@@ -78,7 +78,7 @@ module _ (d : FlowsData) (sound : IsSound d) (r : ℕ) (lt : r < length d.rows) 
   reach-small t =
       let nests = nests-by-number d sound (length d.rows - r) r lt (omega arith) in
       let reached = all-total d (length d.rows) (row_of d r).flow t in
-      let same = total-same d sound (length d.rows - r) r (suc (length d.rows)) (length d.rows) nests (omega arith) (omega arith) in
+      let same = total-same d sound (height_in d) (length d.rows - r) r (suc (length d.rows)) (length d.rows) nests (omega arith) (omega arith) in
       let whole = total-le d sound r lt in
       let small = sound.heights in
       omega arith
@@ -91,17 +91,17 @@ module _ (d : FlowsData) (sound : IsSound d) (r : ℕ) (lt : r < length d.rows) 
 
 module _ (inner : Inner) (d : FlowsData) (f : Flow) (top : ℕ) where
   -- what is so of an item in a column that may reach top
-  record IsWithinTop (s : Step) : Type 0 where
-    need : s.need ≤ top
-    place : s.y + s.bottoms ≤ top
-    cut : s.y + s.height + s.bottoms ≤ top
-    behind : (a : ℕ) → a ≤ s.height → tail_from (s.y + a) s.tail + s.bottoms_after ≤ top
+  pub record IsWithinTop (s : Step) : Type 0 where
+    pub need : s.need ≤ top
+    pub place : s.y + s.bottoms ≤ top
+    pub cut : s.y + s.height + s.bottoms ≤ top
+    pub behind : (a : ℕ) → a ≤ s.height → tail_from (s.y + a) s.tail + s.bottoms_after ≤ top
 
-  AllWithinTop : List Step → Type 0
+  pub AllWithinTop : List Step → Type 0
   AllWithinTop [] = Unit {0}
   AllWithinTop (s ∷ ss) = IsWithinTop s × AllWithinTop ss
 
-  steps-within : (s : Strip) (k : ℕ) (q : Token) (n : ℕ) → k + n ≤ length f.items → s.y + s.pending + heights_from inner q (drop k f.items) + amounts_in (drop (k + 1) f.seams) + bottoms d (boxes_in f) ≤ top → AllWithinTop (steps inner d f s k q n)
+  pub steps-within : (s : Strip) (k : ℕ) (q : Token) (n : ℕ) → k + n ≤ length f.items → s.y + s.pending + heights_from inner q (drop k f.items) + amounts_in (drop (k + 1) f.seams) + bottoms d (boxes_in f) ≤ top → AllWithinTop (steps inner d f s k q n)
   unfolding steps AllWithinTop
   steps-within s k q zero le b = tt
   steps-within s k q (suc n) le b =
@@ -129,7 +129,7 @@ module _ (inner : Inner) (d : FlowsData) (f : Flow) (top : ℕ) where
       go true r = tt
       go false r = r
 
-  within-reach : (t : Token) → item_number t < length f.items → reach inner d f t ≤ top → AllWithinTop (steps_from inner d f t)
+  pub within-reach : (t : Token) → item_number t < length f.items → reach inner d f t ≤ top → AllWithinTop (steps_from inner d f t)
   within-reach t lt b =
       let a = strip-start d f t in
       let e = first-amounts f.seams (item_number t) in
@@ -242,10 +242,17 @@ module _ (inner : Inner) (d : FlowsData) (f : Flow) (top : ℕ) where
   unfolding endless_column
   endless-reach t lt le = last-reach no_place (steps_from inner d f t) (omega arith) (within-reach t lt le)
 
-  needs-small : (ss : List Step) → top < 2 ^ 60 → AllWithinTop ss → NeedsAreSmall ss
+  pub needs-small : (ss : List Step) → top < 2 ^ 60 → AllWithinTop ss → NeedsAreSmall ss
   unfolding AllWithinTop
   needs-small [] small all = tt
   needs-small (s ∷ ss) small all = let a = all.0.need in let b = all.0.place in (omega arith, omega arith, needs-small ss small all.1)
+
+  -- where a row is cut, and the tail of the seam behind it
+  pub cuts-small : (ss : List Step) → top < 2 ^ 60 → AllWithinTop ss →
+      Each (λ (s : Step). (a : ℕ) → a ≤ s.height → (s.y + a + s.bottoms < 2 ^ 60) × (tail_from (s.y + a) s.tail + s.bottoms_after < 2 ^ 60)) ss
+  unfolding AllWithinTop
+  cuts-small [] small all = tt
+  cuts-small (s ∷ ss) small all = (λ a le. ((let c = all.0.cut in omega arith), (let b = all.0.behind a le in omega arith)), cuts-small ss small all.1)
 
 -- at a height or without end
 pub extent-le : (d : FlowsData) (f : Flow) (top : ℕ) (h : Option ℕ) (t : Token) → item_number t < length f.items → reach (all_rows d) d f t ≤ top → (column_within d f h t).extent ≤ top
@@ -254,7 +261,7 @@ extent-le d f top (Some h) t lt le = column-reach (all_rows d) d f top t h lt le
 
 -- ---- the law
 
-needs-rise : (inner : Inner) (d : FlowsData) (f : Flow) (sound : IsSoundFlow d f) (k base prev : ℕ) (ss : List Step) → AreGoodSteps inner d f sound k base prev ss → NeedsRise prev ss
+pub needs-rise : (inner : Inner) (d : FlowsData) (f : Flow) (sound : IsSoundFlow d f) (k base prev : ℕ) (ss : List Step) → AreGoodSteps inner d f sound k base prev ss → NeedsRise prev ss
 needs-rise inner d f sound k base prev [] good = tt
 needs-rise inner d f sound k base prev (s ∷ ss) good = (good.0.rises, needs-rise inner d f sound (k + 1) (base + atom_height (item_of f k)) s.need ss good.1)
 

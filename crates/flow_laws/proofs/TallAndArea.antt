@@ -16,7 +16,7 @@ use Rattle.flow_list.specs.Atoms.{IsAtom}
 use Rattle.flow_data.specs.Flows.{row_of, flow_in, item_of, seam_of, no_item, no_flow, no_row, atom_height}
 use Rattle.flow_data.specs.Soundness.{IsSound, IsSoundFlow}
 use Rattle.flow_list.specs.Strip.{Strip, lay_all}
-use Rattle.flow_list.specs.Tokens.{Token, row_start, item_number, within, is_end, IsPlaceBefore}
+use Rattle.flow_list.specs.Tokens.{Token, row_start, item_number, within, is_end, IsPlace, IsPlaceBefore}
 use Rattle.flow_list.specs.Column.{Column, Inner, Step, Place, Cut, cut, longer, step_at, steps, strip_behind, is_forced, start_strip, steps_from, seams_before, seams_between, inside, inside_place, alone_place, whole_place, is_cut, room, best, choose, last_place, no_place, fill_in_room, column, column_over, column_up_to, avoids_at, loose_need}
 use Rattle.flow_list.specs.Rows.{columns, end_of, fits, fails, most_columns, all_rows}
 use Rattle.flow_laws.specs.TallAndArea.{TallAndAreaReject}
@@ -365,3 +365,13 @@ module _ (d : FlowsData) (sound : IsSound d) (r : ℕ) (lt : r < length d.rows) 
     tall_rejects = λ k h a b atom low. not-true (fits (all_rows d) d r q h) (λ e. let l = (fits-hold q h place e).loose k a b atom in absurd (omega arith));
     area_rejects = λ h many. not-true (fits (all_rows d) d r q h) (λ e. let l = (fits-hold q h place e).high in absurd (omega arith));
   }
+
+  -- at the end no atom is left
+  pub tall-and-area-anywhere : (q : Token) → IsPlace d (flow_in d r) q → TallAndAreaReject d r q
+  tall-and-area-anywhere q (inl end) =
+      let none = at-end (flow_in d r) q end in
+      record {
+        tall_rejects = λ k h a b atom low. let l = (hold-end 0 h q none).loose k a b atom in absurd (omega arith);
+        area_rejects = λ h many. let l = (hold-end 0 h q none).high in absurd (omega arith);
+      }
+  tall-and-area-anywhere q (inr before) = tall-and-area q before

@@ -1,10 +1,12 @@
 pub mod Atoms
+pub mod Book
 pub mod Building
 pub mod Certificate
 pub mod ClonedEdges
 pub mod Column
 pub mod Counts
 pub mod FileFlows
+pub mod Folds
 pub mod Fragments
 pub mod Looks
 pub mod Placing

@@ -9,7 +9,7 @@ use std::alloc::Global;
 use std::test::Fail;
 
 /// What can differ in a layout of two rows: the columns of the outer row, the number of the row that stands in it and
-/// whether that is `auto`, the boxes that start and end there, the amount behind the second start, and the height of the
+/// whether that is `auto`, the boxes that start and end there, the amount after the second start, and the height of the
 /// stack that an atom names.
 #[derive(Clone, Copy)]
 struct Layout {

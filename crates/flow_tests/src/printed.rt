@@ -51,7 +51,7 @@ fn tree_text(alloc: Global, flows: &Flows) -> Result<Text, NoMemory>
     write_flat(alloc, flows, &rows)
 }
 
-/// The same behind a front of six bytes, where both have no more bytes than this.
+/// The same after a front of six bytes, where both have no more bytes than this.
 fn text_within(alloc: Global, flows: &Flows, most: u64) -> Result<Option<Text>, NoMemory>
     requires file { (file : FlowFile) × (flows.now ≡ flows_of file) }
     requires flat { HoldsFlatRows flows.now }
@@ -64,7 +64,7 @@ fn text_within(alloc: Global, flows: &Flows, most: u64) -> Result<Option<Text>, 
     write_flat_within(alloc, flows, &rows, front, most)
 }
 
-/// A tree's text alone, and behind the front where there is room to the last byte, and to the one before.
+/// A tree's text alone, and after the front where there is room to the last byte, and to the one before.
 #[derive(Drop)]
 struct Written {
     alone: Text,

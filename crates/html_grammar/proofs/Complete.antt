@@ -137,17 +137,13 @@ over_content size name (Element at m attrs kids next) nodes k os html d toks res
 
 -- behind the body: white space and comments, and perhaps the end of html
 over_blank : (size : ℕ) (nodes : List DomNode) (html : Bool) (d : ℕ) (toks : List Token) → run size (at_rest nodes [] html d) toks ≡ run size (at_rest nodes [] html d) (skip_blank toks)
-over_blank size nodes html d [] = refl
-over_blank size nodes html d (Start tag ∷ ts) = refl
-over_blank size nodes html d (Raw tag text ∷ ts) = refl
-over_blank size nodes html d (End at m ∷ ts) = refl
 over_blank size nodes html d (Comment at ∷ ts) = over_blank size nodes html d ts
-over_blank size nodes html d (Doctype at ∷ ts) = refl
 over_blank size nodes html d (Char at c s ∷ ts) = by_white (over_blank size nodes html d ts) (is_white c s) refl
   where
     by_white : run size (at_rest nodes [] html d) ts ≡ run size (at_rest nodes [] html d) (skip_blank ts) → (b : Bool) → is_white c s ≡ b → run size (at_rest nodes [] html d) (Char at c s ∷ ts) ≡ run size (at_rest nodes [] html d) (skip_blank (Char at c s ∷ ts))
     by_white h true is = rw is h
     by_white h false is = let e : (Char at c s ∷ ts) ≡ skip_blank (Char at c s ∷ ts) = rw is refl in ap (run size (at_rest nodes [] html d)) e
+over_blank size nodes html d _ = refl
 
 -- what a run comes to where nothing is open
 abbrev pub Comes : ℕ → List DomNode → ℕ → Bool → List Token → Type 0

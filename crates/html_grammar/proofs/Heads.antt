@@ -26,31 +26,23 @@ not_blank (u ∷ us) t ts h = by_blank (not_blank us t ts) (is_blank u) refl h
 -- blank tokens in front are nothing to the head
 forest_skips : (toks : List Token) → head_forest (skip_blank toks) ≡ head_forest toks
 unfolding head_forest
-forest_skips [] = refl
-forest_skips (Start tag ∷ ts) = refl
-forest_skips (Raw tag text ∷ ts) = refl
-forest_skips (End at m ∷ ts) = refl
 forest_skips (Comment at ∷ ts) = forest_skips ts
-forest_skips (Doctype at ∷ ts) = refl
 forest_skips (Char at c s ∷ ts) = by_white (forest_skips ts) (is_white c s) refl
   where
     by_white : head_forest (skip_blank ts) ≡ head_forest ts → (b : Bool) → is_white c s ≡ b → head_forest (cond b (skip_blank ts) (Char at c s ∷ ts)) ≡ cond b (head_forest ts) Nil
     by_white h true is = h
     by_white h false is = rw is refl
+forest_skips _ = refl
 
 rest_skips : (toks : List Token) → head_rest (skip_blank toks) ≡ head_rest toks
 unfolding head_rest
-rest_skips [] = refl
-rest_skips (Start tag ∷ ts) = refl
-rest_skips (Raw tag text ∷ ts) = refl
-rest_skips (End at m ∷ ts) = refl
 rest_skips (Comment at ∷ ts) = rest_skips ts
-rest_skips (Doctype at ∷ ts) = refl
 rest_skips (Char at c s ∷ ts) = by_white (rest_skips ts) (is_white c s) refl
   where
     by_white : head_rest (skip_blank ts) ≡ head_rest ts → (b : Bool) → is_white c s ≡ b → head_rest (cond b (skip_blank ts) (Char at c s ∷ ts)) ≡ cond b (head_rest ts) (Char at c s ∷ ts)
     by_white h true is = h
     by_white h false is = rw is refl
+rest_skips _ = refl
 
 -- where no element of the head stands next
 no_head : (t : Token) (ts : List Token) → is_blank t ≡ false → is_head_element t ≡ false → (Nil ≡ head_forest (t ∷ ts)) × (t ∷ ts ≡ head_rest (t ∷ ts))

@@ -137,13 +137,8 @@ at_text : (html : Bool) (at c : ℕ) (s : Spelled) (ts : List Token) (o : Open) 
 at_text html at c s ts o os h = (Words at (encode_utf8 c ++ run_text ts) h.0, h.1, h.2, (c, s, ts, refl, refl, h.3), h.4, h.5)
 
 length_behind : (ts : List Token) → length (behind_run ts) ≤ length ts
-length_behind [] = omega arith
-length_behind (Start tag ∷ ts) = omega arith
-length_behind (Raw tag text ∷ ts) = omega arith
-length_behind (End at m ∷ ts) = omega arith
-length_behind (Comment at ∷ ts) = omega arith
-length_behind (Doctype at ∷ ts) = omega arith
 length_behind (Char at c s ∷ ts) = let h = length_behind ts in omega arith
+length_behind _ = omega arith
 
 ending_white : (html : Bool) (at c : ℕ) (s : Spelled) (ts : List Token) → is_white c s ≡ true → Ending html ts → Ending html (Char at c s ∷ ts)
 ending_white true at c s ts is h = ap (λ (b : Bool). skip_blank (behind_end (codes "html") (cond b (skip_blank ts) (Char at c s ∷ ts)))) is ∙ h

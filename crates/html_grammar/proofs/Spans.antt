@@ -68,10 +68,6 @@ pub begins_other : (test : ℕ → Bool) (d : ℕ) (ps : List Place) → begins_
 begins_other test d [] h g = refl
 begins_other test d (p ∷ ps) h g = other_char test p.character d h g
 
-pub begins_fails : (test : ℕ → Bool) (d : ℕ) (ps : List Place) → begins d ps ≡ true → test d ≡ false → begins_with test ps ≡ false
-begins_fails test d [] h g = refl
-begins_fails test d (p ∷ ps) h g = ap test (eqb-true p.character d h) ∙ g
-
 -- some in front pass where the first does
 pub some_pass : (test : ℕ → Bool) (front rest ps : List Place) → ps ≡ front ++ rest → Passes test front → begins_with test rest ≡ false → begins_with test ps ≡ true → SomePass test front
 some_pass test [] rest ps e h stops g = absurd (true≢false (sym g ∙ ap (begins_with test) e ∙ stops))

@@ -47,23 +47,14 @@ abbrev pub open_as : ℕ → List ℕ → Open
 open_as k name = record { number = k; name = name }
 
 pub over_comments : (size : ℕ) (nodes : List DomNode) (opens : List Open) (html : Bool) (d : ℕ) (toks : List Token) → run size (at_rest nodes opens html d) toks ≡ run size (at_rest nodes opens html d) (skip_comments toks)
-over_comments size nodes opens html d [] = refl
-over_comments size nodes opens html d (Start tag ∷ ts) = refl
-over_comments size nodes opens html d (Raw tag text ∷ ts) = refl
-over_comments size nodes opens html d (End at m ∷ ts) = refl
 over_comments size nodes opens html d (Comment at ∷ ts) = over_comments size nodes opens html d ts
-over_comments size nodes opens html d (Doctype at ∷ ts) = refl
-over_comments size nodes opens html d (Char at c s ∷ ts) = refl
+over_comments size nodes opens html d _ = refl
 
 pub over_text : (size : ℕ) (nodes : List DomNode) (at : ℕ) (text : List ℕ) (o : Open) (os : List Open) (html : Bool) (d : ℕ) (toks : List Token)
     → run size (speaking nodes at text (o ∷ os) html d) toks ≡ run size (at_rest (nodes ++ words_node (Some o.number) at (text ++ run_text toks) ∷ []) (o ∷ os) html d) (behind_run toks)
-over_text size nodes at text o os html d [] = rw append-nil refl
-over_text size nodes at text o os html d (Start tag ∷ ts) = rw append-nil refl
-over_text size nodes at text o os html d (Raw tag raw ∷ ts) = rw append-nil refl
-over_text size nodes at text o os html d (End a m ∷ ts) = rw append-nil refl
-over_text size nodes at text o os html d (Comment a ∷ ts) = rw append-nil refl
 over_text size nodes at text o os html d (Doctype a ∷ ts) = refl
 over_text size nodes at text o os html d (Char a c s ∷ ts) = over_text size nodes at (text ++ encode_utf8 c) o os html d ts ∙ ap (λ (t : List ℕ). run size (at_rest (nodes ++ words_node (Some o.number) at t ∷ []) (o ∷ os) html d) (behind_run ts)) (append_assoc text (encode_utf8 c) (run_text ts))
+over_text size nodes at text o os html d _ = rw append-nil refl
 
 -- an element ends as the steps say
 pub over_end : (size : ℕ) (nodes : List DomNode) (k : ℕ) (name : List ℕ) (os : List Open) (html : Bool) (d : ℕ) (before after : List Token) → Closed name before after

@@ -188,9 +188,6 @@ pub record Tagged (p : Place) (tag : Tag) (all rest : List Place) : Type 0 where
   pub whole : all ≡ front ++ rest
   pub is : IsTag tag (p ∷ front) rest
 
-late_none : {P : Type 0} (f : Fault) (x : Option Fault) → x ≡ Some f → x ≡ None → P
-late_none f x e g = absurd cc
-
 piece_place : (inner rest : List Place) → raw_piece (place_or 0 (inner ++ rest)) (codes_of inner) ≡ raw_piece (place_or 0 inner) (codes_of inner)
 piece_place [] rest = refl
 piece_place (p ∷ inner) rest = refl

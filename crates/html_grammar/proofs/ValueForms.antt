@@ -154,11 +154,6 @@ pub text_back : (n : ℕ) (test : ℕ → Bool) (toks : List Token) (bad : Optio
 text_back n test [] bad inner rest v h stops le =
     ap (λ (x : List Place). value_from n test v (x ++ rest)) h.0 ∙ ends_at_once n test v rest stops
     ∙ ap (λ (x : Value). (x, rest)) (sym (with_nothing v) ∙ ap (with_text v []) (sym h.1))
-text_back n test (Start tag ∷ ts) bad inner rest v h stops le = absurd h
-text_back n test (Raw tag text ∷ ts) bad inner rest v h stops le = absurd h
-text_back n test (End at m ∷ ts) bad inner rest v h stops le = absurd h
-text_back n test (Comment at ∷ ts) bad inner rest v h stops le = absurd h
-text_back n test (Doctype at ∷ ts) bad inner rest v h stops le = absurd h
 text_back zero test (Char at c s ∷ ts) bad inner rest v h stops le =
     let b = piece_back at c s h.3 h.0 (h.1 ++ rest) h.6 in
     absurd (nothing_in h.0 h.1 b.place b.front b.whole (subst (λ (x : List Place). length x ≤ 0) h.2 le))
@@ -171,6 +166,7 @@ text_back (suc n) test (Char at c s ∷ ts) bad inner rest v h stops le =
     ∙ ap (λ (x : Value × List Place). value_from n test x.0 x.1) (b.adds v)
     ∙ text_back n test ts h.4 h.1 rest (with_token v at c s h.3) h.8 stops (omega (arith, l))
     ∙ ap (λ (x : Value). (x, rest)) (with_more v at c s h.3 h.4 ts ∙ ap (with_text v (Char at c s ∷ ts)) (sym h.5))
+text_back n test _ bad inner rest v h stops le = absurd h
 
 -- what reading a character says of it
 pub record Adds (v : Value) (p : Place) (ps : List Place) (r : Value × List Place) : Type 0 where

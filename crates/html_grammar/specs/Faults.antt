@@ -14,12 +14,8 @@ IsFront size front = (more : List Token) × (tree : Forest) × IsDocument size (
 -- the rule that a token breaks where no document goes on with it: an end tag that closes nothing, or anything else out
 -- of its place
 abbrev pub rule_of : Token → ℕ
-rule_of (Start tag) = 8
-rule_of (Raw tag text) = 8
 rule_of (End at m) = 6
-rule_of (Comment at) = 8
-rule_of (Doctype at) = 8
-rule_of (Char at c s) = 8
+rule_of _ = 8
 
 -- The first token that no document has behind those before it.
 pub record IsStuck (size : ℕ) (toks : List Token) (f : Fault) : Type 0 where

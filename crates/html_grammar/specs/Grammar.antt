@@ -28,13 +28,8 @@ skip_blank (t ∷ ts) = if is_blank t then skip_blank ts else (t ∷ ts)
 
 -- the text in front
 abbrev pub run_text : List Token → List ℕ
-run_text [] = []
-run_text (Start tag ∷ ts) = []
-run_text (Raw tag text ∷ ts) = []
-run_text (End at m ∷ ts) = []
-run_text (Comment at ∷ ts) = []
-run_text (Doctype at ∷ ts) = []
 run_text (Char at c s ∷ ts) = encode_utf8 c ++ run_text ts
+run_text _ = []
 
 -- and what stands behind it
 abbrev pub behind_run : List Token → List Token

@@ -96,14 +96,10 @@ IsPiece at c s (Some bad) one rest = (p : Place) × (one ≡ p ∷ []) × (p.at 
 -- marked.
 abbrev pub IsText : (ℕ → Bool) → List Token → Option ℕ → List Place → List Place → Type 0
 IsText test [] bad one rest = (one ≡ []) × (bad ≡ None)
-IsText test (Start tag ∷ ts) bad one rest = ⊥
-IsText test (Raw tag text ∷ ts) bad one rest = ⊥
-IsText test (End at m ∷ ts) bad one rest = ⊥
-IsText test (Comment at ∷ ts) bad one rest = ⊥
-IsText test (Doctype at ∷ ts) bad one rest = ⊥
 IsText test (Char at c s ∷ ts) bad one rest = (here : List Place) × (more : List Place) × (one ≡ here ++ more)
     × (now : Option ℕ) × (later : Option ℕ) × (bad ≡ or_first now later)
     × IsPiece at c s now here (more ++ rest) × (begins_with test here ≡ true) × IsText test ts later more rest
+IsText test _ bad one rest = ⊥
 
 -- where the first reference stands whose name isn't in the table
 abbrev pub unknown_here : ℕ → Spelled → Option ℕ

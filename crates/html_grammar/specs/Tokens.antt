@@ -42,28 +42,16 @@ is_blank (Char at c s) = is_white c s
 -- a start tag of this name
 abbrev pub is_start : List ℕ → Token → Bool
 is_start m (Start tag) = same tag.name m
-is_start m (Raw tag text) = false
-is_start m (End at name) = false
-is_start m (Comment at) = false
-is_start m (Doctype at) = false
-is_start m (Char at c s) = false
+is_start m _ = false
 
 -- an end tag of this name
 abbrev pub is_end : List ℕ → Token → Bool
-is_end m (Start tag) = false
-is_end m (Raw tag text) = false
 is_end m (End at name) = same name m
-is_end m (Comment at) = false
-is_end m (Doctype at) = false
-is_end m (Char at c s) = false
+is_end m _ = false
 
 abbrev pub is_doctype : Token → Bool
-is_doctype (Start tag) = false
-is_doctype (Raw tag text) = false
-is_doctype (End at name) = false
-is_doctype (Comment at) = false
 is_doctype (Doctype at) = true
-is_doctype (Char at c s) = false
+is_doctype _ = false
 
 -- an element of the head
 abbrev pub is_head_element : Token → Bool

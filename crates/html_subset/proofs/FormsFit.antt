@@ -120,17 +120,13 @@ piece_fits at c s (Some bad) one rest (p, whole, stands, is, own, spelled, marke
 -- a text in an attribute's value
 pub text_fits : (test : ℕ → Bool) (toks : List Token) (bad : Option ℕ) (one rest : List Place) → IsText test toks bad one rest → AllScalar one → Fits (run_text toks) (weight one)
 text_fits test [] bad one rest h all = fits_none (weight one)
-text_fits test (Start tag ∷ ts) bad one rest h all = absurd h
-text_fits test (Raw tag text ∷ ts) bad one rest h all = absurd h
-text_fits test (End at m ∷ ts) bad one rest h all = absurd h
-text_fits test (Comment at ∷ ts) bad one rest h all = absurd h
-text_fits test (Doctype at ∷ ts) bad one rest h all = absurd h
 text_fits test (Char at c s ∷ ts) bad one rest (here, more, whole, now, later, marked, is, begins, others) all =
     let parts = scalar-append here more (subst AllScalar whole all) in
     let own = piece_fits at c s now here (more ++ rest) is parts.0 in
     fits_more (encode_utf8 c ++ run_text ts) (weight here + weight more) (weight one)
     (fits_append (encode_utf8 c) (run_text ts) (weight here) (weight more) (fits_char c (weight here) own.0 own.1) (text_fits test ts later more rest others parts.1))
     (omega (arith, ap weight whole, weight-append here more))
+text_fits test _ bad one rest h all = absurd h
 
 -- Attributes.
 

@@ -88,13 +88,8 @@ node_count (Words at text next) = 1 + node_count next
 
 -- 1 where a text stands in front
 abbrev text_first : List Token → ℕ
-text_first [] = 0
-text_first (Start tag ∷ ts) = 0
-text_first (Raw tag text ∷ ts) = 0
-text_first (End at m ∷ ts) = 0
-text_first (Comment at ∷ ts) = 0
-text_first (Doctype at ∷ ts) = 0
 text_first (Char at c s ∷ ts) = 1
+text_first _ = 0
 
 text_first_le : (toks : List Token) → text_first toks ≤ 1
 text_first_le [] = omega arith
@@ -106,22 +101,12 @@ text_first_le (Doctype at ∷ ts) = omega arith
 text_first_le (Char at c s ∷ ts) = omega arith
 
 comments_cost : (toks : List Token) → costs (skip_comments toks) + text_first (skip_comments toks) ≤ costs toks + text_first toks
-comments_cost [] = omega arith
-comments_cost (Start tag ∷ ts) = omega arith
-comments_cost (Raw tag text ∷ ts) = omega arith
-comments_cost (End at m ∷ ts) = omega arith
 comments_cost (Comment at ∷ ts) = omega (arith, comments_cost ts, text_first_le ts)
-comments_cost (Doctype at ∷ ts) = omega arith
-comments_cost (Char at c s ∷ ts) = omega arith
+comments_cost _ = omega arith
 
 run_cost : (toks : List Token) → costs (behind_run toks) + text_first (behind_run toks) ≤ costs toks
-run_cost [] = omega arith
-run_cost (Start tag ∷ ts) = omega arith
-run_cost (Raw tag text ∷ ts) = omega arith
-run_cost (End at m ∷ ts) = omega arith
-run_cost (Comment at ∷ ts) = omega arith
-run_cost (Doctype at ∷ ts) = omega arith
 run_cost (Char at c s ∷ ts) = omega (arith, run_cost ts)
+run_cost _ = omega arith
 
 pick_cost : (b : Bool) (xs ys : List Token) (n : ℕ) → costs xs ≤ n → costs ys ≤ n → costs (cond b xs ys) ≤ n
 pick_cost true xs ys n f g = f

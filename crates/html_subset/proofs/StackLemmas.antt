@@ -62,10 +62,6 @@ some_on_top m (x ∷ xs) h = omega arith
 pub dropped_below : (m : List ℕ) (xs ys : List Open) (o : Open) → stack_of xs ≡ o ∷ stack_of ys → closed_on_top m (stack_of xs) ≡ true → drop_closed m (stack_of ys) ≡ drop_closed m (stack_of xs)
 dropped_below m xs ys o top h = let e : closes m o.name ≡ true = rw top at h in rw top (drops_top m o (stack_of ys) e)
 
-pub nothing_to_drop : (m : List ℕ) (os : List Open) → closed_on_top m os ≡ false → drop_closed m os ≡ os
-nothing_to_drop m [] h = refl
-nothing_to_drop m (o ∷ os) h = rw h refl
-
 pub popped : (m : List ℕ) (xs ys : List Open) (r : Option Open) → IsSome r → xs ≡ ys ++ option_to_list r → closed_on_top m (stack_of xs) ≡ true → drop_closed m (stack_of ys) ≡ drop_closed m (stack_of xs)
 popped m xs ys None some e h = absurd cc
 popped m xs ys (Some o) some e h = dropped_below m xs ys o (ap stack_of e ∙ stack_push ys o) h

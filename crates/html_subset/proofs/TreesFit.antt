@@ -30,13 +30,8 @@ pick true xs ys m f g = f
 pick false xs ys m f g = g
 
 comments_fit : (toks : List Token) (m : ℕ) → TokensFit toks m → TokensFit (skip_comments toks) m
-comments_fit [] m f = f
-comments_fit (Start tag ∷ ts) m f = f
-comments_fit (Raw tag text ∷ ts) m f = f
-comments_fit (End at n ∷ ts) m f = f
 comments_fit (Comment at ∷ ts) m f = comments_fit ts m (tail_fits (Comment at) ts m f)
-comments_fit (Doctype at ∷ ts) m f = f
-comments_fit (Char at c s ∷ ts) m f = f
+comments_fit _ m f = f
 
 pub blank_fit : (toks : List Token) (m : ℕ) → TokensFit toks m → TokensFit (skip_blank toks) m
 blank_fit [] m f = f

@@ -90,15 +90,3 @@ impl Token {
         self.numbers.as_slice().cmp(other.numbers.as_slice())
     }
 }
-
-#[cfg(test)]
-mod tests {
-    use super::*;
-
-    #[test]
-    fn places_are_ordered_number_by_number(rt: HostRuntime) {
-        let item = Token::start(rt.alloc(), 2);
-        let inner = Token::within(2, &Token::start(rt.alloc(), 5));
-        assert_eq!(rt; item.cmp(&inner), Ordering::Less);
-    }
-}

@@ -6,7 +6,7 @@ use std::alloc::{AllocError, Global};
 use std::str;
 use std::test::Fail;
 
-/// A document as a line: names of elements, texts in brackets, attributes behind their elements, each with its byte.
+/// A document as a line: names of elements, texts in brackets, attributes after their elements, each with its byte.
 fn push_node(out: &mut String, node: &DomNode, alloc: Global) -> Result<(), AllocError> {
     let at = node.offset;
     match &node.kind {

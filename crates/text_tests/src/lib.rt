@@ -7,6 +7,8 @@
 #[cfg(test)]
 mod break_levels;
 #[cfg(test)]
+mod decimals;
+#[cfg(test)]
 mod documents;
 #[cfg(test)]
 mod faces;

@@ -120,7 +120,7 @@ fn collapses_white_space(rt: HostRuntime) -> Result<(), Fail> {
     Ok(())
 }
 
-/// For each piece, `^` where the place behind it is an opportunity.
+/// For each piece, `^` where the place after it is an opportunity.
 fn marks(alloc: Global, runs: &Runs) -> Result<String, NoMemory> {
     let mut text = String::new(alloc);
     for found in &opportunities(alloc, runs)? {

@@ -1,0 +1,10 @@
+mod Bounds
+mod ChainChanges
+mod ChangeLaw
+mod Deciding
+mod LeastBounds
+mod LineBlocks
+mod Neighbours
+mod RowsChange
+mod StopChanges
+mod Stops
