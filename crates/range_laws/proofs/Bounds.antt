@@ -23,14 +23,16 @@ below-right h [] ys n = n
 below-right h (x ∷ xs) ys n = below-right h xs ys n.1
 
 pub has-parts : (h : ℕ) (xs ys : List ℕ) → Has h (xs ++ ys) → Has h xs ⊎ Has h ys
-has-parts h xs ys e = or_cases (list_any (λ b. b == h) xs) (list_any (λ b. b == h) ys) (sym (list_any-append (λ b. b == h) xs ys) ∙ e)
+has-parts h xs ys e = or_cases (list_any (λ b. b == h) xs) (list_any (λ b. b == h) ys) (sym (list_any-append (λ b. b == h) xs ys)
+    ∙ e)
 
 -- where it isn't one of them, it is below each
 pub above-each : (h : ℕ) (bs : List ℕ) → list_any (λ b. b == h) bs ≡ false → NoneBelow h bs → IsBelowEach h bs
 above-each h [] e n = tt
 above-each h (b ∷ bs) e n = go (b == h) refl e (λ k. above-each h bs k n.1)
   where
-    go : (x : Bool) → (b == h) ≡ x → (x || list_any (λ b. b == h) bs) ≡ false → (list_any (λ b. b == h) bs ≡ false → IsBelowEach h bs) → (h < b) × IsBelowEach h bs
+    go : (x : Bool) → (b == h) ≡ x → (x || list_any (λ b. b == h) bs) ≡ false →
+        (list_any (λ b. b == h) bs ≡ false → IsBelowEach h bs) → (h < b) × IsBelowEach h bs
     go true k e rest = absurd cc
     go false k e rest = ((let le = n.0 in grind (arith, nat_tests)), rest e)
 
@@ -52,10 +54,13 @@ has-rest hi n bs lt e = later (has-one hi n bs e)
 
 pub has-moved : (x h : ℕ) (bs : List ℕ) → x ≤ h → Has h (map (λ b. x + b) bs) → Has (h - x) bs
 has-moved x h [] le e = e
-has-moved x h (b ∷ bs) le e = go (or_cases (x + b == h) (list_any (λ b. b == h) (map (λ b. x + b) bs)) e) (λ k. has-moved x h bs le k)
+has-moved x h (b ∷ bs) le e = go (or_cases (x + b == h) (list_any (λ b. b == h) (map (λ b. x + b) bs)) e)
+    (λ k. has-moved x h bs le k)
   where
-    go : ((x + b == h) ≡ true) ⊎ Has h (map (λ b. x + b) bs) → (Has h (map (λ b. x + b) bs) → Has (h - x) bs) → ((b == h - x) || list_any (λ b. b == h - x) bs) ≡ true
-    go (inl k) later = or_left (b == h - x) (list_any (λ b. b == h - x) bs) (let m : x + b ≡ h = grind (arith, nat_tests) in let n : b ≡ h - x = omega arith in grind (arith, nat_tests))
+    go : ((x + b == h) ≡ true) ⊎ Has h (map (λ b. x + b) bs) → (Has h (map (λ b. x + b) bs) → Has (h - x) bs) →
+        ((b == h - x) || list_any (λ b. b == h - x) bs) ≡ true
+    go (inl k) later = or_left (b == h - x) (list_any (λ b. b == h - x) bs) (let m : x + b ≡ h = grind (arith, nat_tests) in
+        let n : b ≡ h - x = omega arith in grind (arith, nat_tests))
     go (inr k) later = or_right (b == h - x) (list_any (λ b. b == h - x) bs) (later k)
 
 pub below-moved : (x h : ℕ) (bs : List ℕ) → NoneBelow h (map (λ b. x + b) bs) → NoneBelow (h - x) bs

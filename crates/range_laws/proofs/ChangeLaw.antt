@@ -59,10 +59,12 @@ pub lines-change : (d : FlowsData) → IsSound d → (depth : ℕ) → LinesChan
 lines-change d sound depth = record {
   column_changes = λ f t lo h least same.
       let l = least-of lo h _ (column-above (rows_to d depth) (rows_to-above d depth) d f t lo) least in
-      column-changes (rows_to d depth) (fills-change d (breaks-stay d) (λ inner. sizes-least inner d) (each-some d sound) depth) d f t lo h l.le l.below l.has same;
+      column-changes (rows_to d depth) (fills-change d (breaks-stay d) (λ inner. sizes-least inner d) (each-some d sound) depth) d
+          f t lo h l.le l.below l.has same;
   fill_changes = λ r q lo h least same.
       let l = least-of lo h _ (rows_to-above d depth r q lo) least in
-      (fills-change d (breaks-stay d) (λ inner. sizes-least inner d) (each-some d sound) depth).fill_changes r q lo h l.le l.below l.has same;
+      (fills-change d (breaks-stay d) (λ inner. sizes-least inner d) (each-some d sound) depth).fill_changes r q lo h l.le l.below
+          l.has same;
   judged_change = λ r q lo h least same.
       let l = least-of lo h _ (judged-above-at d depth r q lo) least in
       judged-changes d (breaks-stay d) (λ inner. sizes-least inner d) (each-some d sound) depth r q lo h l.le l.below l.has same;

@@ -17,9 +17,11 @@ module _ (d : FlowsData) (r : ℕ) (q : Token) (reject : RangesReject d r q) (le
   Rejects x = RangeRejects (all_rows d) d r q x.low x.high x.reason
 
   -- no height fits that one of them holds
-  below-unfit : (low high : ℕ) (xs : List Range) → FollowOn low high xs → EachRejects d r q xs → (h : ℕ) → low ≤ h → h < high → fits (all_rows d) d r q h ≡ false
+  below-unfit : (low high : ℕ) (xs : List Range) → FollowOn low high xs → EachRejects d r q xs → (h : ℕ) → low ≤ h → h < high →
+      fits (all_rows d) d r q h ≡ false
   below-unfit low high [] same all h le lt = absurd (omega arith)
-  below-unfit low high (x ∷ xs) follow all h le lt = which (cases_lt h x.high) (λ above. below-unfit x.high high xs follow.2 (All-tail Rejects x xs all) h above lt)
+  below-unfit low high (x ∷ xs) follow all h le lt = which (cases_lt h x.high)
+      (λ above. below-unfit x.high high xs follow.2 (All-tail Rejects x xs all) h above lt)
     where
       which : (h < x.high) ⊎ (x.high ≤ h) → (x.high ≤ h → fits (all_rows d) d r q h ≡ false) → fits (all_rows d) d r q h ≡ false
       which (inl below) later =
@@ -33,11 +35,14 @@ module _ (d : FlowsData) (r : ℕ) (q : Token) (reject : RangesReject d r q) (le
   pub ranges-decide : RangesDecide d r q
   unfolding size_of
   ranges-decide = record {
-    size_reached = λ h xs follow all fit. least.size_is_unique r q h (record { passes_at = fit; none_below = λ k lt. below-unfit 0 h xs follow all k (omega arith) lt });
-    available_passed = λ a xs follow all. too-high a (size_in (all_rows d) d r q) (above a xs follow all (cases_lt a (size_in (all_rows d) d r q)));
+    size_reached = λ h xs follow all fit. least.size_is_unique r q h
+        (record { passes_at = fit; none_below = λ k lt. below-unfit 0 h xs follow all k (omega arith) lt });
+    available_passed = λ a xs follow all. too-high a (size_in (all_rows d) d r q)
+        (above a xs follow all (cases_lt a (size_in (all_rows d) d r q)));
   }
     where
-      above : (a : ℕ) (xs : List Range) → FollowOn 0 (a + 1) xs → EachRejects d r q xs → (a < size_in (all_rows d) d r q) ⊎ (size_in (all_rows d) d r q ≤ a) → a < size_in (all_rows d) d r q
+      above : (a : ℕ) (xs : List Range) → FollowOn 0 (a + 1) xs → EachRejects d r q xs →
+          (a < size_in (all_rows d) d r q) ⊎ (size_in (all_rows d) d r q ≤ a) → a < size_in (all_rows d) d r q
       above a xs follow all (inl lt) = lt
       above a xs follow all (inr le) =
           let fit = (least.size_is_least r q).passes_at in

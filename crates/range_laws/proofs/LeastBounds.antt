@@ -11,8 +11,10 @@ least-has : (n : ℕ) (bs : List ℕ) → (fold min n bs ≡ n) ⊎ Has (fold mi
 least-has n [] = inl refl
 least-has n (b ∷ bs) = go (least-has (min n b) bs) (cases_lt b n)
   where
-    go : (fold min (min n b) bs ≡ min n b) ⊎ Has (fold min (min n b) bs) bs → (b < n) ⊎ (n ≤ b) → (fold min (min n b) bs ≡ n) ⊎ Has (fold min (min n b) bs) (b ∷ bs)
-    go (inl e) (inl lt) = inr (or_left (b == fold min (min n b) bs) (list_any (λ x. x == fold min (min n b) bs) bs) (let k : b ≡ fold min (min n b) bs = omega arith in grind (arith, nat_tests)))
+    go : (fold min (min n b) bs ≡ min n b) ⊎ Has (fold min (min n b) bs) bs → (b < n) ⊎ (n ≤ b) →
+        (fold min (min n b) bs ≡ n) ⊎ Has (fold min (min n b) bs) (b ∷ bs)
+    go (inl e) (inl lt) = inr (or_left (b == fold min (min n b) bs) (list_any (λ x. x == fold min (min n b) bs) bs) (let k : b ≡
+        fold min (min n b) bs = omega arith in grind (arith, nat_tests)))
     go (inl e) (inr le) = inl (omega arith)
     go (inr h) w = inr (or_right (b == fold min (min n b) bs) (list_any (λ x. x == fold min (min n b) bs) bs) h)
 
@@ -28,7 +30,8 @@ least-first : (b : ℕ) (bs : List ℕ) → Least (fold min b bs) (b ∷ bs)
 least-first b bs = let k = least-below b bs in ((k.0, k.1), go (least-has b bs))
   where
     go : (fold min b bs ≡ b) ⊎ Has (fold min b bs) bs → Has (fold min b bs) (b ∷ bs)
-    go (inl e) = or_left (b == fold min b bs) (list_any (λ x. x == fold min b bs) bs) (let k : b ≡ fold min b bs = sym e in grind (arith, nat_tests))
+    go (inl e) = or_left (b == fold min b bs) (list_any (λ x. x == fold min b bs) bs) (let k : b ≡ fold min b bs = sym e in
+        grind (arith, nat_tests))
     go (inr h) = or_right (b == fold min b bs) (list_any (λ x. x == fold min b bs) bs) h
 
 -- below the top
@@ -36,7 +39,8 @@ least-capped : (t b : ℕ) (bs : List ℕ) → fold min (min t b) bs < t → Lea
 least-capped t b bs lt = let k = least-below (min t b) bs in let le = k.0 in ((omega arith, k.1), go (least-has (min t b) bs))
   where
     go : (fold min (min t b) bs ≡ min t b) ⊎ Has (fold min (min t b) bs) bs → Has (fold min (min t b) bs) (b ∷ bs)
-    go (inl e) = or_left (b == fold min (min t b) bs) (list_any (λ x. x == fold min (min t b) bs) bs) (let k : b ≡ fold min (min t b) bs = omega arith in grind (arith, nat_tests))
+    go (inl e) = or_left (b == fold min (min t b) bs) (list_any (λ x. x == fold min (min t b) bs) bs) (let k : b ≡
+        fold min (min t b) bs = omega arith in grind (arith, nat_tests))
     go (inr h) = or_right (b == fold min (min t b) bs) (list_any (λ x. x == fold min (min t b) bs) bs) h
 
 pub is-least : (top : Option ℕ) (h : ℕ) (bs : List ℕ) → least_bound top bs ≡ Some h → is_past top h ≡ false → Least h bs

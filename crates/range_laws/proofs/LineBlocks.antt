@@ -14,19 +14,23 @@ abbrev pub Starts : List ColumnLine → Type 0
 Starts [] = Unit {0}
 Starts (l ∷ ls) = l.depth ≡ 0
 
-same-insides : (as_ bs xs ys : List ColumnLine) → Starts xs → Starts ys → map deeper as_ ++ xs ≡ map deeper bs ++ ys → (map deeper as_ ≡ map deeper bs) × (xs ≡ ys)
+same-insides : (as_ bs xs ys : List ColumnLine) → Starts xs → Starts ys → map deeper as_ ++ xs ≡ map deeper bs ++ ys →
+    (map deeper as_ ≡ map deeper bs) × (xs ≡ ys)
 same-insides [] [] xs ys sx sy e = (refl, e)
 same-insides [] (b ∷ bs) [] ys sx sy e = absurd cc
-same-insides [] (b ∷ bs) (x ∷ xs) ys sx sy e = let k : x ≡ deeper b = cc in let n : x.depth ≡ b.depth + 1 = ap (λ (l : ColumnLine). l.depth) k in absurd (omega arith)
+same-insides [] (b ∷ bs) (x ∷ xs) ys sx sy e = let k : x ≡ deeper b = cc in
+    let n : x.depth ≡ b.depth + 1 = ap (λ (l : ColumnLine). l.depth) k in absurd (omega arith)
 same-insides (a ∷ as_) [] xs [] sx sy e = absurd cc
-same-insides (a ∷ as_) [] xs (y ∷ ys) sx sy e = let k : deeper a ≡ y = cc in let n : a.depth + 1 ≡ y.depth = ap (λ (l : ColumnLine). l.depth) k in absurd (omega arith)
+same-insides (a ∷ as_) [] xs (y ∷ ys) sx sy e = let k : deeper a ≡ y = cc in
+    let n : a.depth + 1 ≡ y.depth = ap (λ (l : ColumnLine). l.depth) k in absurd (omega arith)
 same-insides (a ∷ as_) (b ∷ bs) xs ys sx sy e =
     let h : deeper a ≡ deeper b = cc in
     let k = same-insides as_ bs xs ys sx sy cc in
     let m = k.0 in
     (cc, k.1)
 
-pub same-blocks : (us vs xs ys : List ColumnLine) → Block us → Block vs → Starts xs → Starts ys → us ++ xs ≡ vs ++ ys → (us ≡ vs) × (xs ≡ ys)
+pub same-blocks : (us vs xs ys : List ColumnLine) → Block us → Block vs → Starts xs → Starts ys → us ++ xs ≡ vs ++ ys →
+    (us ≡ vs) × (xs ≡ ys)
 same-blocks us vs xs ys (a, as_, da, ua) (b, bs, db, vb) sx sy e =
     let w : (a ∷ map deeper as_) ++ xs ≡ (b ∷ map deeper bs) ++ ys = sym (ap (λ ls. ls ++ xs) ua) ∙ e ∙ ap (λ ls. ls ++ ys) vb in
     let k = same-insides as_ bs xs ys sx sy cc in

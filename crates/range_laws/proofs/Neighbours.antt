@@ -40,14 +40,16 @@ reason-speaks f c q [] = go (is_end f q)
     go false = refl
 reason-speaks f c q (x ∷ cs) = go x.overflow (nat_lt 0 x.level) (reason-speaks f (c + 1) x.end cs)
   where
-    go : (a b : Bool) → Speaks (reason_of f (c + 1) x.end cs) → Speaks (cond a (Some (over c)) (cond b (Some (bad c)) (reason_of f (c + 1) x.end cs)))
+    go : (a b : Bool) → Speaks (reason_of f (c + 1) x.end cs) →
+        Speaks (cond a (Some (over c)) (cond b (Some (bad c)) (reason_of f (c + 1) x.end cs)))
     go true b s = refl
     go false true s = refl
     go false false s = s
 
 -- at the least bound of the columns that are judged their lines change
 abbrev pub JudgedChange : FlowsData → ℕ → Token → Type 0
-JudgedChange d r q = (lo h : ℕ) → lo ≤ h → NoneBelow h (bounds_of (judged (all_rows d) d r q lo)) → Has h (bounds_of (judged (all_rows d) d r q lo)) →
+JudgedChange d r q = (lo h : ℕ) → lo ≤ h → NoneBelow h (bounds_of (judged (all_rows d) d r q lo)) →
+    Has h (bounds_of (judged (all_rows d) d r q lo)) →
     lines_of (judged (all_rows d) d r q lo) ≡ lines_of (judged (all_rows d) d r q h) → ⊥
 
 module _ (d : FlowsData) (r : ℕ) (q : Token) (changes : JudgedChange d r q) where
@@ -57,15 +59,19 @@ module _ (d : FlowsData) (r : ℕ) (q : Token) (changes : JudgedChange d r q) wh
   abbrev range_at : ℕ → ℕ → Reason → Range
   range_at low high w = record { low = low; high = high; reason = w; lines = lines_of (columns_at low) }
 
-  -- what stands before the ranges from a height on: nothing, a range that speaks of no columns, or one of columns whose least bound this is
+  -- what stands before the ranges from a height on: nothing, a range that speaks of no columns, or one of columns whose least
+  -- bound this is
   abbrev Before : Option ℕ → Option Range → ℕ → Type 0
   Before top None low = Unit {0}
-  Before top (Some b) low = (tells b.reason ≡ false) ⊎ ((from : ℕ) × (from < low) × (least_bound top (bounds_of (columns_at from)) ≡ Some low) × (b.lines ≡ lines_of (columns_at from)))
+  Before top (Some b) low = (tells b.reason ≡ false) ⊎ ((from : ℕ) × (from < low) ×
+      (least_bound top (bounds_of (columns_at from)) ≡ Some low) × (b.lines ≡ lines_of (columns_at from)))
 
-  differs : (top : Option ℕ) (last : Option Range) (low high : ℕ) (w : Reason) → Before top last low → is_past top low ≡ false → tells w ≡ true → (xs : List Range) → NoTwins (Some (range_at low high w)) xs →
+  differs : (top : Option ℕ) (last : Option Range) (low high : ℕ) (w : Reason) → Before top last low → is_past top low ≡ false →
+      tells w ≡ true → (xs : List Range) → NoTwins (Some (range_at low high w)) xs →
       NoTwins last (range_at low high w ∷ xs)
   differs top None low high w b past t xs more = more
-  differs top (Some a) low high w (inl none) past t xs more = ((λ same lines. let k : tells a.reason ≡ tells w = ap tells same in cc), more)
+  differs top (Some a) low high w (inl none) past t xs more =
+      ((λ same lines. let k : tells a.reason ≡ tells w = ap tells same in cc), more)
   differs top (Some a) low high w (inr (from, lt, at, told)) past t xs more =
       let k = is-least top low (bounds_of (columns_at from)) at past in
       ((λ same lines. changes from low (omega arith) k.0 k.1 (sym told ∙ lines)), more)
@@ -82,17 +88,22 @@ module _ (d : FlowsData) (r : ℕ) (q : Token) (changes : JudgedChange d r q) wh
       none last = tt
   searched-differ top (suc n) low last b = go (searched-differ top n) (is_past top low) refl
     where
-      by_bound : FromDiffer top n → is_past top low ≡ false → (w : Reason) → tells w ≡ true → (o : Option ℕ) → least_bound top (bounds_of (columns_at low)) ≡ o →
-          NoTwins last (elim o as (λ _. List Range) [ None ↦ [] | Some high ↦ range_at low high w ∷ searched (all_rows d) d r q top n high ])
+      by_bound : FromDiffer top n → is_past top low ≡ false → (w : Reason) → tells w ≡ true → (o : Option ℕ) →
+          least_bound top (bounds_of (columns_at low)) ≡ o →
+          NoTwins last (elim o as (λ _. List Range) [ None ↦ [] | Some high ↦ range_at low high w ∷ searched (all_rows d) d r q
+              top n high ])
       by_bound later past w t None is = tt
       by_bound later past w t (Some high) is =
-          let lt : low < high = subst (λ o. IfSome o (λ h. low < h)) is (least-above top (bounds_of (columns_at low)) low past (judged-above d r q low)) in
-          differs top last low high w b past t (searched (all_rows d) d r q top n high) (later high (Some (range_at low high w)) (inr (low, lt, is, refl)))
+          let lt : low < high = subst (λ o. IfSome o (λ h. low < h)) is
+              (least-above top (bounds_of (columns_at low)) low past (judged-above d r q low)) in
+          differs top last low high w b past t (searched (all_rows d) d r q top n high)
+              (later high (Some (range_at low high w)) (inr (low, lt, is, refl)))
 
       by_reason : FromDiffer top n → is_past top low ≡ false → (o : Option Reason) → Speaks o →
           NoTwins last (elim o as (λ _. List Range) [
             | None ↦ []
-            | Some w ↦ elim (least_bound top (bounds_of (columns_at low))) as (λ _. List Range) [ None ↦ [] | Some high ↦ range_at low high w ∷ searched (all_rows d) d r q top n high ]
+            | Some w ↦ elim (least_bound top (bounds_of (columns_at low))) as (λ _. List Range)
+                [ None ↦ [] | Some high ↦ range_at low high w ∷ searched (all_rows d) d r q top n high ]
           ])
       by_reason later past None s = tt
       by_reason later past (Some w) s = by_bound later past w s (least_bound top (bounds_of (columns_at low))) refl
@@ -102,11 +113,13 @@ module _ (d : FlowsData) (r : ℕ) (q : Token) (changes : JudgedChange d r q) wh
             | true ↦ []
             | false ↦ elim (reason_of (flow_in d r) 1 q (columns_at low)) as (λ _. List Range) [
                 | None ↦ []
-                | Some w ↦ elim (least_bound top (bounds_of (columns_at low))) as (λ _. List Range) [ None ↦ [] | Some high ↦ range_at low high w ∷ searched (all_rows d) d r q top n high ]
+                | Some w ↦ elim (least_bound top (bounds_of (columns_at low))) as (λ _. List Range)
+                    [ None ↦ [] | Some high ↦ range_at low high w ∷ searched (all_rows d) d r q top n high ]
             ]
           ])
       go later true e = tt
-      go later false e = by_reason later e (reason_of (flow_in d r) 1 q (columns_at low)) (reason-speaks (flow_in d r) 1 q (columns_at low))
+      go later false e = by_reason later e (reason_of (flow_in d r) 1 q (columns_at low))
+          (reason-speaks (flow_in d r) 1 q (columns_at low))
 
 -- ---- all ranges
 
@@ -128,11 +141,13 @@ up-to-one (Some t) low high w = go (nat_lt low (min high t))
     go false = tt
 
 -- one range at most that is tall, one at most of area, and then those of columns
-parts-differ : (xs : List Range) (k : ℕ) → AtMostOne (tall k) xs → (ys : List Range) → AtMostOne area ys → (zs : List Range) → ((last : Option Range) → IfSome last (λ b. tells b.reason ≡ false) → NoTwins last zs) →
+parts-differ : (xs : List Range) (k : ℕ) → AtMostOne (tall k) xs → (ys : List Range) → AtMostOne area ys → (zs : List Range) →
+    ((last : Option Range) → IfSome last (λ b. tells b.reason ≡ false) → NoTwins last zs) →
     NoTwins None (xs ++ ys ++ zs)
 parts-differ [] k a [] c zs rest = rest None tt
 parts-differ [] k a (y ∷ ys) c zs rest = subst (λ us. NoTwins (Some y) (us ++ zs)) (sym c.1) (rest (Some y) (ap tells c.0))
-parts-differ (x ∷ xs) k a [] c zs rest = subst (λ us. NoTwins (Some x) ((us ++ []) ++ zs)) (sym a.1) (rest (Some x) (ap tells a.0))
+parts-differ (x ∷ xs) k a [] c zs rest = subst (λ us. NoTwins (Some x) ((us ++ []) ++ zs)) (sym a.1)
+    (rest (Some x) (ap tells a.0))
 parts-differ (x ∷ xs) k a (y ∷ ys) c zs rest =
     let last : NoTwins (Some y) (ys ++ zs) = subst (λ us. NoTwins (Some y) (us ++ zs)) (sym c.1) (rest (Some y) (ap tells c.0)) in
     subst (λ us. NoTwins (Some x) ((us ++ (y ∷ ys)) ++ zs)) (sym a.1) (other a.0 c.0, last)
@@ -150,16 +165,21 @@ all-differ [] n = tt
 all-differ (x ∷ xs) n = next-differ x xs n
 
 -- no two ranges of a row that follow each other have the same reason and the same lines
-pub ranges-differ : (d : FlowsData) (r : ℕ) (q : Token) → JudgedChange d r q → (available : Option ℕ) → NeighboursDiffer (ranges (all_rows d) d r q available)
+pub ranges-differ : (d : FlowsData) (r : ℕ) (q : Token) → JudgedChange d r q → (available : Option ℕ) →
+    NeighboursDiffer (ranges (all_rows d) d r q available)
 unfolding ranges
 ranges-differ d r q changes available =
     let f = flow_in d r in
     let top = top_of available in
     let best = tallest_from (all_rows d) d f q in
     let wide = spread (atoms_height f q) (most_columns (row_of d r).n f q) in
-    all-differ _ (parts-differ (range_up_to top 0 best.need (tall best.item)) best.item (up-to-one top 0 best.need (tall best.item)) (range_up_to top best.need wide area) (up-to-one top best.need wide area)
-    (searched (all_rows d) d r q top (reach (all_rows d) d f q + 1) (max best.need wide)) (λ last b. searched-differ d r q changes top (reach (all_rows d) d f q + 1) (max best.need wide) last (before top (max best.need wide) last b)))
+    all-differ _ (parts-differ (range_up_to top 0 best.need (tall best.item)) best.item
+        (up-to-one top 0 best.need (tall best.item)) (range_up_to top best.need wide area) (up-to-one top best.need wide area)
+    (searched (all_rows d) d r q top (reach (all_rows d) d f q + 1) (max best.need wide))
+        (λ last b. searched-differ d r q changes top (reach (all_rows d) d f q + 1) (max best.need wide) last
+        (before top (max best.need wide) last b)))
   where
-    before : (top : Option ℕ) (low : ℕ) (last : Option Range) → IfSome last (λ b. tells b.reason ≡ false) → Before d r q changes top last low
+    before : (top : Option ℕ) (low : ℕ) (last : Option Range) → IfSome last (λ b. tells b.reason ≡ false) →
+        Before d r q changes top last low
     before top low None b = tt
     before top low (Some x) b = inl b

@@ -20,8 +20,10 @@ use Rattle.range_laws.proofs.StopChanges.{FillsChange, column-changes}
 
 -- ---- rows in rows
 
-module _ (d : FlowsData) (constant : (depth : ℕ) → BreaksAreConstant d depth) (least : (inner : Inner) → SizesAreLeast inner d) (some : (r : ℕ) → 0 < (row_of d r).n) where
-  steady-at : (depth : ℕ) (f : Flow) (lo hi : ℕ) (stops : Column → Bool) → lo ≤ hi → FillsChange (rows_to d depth) → ((c : Column) → c.overflow ≡ true → stops c ≡ true) →
+module _ (d : FlowsData) (constant : (depth : ℕ) → BreaksAreConstant d depth) (least : (inner : Inner) →
+    SizesAreLeast inner d) (some : (r : ℕ) → 0 < (row_of d r).n) where
+  steady-at : (depth : ℕ) (f : Flow) (lo hi : ℕ) (stops : Column → Bool) → lo ≤ hi → FillsChange (rows_to d depth) →
+      ((c : Column) → c.overflow ≡ true → stops c ≡ true) →
       ((a b : Column) → a.overflow ≡ false → ColumnStays a b → stops b ≡ stops a) →
       Steady f hi (λ t. column (rows_to d depth) d f t lo) (λ t. column (rows_to d depth) d f t hi) stops
   steady-at depth f lo hi stops le law over same = record {
@@ -33,9 +35,11 @@ module _ (d : FlowsData) (constant : (depth : ℕ) → BreaksAreConstant d depth
     stop_same = same;
   }
 
-  columns-some : (make : Token → Column) (f : Flow) (n : ℕ) (q : Token) → ((t : Token) → Block (make t).lines) → 0 < n → is_end f q ≡ false → lines_of (to_overflow (columns_by make f n q)) ≡ [] → ⊥
+  columns-some : (make : Token → Column) (f : Flow) (n : ℕ) (q : Token) → ((t : Token) → Block (make t).lines) → 0 < n →
+      is_end f q ≡ false → lines_of (to_overflow (columns_by make f n q)) ≡ [] → ⊥
   columns-some make f zero q block lt open_ e = absurd (omega arith)
-  columns-some make f (suc n) q block lt open_ e = first (make q) _ (block q) (sym (ap (λ cs. lines_of (to_overflow cs)) (columns_by-step make f n q open_)) ∙ e)
+  columns-some make f (suc n) q block lt open_ e = first (make q) _ (block q)
+      (sym (ap (λ cs. lines_of (to_overflow cs)) (columns_by-step make f n q open_)) ∙ e)
     where
       first : (c : Column) (ls : List ColumnLine) → Block c.lines → c.lines ++ ls ≡ [] → ⊥
       first c ls (l, inside, at, e) k = let w : (l ∷ map deeper inside) ++ ls ≡ [] = sym (ap (λ xs. xs ++ ls) e) ∙ k in cc
@@ -45,7 +49,8 @@ module _ (d : FlowsData) (constant : (depth : ℕ) → BreaksAreConstant d depth
     where
       go : (b : Bool) → is_end (flow_in d r) q ≡ b → is_end (flow_in d r) q ≡ false
       go false e = e
-      go true e = let k : length (flow_in d r).items ≤ item_number q = grind (arith, nat_tests) in let z = (least inner).size_at_end r q k in absurd (omega arith)
+      go true e = let k : length (flow_in d r).items ≤ item_number q = grind (arith, nat_tests) in
+          let z = (least inner).size_at_end r q k in absurd (omega arith)
 
   pub fills-change : (depth : ℕ) → FillsChange (rows_to d depth)
   unfolding rows_to fill_in
@@ -54,10 +59,13 @@ module _ (d : FlowsData) (constant : (depth : ℕ) → BreaksAreConstant d depth
       let law = fills-change depth in
       record {
         fill_changes = λ r q lo hi le below has e.
-            chain-changes (flow_in d r) hi (λ t. column (rows_to d depth) d (flow_in d r) t lo) (λ t. column (rows_to d depth) d (flow_in d r) t hi) (λ (c : Column). c.overflow)
-            (steady-at depth (flow_in d r) lo hi (λ (c : Column). c.overflow) le law (λ c o. o) (λ a b o stays. stays.overflow)) (row_of d r).n q below has e;
+            chain-changes (flow_in d r) hi (λ t. column (rows_to d depth) d (flow_in d r) t lo)
+                (λ t. column (rows_to d depth) d (flow_in d r) t hi) (λ (c : Column). c.overflow)
+            (steady-at depth (flow_in d r) lo hi (λ (c : Column). c.overflow) le law (λ c o. o) (λ a b o stays. stays.overflow))
+                (row_of d r).n q below has e;
         fill_tells = λ r q h lt e.
-            columns-some (λ t. column (rows_to d depth) d (flow_in d r) t h) (flow_in d r) (row_of d r).n q (λ t. column-block (rows_to d depth) d (flow_in d r) t h) (some r) (size-open (rows_to d depth) r q lt) e;
+            columns-some (λ t. column (rows_to d depth) d (flow_in d r) t h) (flow_in d r) (row_of d r).n q
+                (λ t. column-block (rows_to d depth) d (flow_in d r) t h) (some r) (size-open (rows_to d depth) r q lt) e;
       }
 
   fails-over : (c : Column) → c.overflow ≡ true → fails c ≡ true
@@ -67,9 +75,12 @@ module _ (d : FlowsData) (constant : (depth : ℕ) → BreaksAreConstant d depth
   fails-same a b o stays = rw (stays.overflow, stays.level o) refl
 
   -- at the least bound of the columns that are judged their lines change
-  pub judged-changes : (depth r : ℕ) (q : Token) (lo hi : ℕ) → lo ≤ hi → NoneBelow hi (bounds_of (judged (rows_to d depth) d r q lo)) → Has hi (bounds_of (judged (rows_to d depth) d r q lo)) →
+  pub judged-changes : (depth r : ℕ) (q : Token) (lo hi : ℕ) → lo ≤ hi →
+      NoneBelow hi (bounds_of (judged (rows_to d depth) d r q lo)) → Has hi (bounds_of (judged (rows_to d depth) d r q lo)) →
       lines_of (judged (rows_to d depth) d r q lo) ≡ lines_of (judged (rows_to d depth) d r q hi) → ⊥
   unfolding judged
   judged-changes depth r q lo hi le below has e =
-      chain-changes (flow_in d r) hi (λ t. column (rows_to d depth) d (flow_in d r) t lo) (λ t. column (rows_to d depth) d (flow_in d r) t hi) fails
-      (steady-at depth (flow_in d r) lo hi fails le (fills-change depth) fails-over fails-same) (most_columns (row_of d r).n (flow_in d r) q) q below has e
+      chain-changes (flow_in d r) hi (λ t. column (rows_to d depth) d (flow_in d r) t lo)
+          (λ t. column (rows_to d depth) d (flow_in d r) t hi) fails
+      (steady-at depth (flow_in d r) lo hi fails le (fills-change depth) fails-over fails-same)
+          (most_columns (row_of d r).n (flow_in d r) q) q below has e

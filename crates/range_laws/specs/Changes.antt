@@ -18,7 +18,8 @@ pub record LinesChange (d : FlowsData) (depth : ℕ) : Type 0 where
   pub column_changes : (f : Flow) (t : Token) (lo h : ℕ) → IsLeastOf (column (rows_to d depth) d f t lo).bounds h →
       (column (rows_to d depth) d f t lo).lines ≢ (column (rows_to d depth) d f t h).lines
   -- so are those of what a row makes of a height
-  pub fill_changes : (r : ℕ) (q : Token) (lo h : ℕ) → IsLeastOf ((rows_to d depth).fill r q lo).bounds h → ((rows_to d depth).fill r q lo).lines ≢ ((rows_to d depth).fill r q h).lines
+  pub fill_changes : (r : ℕ) (q : Token) (lo h : ℕ) → IsLeastOf ((rows_to d depth).fill r q lo).bounds h →
+      ((rows_to d depth).fill r q lo).lines ≢ ((rows_to d depth).fill r q h).lines
   -- and those of the columns that are judged
   pub judged_change : (r : ℕ) (q : Token) (lo h : ℕ) → IsLeastOf (bounds_of (judged (rows_to d depth) d r q lo)) h →
       lines_of (judged (rows_to d depth) d r q lo) ≢ lines_of (judged (rows_to d depth) d r q h)

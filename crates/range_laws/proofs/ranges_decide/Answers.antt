@@ -6,4 +6,5 @@ use Rattle.range_laws.proofs.Deciding.{ranges-decide}
 use Rattle.range_laws.proofs.ranges_decide.Goals as goal
 
 pub returns : goal.returns
-returns c = λ d sound r lt q place. ranges-decide d r q (ranges-reject d r q (tall-and-area-anywhere d sound r lt q place)) (sizes-least (all_rows d) d)
+returns c = λ d sound r lt q place. ranges-decide d r q (ranges-reject d r q (tall-and-area-anywhere d sound r lt q place))
+    (sizes-least (all_rows d) d)
