@@ -1,9 +1,7 @@
 -- Places in a flow before its end, and its end.
 use Rattle.std.proofs.Common.{◌≡◌, ℕ, zero, suc, ◌<◌, true, false, List, [], ◌∷◌, length, drop, sym, subst, arith}
 use Rattle.std.proofs.lemmas.Bool.Decides.{nat_tests}
-use Rattle.flow_data.specs.declared.data.Flow.{Flow}
-use Rattle.flow_data.specs.declared.data.FlowsData.{FlowsData}
-use Rattle.flow_data.specs.declared.data.Item.{Item}
+use Rattle.flow_list.specs.Data.{Flow, FlowsData, Item}
 use Rattle.flow_list.specs.Tokens.{Token, item_number, is_end, IsPlaceBefore}
 
 pub in-items : (d : FlowsData) (f : Flow) (t : Token) → IsPlaceBefore d f t → item_number t < length f.items

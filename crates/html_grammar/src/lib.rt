@@ -16,7 +16,7 @@ pub use laws::{
     texts_are_read, texts_have_their_doms, the_fault_is_the_first,
     the_fault_of_a_text_is_the_first, what_is_read_is_a_document, what_is_read_is_spelled,
 };
+pub use mc_base::Fault;
 pub use place::Place;
 pub use stage::{Open, Stage};
-pub use mc_base::Fault;
 pub use token::{Meaning, Piece, ReadAttribute, ReadAttributes, Spelled, Tag, Token, Value};
