@@ -53,11 +53,12 @@ module _ (d : FlowsData) (sound : IsSound d) (f : ℕ) (lt : f < length d.flows)
     reach_is_small = reach-small d sound f lt;
     needs_never_fall = λ t place. needs-rise (all_rows d) d here (sound.flows f no_flow lt) (item_number t) 0 0
         (steps_from (all_rows d) d here t) (column-steps (all_rows d) d here (sound.flows f no_flow lt) t place);
-    needs_are_small = λ t place. needs-small (all_rows d) d here (reach (all_rows d) d here t) (steps_from (all_rows d) d here t)
+    needs_are_small = λ t place. needs-small (all_rows d) d here (reach (all_rows d) d here t) (item_number t) (steps_from (all_rows d) d here t)
         (reach-small d sound f lt t)
         (within-reach (all_rows d) d here (reach (all_rows d) d here t) t (in-items d here t place) (omega arith));
     cuts_are_small = λ t place. All-from_recursion CutIsSmall (steps_from (all_rows d) d here t)
-        (cuts-small (all_rows d) d here (reach (all_rows d) d here t) (steps_from (all_rows d) d here t)
+        (cuts-small (all_rows d) d here (reach (all_rows d) d here t) (item_number t)
+        (steps_from (all_rows d) d here t)
         (reach-small d sound f lt t)
         (within-reach (all_rows d) d here (reach (all_rows d) d here t) t (in-items d here t place) (omega arith)));
     loose_needs_are_small = λ k known.

@@ -19,13 +19,13 @@ use Rattle.flow_data.proofs.OpenBoxes.{some-index}
 use Rattle.flow_list.specs.ClonedEdges.{open_across, bottoms}
 use Rattle.flow_list.specs.Strip.{Strip, put, lay_all}
 use Rattle.flow_list.specs.Tokens.{Token, row_start, item_number, within, is_end}
-use Rattle.flow_list.specs.Column.{Column, Inner, Step, cut, steps, strip_behind, steps_from, start_strip, row_from, is_forced, height_of, room, is_cut, fill_in_room, bounds_at, column, column_up_to, avoids_at}
+use Rattle.flow_list.specs.Column.{Column, Inner, Step, cut, step_at, steps, strip_behind, steps_from, start_strip, row_from, is_forced, height_of, room, is_cut, fill_in_room, bounds_at, column, column_up_to, avoids_at}
 use Rattle.flow_list.specs.Rows.{columns, columns_by, up_to, fill_in, rows_to, all_rows, reach}
 use Rattle.flow_list.specs.Ranges.{bounds_of}
 use Rattle.flow_list.proofs.Fitting.{open_across-le, strip-start}
 use Rattle.flow_list.proofs.PlaceBounds.{Each-append}
 use Rattle.flow_list.proofs.StripBounds.{put_le, lay_all_le}
-use Rattle.flow_laws.proofs.FillEnds.{OfStop, cut-of-steps}
+use Rattle.flow_list.proofs.ColumnParts.{EachFrom, OfStop, cut-stop, steps-each}
 use Rattle.flow_laws.proofs.LaidSums.{item_share, ahead, ahead-first, whole-le}
 use Rattle.flow_laws.proofs.Small.{size-total, all-total}
 use Rattle.flow_laws.proofs.SoundRows.{nests-by-number}
@@ -64,31 +64,34 @@ module _ (inner : Inner) (d : FlowsData) (f : Flow) (total : ℕ → ℕ) (sizes
       first None = r
       first (Some v) = v.0
 
-  steps-under : (s : Strip) (k : ℕ) (q : Token) (n : ℕ) → s.y + s.pending + ahead total f inner k + bottoms d (boxes_in f)
-      ≤ top → Each IsUnder (steps inner d f s k q n)
-  unfolding steps
-  steps-under s k q zero le = tt
-  steps-under s k q (suc n) le =
-      let here = ahead-first total f inner k in
-      let share = height-share (item_of f k) q in
-      let a = put_le s (height_of inner (item_of f k) q) in
-      let c = lay_all_le (put s (height_of inner (item_of f k) q)) (seam_of f (k + 1)).tail in
-      let m = lay_all_le (strip_behind inner f s k q) (seam_of f (k + 1)).head in
-      let feet : bottoms d (open_across f (k + 1)) ≤ bottoms d (boxes_in f) = open_across-le _ f (k + 1) in
-      let at : bottoms d (open_at f k) ≤ bottoms d (boxes_in f) = open_at-le _ f k in (
-        record { need = omega arith; cut = omega arith; row = λ u is. let e = row-share (item_of f k) q u is in omega arith },
-        go (is_forced (seam_of f (k + 1)).level) (steps-under (lay_all (strip_behind inner f s k q) (seam_of f (k + 1)).head)
-            (k + 1) row_start n (omega arith)),
-      )
+  -- what stands in this strip and from item k on is no more than the top
+  abbrev HasRoom : Strip → ℕ → Token → ℕ → Type 0
+  HasRoom s k q n = s.y + s.pending + ahead total f inner k + bottoms d (boxes_in f) ≤ top
+
+  steps-under : (s : Strip) (k : ℕ) (q : Token) (n : ℕ) → HasRoom s k q n → EachFrom (λ n. IsUnder) k (steps inner d f s k q n)
+  steps-under = steps-each inner d f HasRoom (λ n. IsUnder) here next
     where
-      more : List Step
-      more = steps inner d f (lay_all (strip_behind inner f s k q) (seam_of f (k + 1)).head) (k + 1) row_start n
+      here : (s : Strip) (k : ℕ) (q : Token) (n : ℕ) → HasRoom s k q (suc n) → IsUnder (step_at inner d f s k q)
+      here s k q n le =
+          let first = ahead-first total f inner k in
+          let share = height-share (item_of f k) q in
+          let a = put_le s (height_of inner (item_of f k) q) in
+          let c = lay_all_le (put s (height_of inner (item_of f k) q)) (seam_of f (k + 1)).tail in
+          let below : bottoms d (open_across f (k + 1)) ≤ bottoms d (boxes_in f) = open_across-le _ f (k + 1) in
+          let at : bottoms d (open_at f k) ≤ bottoms d (boxes_in f) = open_at-le _ f k in
+          record { need = omega arith; cut = omega arith; row = λ u is. let e = row-share (item_of f k) q u is in omega arith }
 
-      go : (x : Bool) → Each IsUnder more → Each IsUnder (elim x [ true ↦ [] | false ↦ more ])
-      go true r = tt
-      go false r = r
+      next : (s : Strip) (k : ℕ) (q : Token) (n : ℕ) → HasRoom s k q (suc n) →
+          HasRoom (lay_all (strip_behind inner f s k q) (seam_of f (k + 1)).head) (k + 1) row_start n
+      next s k q n le =
+          let first = ahead-first total f inner k in
+          let share = height-share (item_of f k) q in
+          let a = put_le s (height_of inner (item_of f k) q) in
+          let c = lay_all_le (put s (height_of inner (item_of f k) q)) (seam_of f (k + 1)).tail in
+          let m = lay_all_le (strip_behind inner f s k q) (seam_of f (k + 1)).head in
+          omega arith
 
-  from-under : (t : Token) → flow_height d f + sum_by total (rows_in f) ≤ top → Each IsUnder (steps_from inner d f t)
+  from-under : (t : Token) → flow_height d f + sum_by total (rows_in f) ≤ top → EachFrom (λ n. IsUnder) (item_number t) (steps_from inner d f t)
   from-under t le =
       let a = strip-start d f t in
       let w = whole-le total f d inner (item_number t) in
@@ -130,7 +133,7 @@ module _ (inner : Inner) (d : FlowsData) (f : Flow) (total : ℕ → ℕ) (sizes
     unfolding column
     column-bounds t h le =
         up-to-bounds (avoids_at d f) h (cut h (steps_from inner d f t)).before (cut h (steps_from inner d f t)).stop
-        (cut-of-steps IsUnder h (steps_from inner d f t) (from-under t le))
+        (cut-stop IsUnder h (item_number t) (steps_from inner d f t) (from-under t le))
 
 -- ---- of columns one after another
 

@@ -22,7 +22,8 @@ use Rattle.flow_list.specs.Certificate.{Use, Owned, owned_in_fill, owned_by, col
 use Rattle.flow_laws.specs.Depth.{ToldAlike}
 use Rattle.flow_laws.specs.Progress.{Contents, atoms_of_items, atoms_in, contents_to}
 use Rattle.flow_laws.proofs.DepthSame.{ItemAlike, ItemsAlike, item-at, height-same, steps-same, column-same, columns-same, left_in-same, items-alike, told-alike}
-use Rattle.flow_laws.proofs.FillEnds.{OfStop, IsStepFrom, stop-from}
+use Rattle.flow_list.proofs.ColumnParts.{OfStop}
+use Rattle.flow_laws.proofs.FillEnds.{IsStepFrom, stop-from}
 use Rattle.flow_laws.proofs.HeldSums.{height_held, size-held}
 use Rattle.flow_laws.proofs.LaidSums.{IsRowOf, share}
 use Rattle.flow_list.proofs.PlaceBounds.{IsNoLower}

@@ -2,12 +2,9 @@
 use Rattle.std.proofs.Common.{◌≡◌, ℕ, suc, ◌-◌, ◌<◌, ◌≤◌, false, List, [], ◌∷◌, ◌++◌, length, take, Option, Some, None, refl, sym, subst, ◌∙◌, ap, arith, inr, length-append}
 use Rattle.std.specs.Prelude.{AllPairs, ◌≢◌, flat_map}
 use Rattle.std.proofs.Math.Seq.{take-append_seam}
-use Rattle.mc_base.specs.PlainTree.{PlainTree, plain_trees}
-use Rattle.flow_data.specs.declared.data.Flow.{Flow}
-use Rattle.flow_data.specs.declared.data.FlowsData.{FlowsData}
-use Rattle.flow_data.specs.declared.data.Item.{Item}
-use Rattle.flow_data.specs.declared.data.Item.TheVariants.{Row}
-use Rattle.flow_data.specs.Flows.{row_of, flow_of, flow_in, item_of, no_row}
+use Rattle.mc_base.specs.PlainTree.{plain_trees, PlainTree}
+use Rattle.flow_list.specs.Data.{Flow, FlowsData, Item, Row}
+use Rattle.flow_data.specs.Flows.{row_of, flow_in, item_of, flow_of, no_row}
 use Rattle.flow_data.specs.Soundness.{IsSound}
 use Rattle.flow_list.specs.Tokens.{Token, row_start, item_number, within, IsPlaceBefore}
 use Rattle.flow_list.specs.Column.{Column, Inner}

@@ -5,10 +5,7 @@ use Rattle.std.proofs.lemmas.Bool.Decides.{nat_tests}
 use Rattle.std.proofs.lemmas.List.{append-nil, length-drop, drop-drop, drop_all, drop_more}
 use Rattle.std.specs.List.{AllByRecursion as Each}
 use Rattle.mc_base.specs.PlainTree.{PlainTree, plain_trees}
-use Rattle.flow_data.specs.declared.data.Flow.{Flow}
-use Rattle.flow_data.specs.declared.data.FlowsData.{FlowsData}
-use Rattle.flow_data.specs.declared.data.Item.{Item}
-use Rattle.flow_data.specs.declared.data.Item.TheVariants.{Atom, Row}
+use Rattle.flow_list.specs.Data.{Flow, FlowsData, Item, Atom, Row}
 use Rattle.flow_data.specs.Flows.{flow_in, item_of, no_item}
 use Rattle.flow_list.specs.Tokens.{Token, row_start, item_number, within, is_end, IsPlaceBefore}
 use Rattle.flow_list.specs.Column.{Inner, Step, room}

@@ -2,10 +2,8 @@
 use Rattle.std.proofs.Common.{ℕ, zero, suc, ◌+◌, ◌<◌, ◌≤◌, List, [], ◌∷◌, length, arith}
 use Rattle.std.specs.Prelude.{All}
 use Rattle.std.specs.List.{flat_map}
-use Rattle.flow_data.specs.declared.data.FlowsData.{FlowsData}
-use Rattle.flow_data.specs.declared.data.Item.{Item}
-use Rattle.flow_data.specs.declared.data.Item.TheVariants.{Atom, Row}
-use Rattle.flow_data.specs.Flows.{row_of, flow_of, flow_in, row_in, rows_in, no_flow, no_row}
+use Rattle.flow_list.specs.Data.{FlowsData, Item, Atom, Row}
+use Rattle.flow_data.specs.Flows.{row_of, flow_in, row_in, rows_in, no_flow, no_row, flow_of}
 use Rattle.flow_data.specs.Soundness.{IsSound, IsSoundItem, NestsAtMost}
 
 -- the rows in row r are rows of the data, and have items

@@ -2,8 +2,7 @@
 -- stacks together are no higher than all flows.
 use Rattle.std.proofs.Common.{◌≡◌, ℕ, suc, ◌+◌, ◌<◌, ◌≤◌, ◌^◌, length, Option, refl, arith, sum_by}
 use Rattle.std.proofs.lemmas.List.Sums.{get_or-le-sum_by}
-use Rattle.flow_data.specs.declared.data.FlowsData.{FlowsData}
-use Rattle.flow_data.specs.declared.data.Stack.{Stack}
+use Rattle.flow_list.specs.Data.{FlowsData, Stack}
 use Rattle.flow_data.specs.Flows.{row_of, stack_of, flow_of, rows_in, no_flow, no_stack}
 use Rattle.flow_data.specs.Soundness.{IsSound, flow_height}
 use Rattle.flow_list.specs.Rows.{rows_to, all_rows}

@@ -24,12 +24,7 @@ plain (forms.Solid u) t boxes next h = record { narrow = refl; stays = λ n. ref
 plain forms.Wall t boxes next h = record { narrow = refl; stays = λ n. refl; no_item = refl; counts = λ c. refl }
 plain (forms.Start number x w avoid top bottom) t boxes next h = record { narrow = refl; stays = λ n. refl; no_item = refl; counts = λ c. refl }
 plain (forms.End number) t boxes next h = record { narrow = refl; stays = λ n. refl; no_item = refl; counts = λ c. refl }
-plain forms.Flow t boxes next h = absurd cc
-plain (forms.First n w st available auto) t boxes next h = absurd cc
-plain (forms.Atom u) t boxes next h = absurd cc
-plain (forms.Row n w st x) t boxes next h = absurd cc
-plain (forms.Break level) t boxes next h = absurd cc
-plain forms.Close t boxes next h = absurd cc
+plain _ t boxes next h = absurd cc
 
 -- items
 items_are : (r : Rest) (t : Bool) (boxes : List ℕ) (after : List Line) → IsRest t boxes r → items (lines_of r after) ≡ all_items r + items after
