@@ -1,9 +1,9 @@
 -- Columns one after another: where one of them changes its lines, they change theirs together.
-use Rattle.std.proofs.Common.{◌≡◌, ℕ, zero, suc, ◌+◌, ◌-◌, ◌==◌, ◌<◌, ◌≤◌, ◌⊎◌, inl, inr, Bool, true, false, ◌&&◌, ◌||◌, cond, List, [], ◌∷◌, ◌++◌, length, map, refl, subst, sym, ◌∙◌, ap, arith, Option, Some, None}
+use Rattle.std.proofs.Common.{◌≡◌, ℕ, zero, suc, ◌==◌, ◌⊎◌, inl, inr, Bool, true, false, cond, List, [], ◌++◌, refl, subst, sym, ◌∙◌, ap}
 use Rattle.std.specs.List.{list_any}
 use Rattle.flow_data.specs.declared.data.Flow.{Flow}
 use Rattle.flow_list.specs.Tokens.{Token, is_end}
-use Rattle.flow_list.specs.Column.{Column, ColumnLine, deeper}
+use Rattle.flow_list.specs.Column.{Column, ColumnLine}
 use Rattle.flow_list.specs.Rows.{columns_by, up_to}
 use Rattle.flow_list.specs.Ranges.{bounds_of, lines_of}
 use Rattle.flow_list.proofs.Fitting.{columns_by-step, columns_by-past}
@@ -33,6 +33,7 @@ lines-start make f stops block (suc n) t = go (is_end f t) refl
   where
     first : (c : Column) (ls : List ColumnLine) → Block c.lines → Starts (c.lines ++ ls)
     first c ls (l, inner, at, e) = subst (λ xs. Starts (xs ++ ls)) (sym e) at
+
     go : (b : Bool) → is_end f t ≡ b → Starts (lines_of (up_to stops (columns_by make f (suc n) t)))
     go true e = subst (λ cs. Starts (lines_of (up_to stops cs))) (sym (columns_by-past make f (suc n) t e)) tt
     go false e = subst (λ cs. Starts (lines_of (up_to stops cs))) (sym (columns_by-step make f n t e))
@@ -53,15 +54,15 @@ module _ (f : Flow) (h : ℕ) (lo hi : Token → Column) (stops : Column → Boo
   one-step : (n : ℕ) (t : Token) → ((u : Token) → NoneBelow h (bounds_of (lows n u)) → Has h (bounds_of (lows n u)) →
       lines_of (lows n u) ≡ lines_of (highs n u) → ⊥) → is_end f t ≡ false →
       NoneBelow h ((lo t).bounds ++ bounds_of (cond (stops (lo t)) [] (lows n (lo t).end))) →
-          Has h ((lo t).bounds ++ bounds_of (cond (stops (lo t)) [] (lows n (lo t).end))) →
+      Has h ((lo t).bounds ++ bounds_of (cond (stops (lo t)) [] (lows n (lo t).end))) →
       (lo t).lines ++ lines_of (cond (stops (lo t)) [] (lows n (lo t).end)) ≡ (hi t).lines ++
-          lines_of (cond (stops (hi t)) [] (highs n (hi t).end)) → ⊥
+      lines_of (cond (stops (hi t)) [] (highs n (hi t).end)) → ⊥
   one-step n t later open_ below has same =
       let rest_lo = cond (stops (lo t)) [] (lows n (lo t).end) in
       let rest_hi = cond (stops (hi t)) [] (highs n (hi t).end) in
       let k = same-blocks (lo t).lines (hi t).lines (lines_of rest_lo) (lines_of rest_hi) (steady.block_lo t) (steady.block_hi t)
-          (cut-start (stops (lo t)) (lows n (lo t).end) (lines-start lo f stops steady.block_lo n (lo t).end))
-          (cut-start (stops (hi t)) (highs n (hi t).end) (lines-start hi f stops steady.block_hi n (hi t).end)) same in
+      (cut-start (stops (lo t)) (lows n (lo t).end) (lines-start lo f stops steady.block_lo n (lo t).end))
+      (cut-start (stops (hi t)) (highs n (hi t).end) (lines-start hi f stops steady.block_hi n (hi t).end)) same in
       which (list_any (λ b. b == h) (lo t).bounds) refl k.0 k.1 (has-parts h (lo t).bounds (bounds_of rest_lo) has)
     where
       further : ColumnStays (lo t) (hi t) → (o : Bool) → (lo t).overflow ≡ o → (s : Bool) → stops (lo t) ≡ s → (s2 : Bool) →
@@ -82,7 +83,7 @@ module _ (f : Flow) (h : ℕ) (lo hi : Token → Column) (stops : Column → Boo
       which false e first rest (inl here) = cc
       which false e first rest (inr there) =
           further (steady.stay t (above-each h (lo t).bounds e (below-left h (lo t).bounds _ below))) (lo t).overflow refl
-              (stops (lo t)) refl (stops (hi t)) refl
+          (stops (lo t)) refl (stops (hi t)) refl
           (below-right h (lo t).bounds _ below) there rest
 
   -- at the least bound of the columns their lines change
@@ -100,5 +101,5 @@ module _ (f : Flow) (h : ℕ) (lo hi : Token → Column) (stops : Column → Boo
           let l = columns_by-step lo f n t e in
           let m = columns_by-step hi f n t e in
           one-step n t later e (subst (λ cs. NoneBelow h (bounds_of (up_to stops cs))) l below)
-              (subst (λ cs. Has h (bounds_of (up_to stops cs))) l has)
+          (subst (λ cs. Has h (bounds_of (up_to stops cs))) l has)
           (sym (ap (λ cs. lines_of (up_to stops cs)) l) ∙ same ∙ ap (λ cs. lines_of (up_to stops cs)) m)

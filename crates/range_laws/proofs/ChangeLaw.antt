@@ -1,5 +1,5 @@
 -- The law that lines change at the least bound.
-use Rattle.std.proofs.Common.{◌≡◌, ℕ, zero, suc, ◌==◌, ◌<◌, ◌≤◌, ◌⊎◌, inl, inr, Bool, true, false, List, [], ◌∷◌, length, get_or, sym, arith}
+use Rattle.std.proofs.Common.{◌≡◌, ℕ, zero, suc, ◌==◌, ◌<◌, ◌≤◌, ◌⊎◌, inl, inr, List, [], ◌∷◌, length, get_or, arith}
 use Rattle.std.specs.Prelude.{All}
 use Rattle.std.specs.List.{list_any}
 use Rattle.std.proofs.lemmas.Bool.{cases_lt, or_left, or_right}
@@ -60,11 +60,11 @@ lines-change d sound depth = record {
   column_changes = λ f t lo h least same.
       let l = least-of lo h _ (column-above (rows_to d depth) (rows_to-above d depth) d f t lo) least in
       column-changes (rows_to d depth) (fills-change d (breaks-stay d) (λ inner. sizes-least inner d) (each-some d sound) depth) d
-          f t lo h l.le l.below l.has same;
+      f t lo h l.le l.below l.has same;
   fill_changes = λ r q lo h least same.
       let l = least-of lo h _ (rows_to-above d depth r q lo) least in
       (fills-change d (breaks-stay d) (λ inner. sizes-least inner d) (each-some d sound) depth).fill_changes r q lo h l.le l.below
-          l.has same;
+      l.has same;
   judged_change = λ r q lo h least same.
       let l = least-of lo h _ (judged-above-at d depth r q lo) least in
       judged-changes d (breaks-stay d) (λ inner. sizes-least inner d) (each-some d sound) depth r q lo h l.le l.below l.has same;

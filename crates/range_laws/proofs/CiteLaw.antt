@@ -1,5 +1,5 @@
 -- The law that each line of a range cites sizes that stand before it.
-use Rattle.std.proofs.Common.{◌≡◌, ℕ, suc, ◌==◌, ◌⊎◌, inl, inr, Bool, true, false, cond, List, [], ◌∷◌, length, refl, subst, sym, ◌∙◌, ap, arith, Option}
+use Rattle.std.proofs.Common.{◌≡◌, ℕ, ◌==◌, ◌⊎◌, inl, inr, false, cond, List, [], ◌∷◌, length, refl, subst, sym, ◌∙◌, ap, arith, Option}
 use Rattle.std.specs.Prelude.{All}
 use Rattle.std.specs.List.{flat_map}
 use Rattle.std.proofs.lemmas.Bool.Decides.{nat_tests}
@@ -10,7 +10,7 @@ use Rattle.flow_laws.specs.RangeLaws.{told_of, RangesAccount}
 use Rattle.flow_list.specs.Book.{AllStand}
 use Rattle.flow_list.specs.Certificate.{Use, column_owned, owned_to, range_owned, range_uses, uses_of}
 use Rattle.flow_list.specs.Column.{Column, ColumnLine, column}
-use Rattle.flow_list.specs.Ranges.{Range, Reason, tall, area, left, bad, over, judged, lines_of, ranges}
+use Rattle.flow_list.specs.Ranges.{Range, Reason, tall, area, left, bad, over, judged, lines_of}
 use Rattle.flow_list.specs.Rows.{fails, most_columns, rows_to, all_rows}
 use Rattle.flow_list.specs.Tokens.{Token}
 use Rattle.range_laws.specs.Cites.{HasListForEachLine, CitesStand, LinesCite}
@@ -32,9 +32,9 @@ module _ (d : FlowsData) (r : ℕ) (q : Token) where
   owned-length x =
       let n = length d.rows in
       chain-lists (λ t. column (rows_to d n) d (flow_in d r) t x.low) (flow_in d r) fails
-          (λ t. column_owned (owned_to d n) (rows_to d n) d (flow_in d r) t x.low)
+      (λ t. column_owned (owned_to d n) (rows_to d n) d (flow_in d r) t x.low)
       (λ t. column-lists (owned_to d n) (rows_to d n) (fills-have-lists d n) d (flow_in d r) t x.low)
-          (most_columns (row_of d r).n (flow_in d r) q) q
+      (most_columns (row_of d r).n (flow_in d r) q) q
 
   owned-stand : (book : List Use) (x : Range) → Stand book (uses_of (judged (all_rows d) d r q x.low)) →
       EachStand book (range_owned d r q x)
@@ -42,9 +42,9 @@ module _ (d : FlowsData) (r : ℕ) (q : Token) where
   owned-stand book x s =
       let n = length d.rows in
       chain-stand book (λ t. column (rows_to d n) d (flow_in d r) t x.low) (flow_in d r) fails
-          (λ t. column_owned (owned_to d n) (rows_to d n) d (flow_in d r) t x.low)
+      (λ t. column_owned (owned_to d n) (rows_to d n) d (flow_in d r) t x.low)
       (λ t. column-stand book (owned_to d n) (rows_to d n) (fills-stand book d n) d (flow_in d r) t x.low)
-          (most_columns (row_of d r).n (flow_in d r) q) q s
+      (most_columns (row_of d r).n (flow_in d r) q) q s
 
   told-cases : (low : ℕ) (w : Reason) → (told_of d r q low w ≡ []) ⊎ (told_of d r q low w ≡ judged (all_rows d) d r q low)
   told-cases low (tall k) = inl refl
@@ -83,7 +83,7 @@ module _ (d : FlowsData) (r : ℕ) (q : Token) where
   lines-cite-in book [] stand = All-nil (λ (x : Range). (x.lines ≡ []) ⊎ All (AllStand book) (range_owned d r q x))
   lines-cite-in book (x ∷ xs) stand =
       All-cons (λ (x : Range). (x.lines ≡ []) ⊎ All (AllStand book) (range_owned d r q x)) x xs (go (cites-stand x))
-          (lines-cite-in book xs (stand-back book (range_uses d r q x) (flat_map (range_uses d r q) xs) stand))
+      (lines-cite-in book xs (stand-back book (range_uses d r q x) (flat_map (range_uses d r q) xs) stand))
     where
       go : CitesStand d r q x → (x.lines ≡ []) ⊎ All (AllStand book) (range_owned d r q x)
       go (inl none) = inl none

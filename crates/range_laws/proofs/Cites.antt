@@ -1,14 +1,14 @@
 -- There is one list of sizes for each line of columns.
-use Rattle.std.proofs.Common.{◌≡◌, ℕ, zero, suc, ◌+◌, Bool, true, false, cond, List, [], ◌∷◌, ◌++◌, length, map, refl, subst, sym, ◌∙◌, ap, arith, Option, Some, None, length-append}
+use Rattle.std.proofs.Common.{◌≡◌, ℕ, zero, suc, Bool, true, false, cond, List, [], ◌∷◌, length, refl, subst, sym, ◌∙◌, ap, arith, Option, Some, None, length-append}
 use Rattle.std.proofs.lemmas.List.{length-map}
 use Rattle.flow_data.specs.declared.data.Flow.{Flow}
 use Rattle.flow_data.specs.declared.data.FlowsData.{FlowsData}
 use Rattle.flow_data.specs.Flows.{row_of, flow_in}
 use Rattle.flow_laws.proofs.RowsAdvance.{by-zero}
 use Rattle.flow_list.specs.Certificate.{Use, Owned, owned_in_fill, owned_by, column_owned, columns_owned, owned_to}
-use Rattle.flow_list.specs.Column.{Column, ColumnLine, Inner, Step, cut, steps_from, room, is_cut, fill_in_room, inner_lines, deeper, column, column_up_to, avoids_at}
+use Rattle.flow_list.specs.Column.{Column, Inner, Step, cut, steps_from, room, is_cut, fill_in_room, inner_lines, deeper, column, column_up_to, avoids_at}
 use Rattle.flow_list.specs.Ranges.{lines_of}
-use Rattle.flow_list.specs.Rows.{columns, columns_by, up_to, to_overflow, fill_in, rows_to}
+use Rattle.flow_list.specs.Rows.{columns_by, up_to, fill_in, rows_to}
 use Rattle.flow_list.specs.Tokens.{Token, is_end}
 use Rattle.flow_list.proofs.Fitting.{columns_by-step, columns_by-past}
 
@@ -64,5 +64,5 @@ unfolding owned_to rows_to fill_in
 fills-have-lists d zero r q a = refl
 fills-have-lists d (suc depth) r q a =
     chain-lists (λ t. column (rows_to d depth) d (flow_in d r) t a) (flow_in d r) (λ (c : Column). c.overflow)
-        (λ t. column_owned (owned_to d depth) (rows_to d depth) d (flow_in d r) t a)
+    (λ t. column_owned (owned_to d depth) (rows_to d depth) d (flow_in d r) t a)
     (λ t. column-lists (owned_to d depth) (rows_to d depth) (fills-have-lists d depth) d (flow_in d r) t a) (row_of d r).n q

@@ -1,5 +1,5 @@
 -- The sizes that the lines of columns cite are among those that the columns use.
-use Rattle.std.proofs.Common.{◌≡◌, ℕ, zero, suc, ◌+◌, refl, Bool, true, false, ◌&&◌, cond, List, [], ◌∷◌, ◌++◌, subst, sym, ap, Option, Some, None}
+use Rattle.std.proofs.Common.{◌≡◌, ℕ, zero, suc, ◌+◌, refl, Bool, true, false, cond, List, [], ◌∷◌, ◌++◌, subst, sym, Option, Some, None}
 use Rattle.std.specs.Prelude.{nat_lt, nat_le}
 use Rattle.std.proofs.lemmas.Bool.{and_parts}
 use Rattle.flow_data.specs.declared.data.Flow.{Flow}
@@ -7,7 +7,7 @@ use Rattle.flow_data.specs.declared.data.FlowsData.{FlowsData}
 use Rattle.flow_data.specs.Flows.{row_of, flow_in}
 use Rattle.flow_laws.proofs.RowsAdvance.{by-zero}
 use Rattle.flow_list.specs.Certificate.{Use, Owned, owned_in_fill, owned_by, column_owned, columns_owned, owned_to, uses_of}
-use Rattle.flow_list.specs.Column.{Column, Filled, Inner, Step, cut, steps_from, room, is_cut, fills, fill_in_room, inner_uses, rows_among, column, column_up_to, avoids_at}
+use Rattle.flow_list.specs.Column.{Column, Inner, Step, cut, steps_from, room, is_cut, fills, fill_in_room, inner_uses, rows_among, column, column_up_to, avoids_at}
 use Rattle.flow_list.specs.Rows.{columns, columns_by, up_to, fill_in, rows_to}
 use Rattle.flow_list.specs.Tokens.{Token, is_end}
 use Rattle.flow_list.proofs.Fitting.{columns_by-step, columns_by-past}
@@ -41,9 +41,11 @@ module _ (book : List Use) where
     up_to-stand : (avoids : ℕ → Bool) (h : ℕ) (before : List Step) (stop : Option Step) →
         Stand book (column_up_to inner avoids h before stop).uses → EachStand book (owned_by owned h before stop)
     up_to-stand avoids h before None s = (s, tt)
-    up_to-stand avoids h before (Some x) s =
-        (stand-front book (rows_among (before ++ x ∷ [])) _ s, go (is_cut x h) refl
-            (stand-back book (rows_among (before ++ x ∷ [])) _ s))
+    up_to-stand avoids h before (Some x) s = (
+      stand-front book (rows_among (before ++ x ∷ [])) _ s,
+      go (is_cut x h) refl
+          (stand-back book (rows_among (before ++ x ∷ [])) _ s),
+    )
       where
         go : (b : Bool) → is_cut x h ≡ b → Stand book (inner_uses (fills before x h) (fill_in_room inner x.row (room x h))) →
             EachStand book (cond b (owned_in_fill owned x.row (room x h)) [])
@@ -70,7 +72,7 @@ module _ (book : List Use) where
             EachStand book (columns_owned lists (make t).end (up_to stops (columns_by make f n (make t).end)))) →
             Stand book ((make t).uses ++ uses_of (cond b [] (up_to stops (columns_by make f n (make t).end)))) →
             EachStand book (lists t ++ columns_owned lists (make t).end
-                (cond b [] (up_to stops (columns_by make f n (make t).end))))
+            (cond b [] (up_to stops (columns_by make f n (make t).end))))
         first true later s = each-append book (lists t) [] (each t (stand-front book (make t).uses [] s)) tt
         first false later s = each-append book (lists t) _ (each t (stand-front book (make t).uses _ s))
             (later (stand-back book (make t).uses _ s))
@@ -83,7 +85,7 @@ module _ (book : List Use) where
         go false e later =
             let step = columns_by-step make f n t e in
             subst (λ cs. EachStand book (columns_owned lists t (up_to stops cs))) (sym step)
-                (first (stops (make t)) later (subst (λ cs. Stand book (uses_of (up_to stops cs))) step s))
+            (first (stops (make t)) later (subst (λ cs. Stand book (uses_of (up_to stops cs))) step s))
 
   -- the uses of the first of these columns
   front-stand : (stops : Column → Bool) (cs : List Column) → Stand book (uses_of cs) → Stand book (uses_of (up_to stops cs))
@@ -100,6 +102,6 @@ module _ (book : List Use) where
   fills-stand d zero r q a s = tt
   fills-stand d (suc depth) r q a s =
       chain-stand (λ t. column (rows_to d depth) d (flow_in d r) t a) (flow_in d r) (λ (c : Column). c.overflow)
-          (λ t. column_owned (owned_to d depth) (rows_to d depth) d (flow_in d r) t a)
+      (λ t. column_owned (owned_to d depth) (rows_to d depth) d (flow_in d r) t a)
       (λ t. column-stand (owned_to d depth) (rows_to d depth) (fills-stand d depth) d (flow_in d r) t a) (row_of d r).n q
       (front-stand (λ (c : Column). c.overflow) (columns (rows_to d depth) d (flow_in d r) (row_of d r).n q a) s)

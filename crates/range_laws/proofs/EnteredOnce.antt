@@ -15,8 +15,12 @@ Follow d book (u ∷ us) = Stand book (size_uses d u) × (stands_in book u ≡ f
 
 follow-append : (d : FlowsData) (book xs ys : List Use) → Follow d book xs → Follow d (book ++ xs) ys → Follow d book (xs ++ ys)
 follow-append d book [] ys f g = subst (λ bs. Follow d bs ys) (append-nil book) g
-follow-append d book (x ∷ xs) ys f g = (f.0, f.1, follow-append d (book ++
-    x ∷ []) xs ys f.2 (subst (λ bs. Follow d bs ys) (sym (append_assoc book (x ∷ []) xs)) g))
+follow-append d book (x ∷ xs) ys f g = (
+  f.0,
+  f.1,
+  follow-append d (book ++
+      x ∷ []) xs ys f.2 (subst (λ bs. Follow d bs ys) (sym (append_assoc book (x ∷ []) xs)) g),
+)
 
 -- what is entered after a book, and what is true of it
 pub record Entered (d : FlowsData) (b n : ℕ) (book us after : List Use) : Type 0 where
@@ -34,10 +38,10 @@ module _ (d : FlowsData) (n : ℕ) (deeper : (u : Use) → u.0 < n → Above (u.
   one-entered b book us u first after le lt none one rest =
       let new : after ≡ (first ++ u ∷ []) ++ rest.more = rest.is in
       let at : first ++ u ∷ [] ≡ book ++ (one.more ++ u ∷ []) = ap (λ xs. xs ++ u ∷ []) one.is
-          ∙ append_assoc book one.more (u ∷ []) in
+      ∙ append_assoc book one.more (u ∷ []) in
       let fresh : stands_in first u ≡ false =
-          ap (λ xs. stands_in xs u) one.is ∙ (list_any-append (same_use u) book one.more
-              ∙ or_from (stands_in book u) (stands_in one.more u) none (not-above u n one.more one.above)) in
+      ap (λ xs. stands_in xs u) one.is ∙ (list_any-append (same_use u) book one.more
+      ∙ or_from (stands_in book u) (stands_in one.more u) none (not-above u n one.more one.above)) in
       let stand : Stand (book ++ one.more) (size_uses d u) = subst (λ xs. Stand xs (size_uses d u)) one.is one.stand in
       record {
         more = (one.more ++ u ∷ []) ++ rest.more;
@@ -82,4 +86,4 @@ module _ (d : FlowsData) (n : ℕ) (deeper : (u : Use) → u.0 < n → Above (u.
   entered-follow zero b le book (u ∷ us) a = let k = a.0 in let m = a.1 in absurd (omega arith)
   entered-follow (suc depth) b le book us a =
       with-first (λ c u. entered d depth c (size_uses d u)) b
-          (λ c u from lt. entered-follow depth (u.0 + 1) (omega arith) c (size_uses d u) (deeper u lt)) book us a
+      (λ c u from lt. entered-follow depth (u.0 + 1) (omega arith) c (size_uses d u) (deeper u lt)) book us a

@@ -3,7 +3,7 @@
 use Rattle.std.proofs.Common.{◌≡◌, ℕ, zero, suc, Bool, true, false, cond, List, [], ◌∷◌, ◌++◌, length, refl, subst, sym, ◌∙◌, ap}
 use Rattle.std.proofs.lemmas.List.{append_assoc, append-nil}
 use Rattle.flow_data.specs.declared.data.FlowsData.{FlowsData}
-use Rattle.flow_list.specs.Book.{AllStand, after_uses}
+use Rattle.flow_list.specs.Book.{after_uses}
 use Rattle.flow_list.specs.Certificate.{Use, stands_in, size_uses, entered, entered_with}
 use Rattle.range_laws.specs.Entering.{Extends, UsesEnter}
 use Rattle.range_laws.proofs.Standing.{Stand, stand-more, stand-here, stand-all, all-stand}
@@ -18,8 +18,11 @@ with-append first book [] vs = refl
 with-append first book (u ∷ us) vs = with-append first (one_more first book u) us vs
 
 extends-trans : (a b c : List Use) → Extends a b → Extends b c → Extends a c
-extends-trans a b c s t = record { more = s.more ++ t.more; is = t.is ∙ ap (λ xs. xs ++ t.more) s.is
-    ∙ append_assoc a s.more t.more }
+extends-trans a b c s t = record {
+  more = s.more ++ t.more;
+  is = t.is ∙ ap (λ xs. xs ++ t.more) s.is
+      ∙ append_assoc a s.more t.more;
+}
 
 extends-same : (a : List Use) → Extends a a
 extends-same a = record { more = []; is = sym (append-nil a) }

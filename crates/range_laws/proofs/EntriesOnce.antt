@@ -1,5 +1,5 @@
 -- The entries of the certificate: their sizes are the book, and each stands after the sizes that it uses.
-use Rattle.std.proofs.Common.{◌≡◌, ℕ, ◌+◌, ◌<◌, ◌≤◌, arith, ◌⊎◌, inl, inr, Bool, true, false, cond, List, [], ◌∷◌, ◌++◌, length, map, drop, refl, subst, sym, ◌∙◌, ap}
+use Rattle.std.proofs.Common.{◌≡◌, ◌+◌, ◌<◌, arith, ◌⊎◌, inl, inr, Bool, true, false, cond, List, [], ◌∷◌, ◌++◌, length, map, drop, refl, sym, ◌∙◌, ap}
 use Rattle.std.specs.Prelude.{All}
 use Rattle.std.specs.List.{flat_map}
 use Rattle.std.proofs.lemmas.List.{append_assoc, append-nil}
@@ -12,7 +12,7 @@ use Rattle.flow_list.specs.Book.{AllStand, IsTrueBook, after_uses}
 use Rattle.flow_list.specs.Certificate.{Use, StackRow, Entry, size_entry, row_entry, auto_entry, entry_of, range_uses, range_owned, size_ranges, row_ranges, size_uses, row_uses, row_book, entries_behind, book_behind, rows_in_stacks, certificate, book_of}
 use Rattle.range_laws.specs.Entering.{Extends}
 use Rattle.range_laws.specs.Entries.{size_in_entry, row_in_entry, sizes_in_entries, rows_in_entries, entry_uses, place_in_entry, ranges_in_entry, LinesCiteIn, EntriesStandOnce}
-use Rattle.range_laws.proofs.Above.{Above, above-less}
+use Rattle.range_laws.proofs.Above.{above-less}
 use Rattle.range_laws.proofs.Entering.{uses-enter}
 use Rattle.range_laws.proofs.CiteLaw.{lines-cite-in}
 use Rattle.range_laws.proofs.RowUses.{row-above}
@@ -115,7 +115,7 @@ module _ (d : FlowsData) where
   sizes-after book r es =
       let new = new_sizes book r in
       ap (λ xs. book ++ xs) (flat_map-append size_in_entry (map size_entry new) (entry_of d r ∷ es)
-          ∙ ap (λ xs. xs ++ sizes_in_entries (entry_of d r ∷ es)) (sizes-of new) ∙ ap (λ xs. new ++ xs) (row-entry-sizes r es))
+      ∙ ap (λ xs. xs ++ sizes_in_entries (entry_of d r ∷ es)) (sizes-of new) ∙ ap (λ xs. new ++ xs) (row-entry-sizes r es))
       ∙ sym (append_assoc book new (sizes_in_entries es)) ∙ ap (λ xs. xs ++ sizes_in_entries es) (with-new book r)
 
   entries-sizes : (book : List Use) (rs : List StackRow) → book ++ sizes_in_entries (entries_behind d book rs) ≡
@@ -144,21 +144,21 @@ module _ (d : FlowsData) (sound : IsSound d) where
   unfolding after_uses
   row-true book r lt t =
       stays-true d sound book (row_uses d r.row r.available)
-          (above-less 0 (r.row + 1) (length d.rows) (row_uses d r.row r.available) (omega arith)
-          (row-above d (length d.rows) (later-rows d sound) r.row lt r.available)) t
+      (above-less 0 (r.row + 1) (length d.rows) (row_uses d r.row r.available) (omega arith)
+      (row-above d (length d.rows) (later-rows d sound) r.row lt r.available)) t
 
   book-true : (book : List Use) (rs : List StackRow) → AreKnown rs → IsTrueBook d book → IsTrueBook d (book_behind d book rs)
   book-true book [] known t = t
   book-true book (r ∷ rs) known t =
       book-true (row_book d book r) rs (All-tail (λ (x : StackRow). x.row < length d.rows) r rs known)
-          (row-true book r (All-head (λ (x : StackRow). x.row < length d.rows) r rs known) t)
+      (row-true book r (All-head (λ (x : StackRow). x.row < length d.rows) r rs known) t)
 
   -- an entry among those of a row's sizes
   among-sizes : (book : List Use) (r : StackRow) (first : List Entry) (e : Entry) → IsTrueBook d (row_book d book r) →
       SizesTo (new_sizes d book r) first e → AllStand (book ++ sizes_in_entries first) (entry_uses d e)
   among-sizes book r first e t s =
       let split : row_book d book r ≡ (book ++ s.before) ++ s.u ∷ s.after = sym (with-new d book r)
-          ∙ ap (λ xs. book ++ xs) s.sizes_are ∙ sym (append_assoc book s.before (s.u ∷ s.after)) in
+      ∙ ap (λ xs. book ++ xs) s.sizes_are ∙ sym (append_assoc book s.before (s.u ∷ s.after)) in
       let stand : AllStand (book ++ s.before) (size_uses d s.u) = t.after_its_uses (book ++ s.before) s.u s.after split in
       let sizes : sizes_in_entries first ≡ s.before = ap sizes_in_entries s.first_is ∙ sizes-of s.before in
       rw (sizes, s.entry_is) stand
@@ -170,9 +170,9 @@ module _ (d : FlowsData) (sound : IsSound d) where
   uses-before book [] known t (x ∷ first) e rest split = absurd cc
   uses-before book (r ∷ rs) known t first e rest split =
       go (either-list (map size_entry (new_sizes d book r)) (entry_of d r ∷ entries_behind d (row_book d book r) rs) first rest e
-          split)
+      split)
       (λ mid later. uses-before (row_book d book r) rs (All-tail (λ (x : StackRow). x.row < length d.rows) r rs known) next mid e
-          rest later)
+      rest later)
     where
       next : IsTrueBook d (row_book d book r)
       next = row-true book r (All-head (λ (x : StackRow). x.row < length d.rows) r rs known) t
@@ -180,12 +180,12 @@ module _ (d : FlowsData) (sound : IsSound d) where
       own : (mid : List Entry) → entry_of d r ∷ entries_behind d (row_book d book r) rs ≡ mid ++ e ∷ rest →
           first ≡ map size_entry (new_sizes d book r) ++ mid →
           ((mid : List Entry) → entries_behind d (row_book d book r) rs ≡ mid ++ e ∷ rest →
-              AllStand (row_book d book r ++ sizes_in_entries mid) (entry_uses d e)) →
-              AllStand (book ++ sizes_in_entries first) (entry_uses d e)
+          AllStand (row_book d book r ++ sizes_in_entries mid) (entry_uses d e)) →
+          AllStand (book ++ sizes_in_entries first) (entry_uses d e)
       own [] here is later =
           let same : e ≡ entry_of d r = cc in
           let sizes : sizes_in_entries first ≡ new_sizes d book r =
-              ap sizes_in_entries (is ∙ append-nil (map size_entry (new_sizes d book r))) ∙ sizes-of (new_sizes d book r) in
+          ap sizes_in_entries (is ∙ append-nil (map size_entry (new_sizes d book r))) ∙ sizes-of (new_sizes d book r) in
           let at : book ++ sizes_in_entries first ≡ row_book d book r = ap (λ xs. book ++ xs) sizes ∙ with-new d book r in
           let uses : entry_uses d e ≡ row_uses d r.row r.available = ap (entry_uses d) same ∙ row-entry-uses d r in
           rw (at, uses) (row-stands d book r)
@@ -193,16 +193,16 @@ module _ (d : FlowsData) (sound : IsSound d) where
           let head : entry_of d r ≡ m = cc in
           let tail : entries_behind d (row_book d book r) rs ≡ mid ++ e ∷ rest = cc in
           let at : book ++ sizes_in_entries first ≡ row_book d book r ++ sizes_in_entries mid =
-              ap (λ es. book ++ sizes_in_entries es) (is ∙ ap (λ x. map size_entry (new_sizes d book r) ++ x ∷ mid) (sym head))
-                  ∙ sizes-after d book r mid in
+          ap (λ es. book ++ sizes_in_entries es) (is ∙ ap (λ x. map size_entry (new_sizes d book r) ++ x ∷ mid) (sym head))
+          ∙ sizes-after d book r mid in
           rw at (later mid tail)
 
       go : ((more : List Entry) × (map size_entry (new_sizes d book r) ≡ first ++ e ∷ more)) ⊎
           ((mid : List Entry) × (first ≡ map size_entry (new_sizes d book r) ++ mid) ×
           (entry_of d r ∷ entries_behind d (row_book d book r) rs ≡ mid ++ e ∷ rest)) →
           ((mid : List Entry) → entries_behind d (row_book d book r) rs ≡ mid ++ e ∷ rest →
-              AllStand (row_book d book r ++ sizes_in_entries mid) (entry_uses d e)) →
-              AllStand (book ++ sizes_in_entries first) (entry_uses d e)
+          AllStand (row_book d book r ++ sizes_in_entries mid) (entry_uses d e)) →
+          AllStand (book ++ sizes_in_entries first) (entry_uses d e)
       go (inl m) later = among-sizes book r first e next (sizes-to (new_sizes d book r) first m.0 e m.1)
       go (inr m) later = own m.0 m.2 m.1 later
 
@@ -213,7 +213,7 @@ module _ (d : FlowsData) (sound : IsSound d) where
       (stand-front book (flat_map (range_uses d u.0 u.1) (size_ranges d u.0 u.1)) _ (all-stand book _ stand))
   cites-in book (row_entry r) stand =
       lines-cite-in d r.row row_start book (row_ranges d r.row r.available)
-          (stand-front book (flat_map (range_uses d r.row row_start) (row_ranges d r.row r.available)) _ (all-stand book _ stand))
+      (stand-front book (flat_map (range_uses d r.row row_start) (row_ranges d r.row r.available)) _ (all-stand book _ stand))
   cites-in book (auto_entry r) stand = All-nil (λ (x : Range). (x.lines ≡ []) ⊎
       All (AllStand book) (range_owned d r.row row_start x))
 

@@ -32,13 +32,16 @@ steps-above inner d f b n each s k q zero = tt
 steps-above inner d f b n each s k q (suc m) =
     above-append b n (row_list (row_from (item_of f k) q)) _ (row-above b n q (item_of f k) (each k))
     (go (is_forced (seam_of f (k + 1)).level) (steps-above inner d f b n each
-        (lay_all (strip_behind inner f s k q) (seam_of f (k + 1)).head) (k + 1) row_start m))
+    (lay_all (strip_behind inner f s k q) (seam_of f (k + 1)).head) (k + 1) row_start m))
   where
     go : (x : Bool) →
         Above b n (rows_among (steps inner d f (lay_all (strip_behind inner f s k q) (seam_of f (k + 1)).head) (k + 1) row_start
         m)) →
-        Above b n (rows_among (elim x as (λ _. List Step) [ true ↦ [] | false ↦ steps inner d f
-            (lay_all (strip_behind inner f s k q) (seam_of f (k + 1)).head) (k + 1) row_start m ]))
+        Above b n (rows_among (elim x as (λ _. List Step) [
+          | true ↦ []
+          | false ↦ steps inner d f
+              (lay_all (strip_behind inner f s k q) (seam_of f (k + 1)).head) (k + 1) row_start m
+        ]))
     go true a = tt
     go false a = a
 
@@ -51,15 +54,16 @@ cut-rows : (b n h : ℕ) (ss : List Step) → Above b n (rows_among ss) →
 cut-rows b n h [] a = tt
 cut-rows b n h (x ∷ ss) a =
     go (nat_lt h x.need) (above-front b n (row_list x.row) (rows_among ss) a)
-        (cut-rows b n h ss (above-back b n (row_list x.row) (rows_among ss) a))
+    (cut-rows b n h ss (above-back b n (row_list x.row) (rows_among ss) a))
   where
     stopped : (o : Option Step) → Above b n (row_list x.row) → Above b n (rows_among (with_stop (cut h ss).before o)) →
         Above b n (rows_among (with_stop (x ∷ (cut h ss).before) o))
     stopped None one more = above-append b n (row_list x.row) _ one more
     stopped (Some s) one more = above-append b n (row_list x.row) _ one more
+
     go : (c : Bool) → Above b n (row_list x.row) → Above b n (rows_among (with_stop (cut h ss).before (cut h ss).stop)) →
         Above b n (rows_among (with_stop (cond c (record { before = []; stop = Some x }) (longer x (cut h ss))).before
-            (cond c (record { before = []; stop = Some x }) (longer x (cut h ss))).stop))
+        (cond c (record { before = []; stop = Some x }) (longer x (cut h ss))).stop))
     go true one more = above-append b n (row_list x.row) [] one tt
     go false one more = stopped (cut h ss).stop one more
 
@@ -77,7 +81,7 @@ unfolding column
 column-above inner n law d f b each t h =
     go (cut h (steps_from inner d f t)).before (cut h (steps_from inner d f t)).stop
     (cut-rows b n h (steps_from inner d f t) (steps-above inner d f b n each (start_strip d f t) (item_number t) (within t)
-        (length f.items - item_number t)))
+    (length f.items - item_number t)))
   where
     inside : (x : Bool) (s : Step) (o : Option Use) → Above b n (row_list o) →
         Above b n (inner_uses x (fill_in_room inner o (room s h)))
@@ -85,6 +89,7 @@ column-above inner n law d f b each t h =
     inside true s (Some row) a = let le = a.0 in above-less b (row.0 + 1) n (inner.fill row.0 row.1 (room s h)).uses (omega arith)
         (law row.0 row.1 (room s h) a.1)
     inside false s (Some row) a = tt
+
     go : (before : List Step) (o : Option Step) → Above b n (rows_among (with_stop before o)) →
         Above b n (column_up_to inner (avoids_at d f) h before o).uses
     go before None a = a
@@ -107,7 +112,7 @@ stopped-above : (b n : ℕ) (stops : Column → Bool) (cs : List Column) → Abo
 stopped-above b n stops [] a = tt
 stopped-above b n stops (c ∷ cs) a =
     above-append b n c.uses _ (above-front b n c.uses (uses_of cs) a)
-        (go (stops c) (stopped-above b n stops cs (above-back b n c.uses (uses_of cs) a)))
+    (go (stops c) (stopped-above b n stops cs (above-back b n c.uses (uses_of cs) a)))
   where
     go : (x : Bool) → Above b n (uses_of (up_to stops cs)) → Above b n (uses_of (cond x [] (up_to stops cs)))
     go true k = tt
@@ -132,7 +137,7 @@ module _ (d : FlowsData) (n : ℕ) (sound : (r : ℕ) → r < n → HoldsAbove (
   unfolding judged
   judged-use r lt q h =
       stopped-above (r + 1) n fails (columns (all_rows d) d (flow_in d r) (most_columns (row_of d r).n (flow_in d r) q) q h)
-          (made-above r lt (most_columns (row_of d r).n (flow_in d r) q) q h)
+      (made-above r lt (most_columns (row_of d r).n (flow_in d r) q) q h)
 
   pub ranges-use : (r : ℕ) → r < n → (q : Token) (xs : List Range) → Above (r + 1) n (flat_map (range_uses d r q) xs)
   ranges-use r lt q [] = tt
@@ -149,5 +154,5 @@ module _ (d : FlowsData) (n : ℕ) (sound : (r : ℕ) → r < n → HoldsAbove (
   unfolding size_uses
   size-deeper u lt =
       above-append (u.0 + 1) n (flat_map (range_uses d u.0 u.1) (size_ranges d u.0 u.1)) _
-          (ranges-use u.0 lt u.1 (size_ranges d u.0 u.1))
+      (ranges-use u.0 lt u.1 (size_ranges d u.0 u.1))
       (made-above u.0 lt (left_in (all_rows d) (flow_in d u.0) u.1) u.1 (size_of d u.0 u.1))

@@ -1,5 +1,5 @@
 -- The lines of columns one after another: each column's own line, and deeper ones after it.
-use Rattle.std.proofs.Common.{◌≡◌, ℕ, zero, suc, ◌+◌, ◌-◌, ◌==◌, ◌<◌, ◌≤◌, ◌⊎◌, inl, inr, Bool, true, false, ◌&&◌, ◌||◌, cond, List, [], ◌∷◌, ◌++◌, length, map, refl, subst, sym, ◌∙◌, ap, arith, Option, Some, None}
+use Rattle.std.proofs.Common.{◌≡◌, ℕ, ◌+◌, Bool, true, false, List, [], ◌∷◌, ◌++◌, map, refl, sym, ◌∙◌, ap, arith, Option, Some, None}
 use Rattle.flow_data.specs.declared.data.Flow.{Flow}
 use Rattle.flow_data.specs.declared.data.FlowsData.{FlowsData}
 use Rattle.flow_list.specs.Tokens.{Token}
@@ -69,6 +69,7 @@ column-block inner d f t h = go (cut h (steps_from inner d f t)).before (cut h (
     inside b None = ([], refl)
     inside true (Some filled) = (filled.lines, refl)
     inside false (Some filled) = ([], refl)
+
     go : (before : List Step) (stop : Option Step) → Block (column_up_to inner (avoids_at d f) h before stop).lines
     go before None = block-cons _ _ [] refl refl
     go before (Some s) = let k = inside (is_cut s h) (fill_in_room inner s.row (room s h)) in block-cons _ _ k.0 refl k.1

@@ -90,14 +90,17 @@ module _ (d : FlowsData) (r : ℕ) (q : Token) (changes : JudgedChange d r q) wh
     where
       by_bound : FromDiffer top n → is_past top low ≡ false → (w : Reason) → tells w ≡ true → (o : Option ℕ) →
           least_bound top (bounds_of (columns_at low)) ≡ o →
-          NoTwins last (elim o as (λ _. List Range) [ None ↦ [] | Some high ↦ range_at low high w ∷ searched (all_rows d) d r q
-              top n high ])
+          NoTwins last (elim o as (λ _. List Range) [
+            | None ↦ []
+            | Some high ↦ range_at low high w ∷ searched (all_rows d) d r q
+                top n high
+          ])
       by_bound later past w t None is = tt
       by_bound later past w t (Some high) is =
           let lt : low < high = subst (λ o. IfSome o (λ h. low < h)) is
-              (least-above top (bounds_of (columns_at low)) low past (judged-above d r q low)) in
+          (least-above top (bounds_of (columns_at low)) low past (judged-above d r q low)) in
           differs top last low high w b past t (searched (all_rows d) d r q top n high)
-              (later high (Some (range_at low high w)) (inr (low, lt, is, refl)))
+          (later high (Some (range_at low high w)) (inr (low, lt, is, refl)))
 
       by_reason : FromDiffer top n → is_past top low ≡ false → (o : Option Reason) → Speaks o →
           NoTwins last (elim o as (λ _. List Range) [
@@ -112,9 +115,9 @@ module _ (d : FlowsData) (r : ℕ) (q : Token) (changes : JudgedChange d r q) wh
           NoTwins last (elim p as (λ _. List Range) [
             | true ↦ []
             | false ↦ elim (reason_of (flow_in d r) 1 q (columns_at low)) as (λ _. List Range) [
-                | None ↦ []
-                | Some w ↦ elim (least_bound top (bounds_of (columns_at low))) as (λ _. List Range)
-                    [ None ↦ [] | Some high ↦ range_at low high w ∷ searched (all_rows d) d r q top n high ]
+              | None ↦ []
+              | Some w ↦ elim (least_bound top (bounds_of (columns_at low))) as (λ _. List Range)
+                  [ None ↦ [] | Some high ↦ range_at low high w ∷ searched (all_rows d) d r q top n high ]
             ]
           ])
       go later true e = tt
@@ -174,10 +177,10 @@ ranges-differ d r q changes available =
     let best = tallest_from (all_rows d) d f q in
     let wide = spread (atoms_height f q) (most_columns (row_of d r).n f q) in
     all-differ _ (parts-differ (range_up_to top 0 best.need (tall best.item)) best.item
-        (up-to-one top 0 best.need (tall best.item)) (range_up_to top best.need wide area) (up-to-one top best.need wide area)
+    (up-to-one top 0 best.need (tall best.item)) (range_up_to top best.need wide area) (up-to-one top best.need wide area)
     (searched (all_rows d) d r q top (reach (all_rows d) d f q + 1) (max best.need wide))
-        (λ last b. searched-differ d r q changes top (reach (all_rows d) d f q + 1) (max best.need wide) last
-        (before top (max best.need wide) last b)))
+    (λ last b. searched-differ d r q changes top (reach (all_rows d) d f q + 1) (max best.need wide) last
+    (before top (max best.need wide) last b)))
   where
     before : (top : Option ℕ) (low : ℕ) (last : Option Range) → IfSome last (λ b. tells b.reason ≡ false) →
         Before d r q changes top last low

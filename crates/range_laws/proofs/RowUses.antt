@@ -1,11 +1,11 @@
 -- What a row directly in a stack uses are sizes of the data's rows.
-use Rattle.std.proofs.Common.{◌≡◌, ℕ, ◌+◌, ◌-◌, ◌<◌, Bool, true, false, cond, List, [], ◌∷◌, ◌++◌, length, Option, Some, None, arith}
+use Rattle.std.proofs.Common.{ℕ, ◌+◌, ◌-◌, ◌<◌, length, Option, Some, None}
 use Rattle.std.specs.List.{flat_map}
 use Rattle.flow_data.specs.declared.data.Flow.{Flow}
 use Rattle.flow_data.specs.declared.data.FlowsData.{FlowsData}
-use Rattle.flow_data.specs.Flows.{row_of, flow_in}
-use Rattle.flow_list.specs.Certificate.{Use, uses_of, range_uses, row_ranges, row_uses}
-use Rattle.flow_list.specs.Column.{Inner, steps_from, start_strip, column, endless_column}
+use Rattle.flow_data.specs.Flows.{flow_in}
+use Rattle.flow_list.specs.Certificate.{uses_of, range_uses, row_ranges, row_uses}
+use Rattle.flow_list.specs.Column.{Inner, start_strip, endless_column}
 use Rattle.flow_list.specs.RowHeights.{column_within, row_columns, columns_of_row}
 use Rattle.flow_list.specs.Rows.{left_in, rows_to, all_rows}
 use Rattle.flow_list.specs.Tokens.{Token, row_start, item_number, within}
@@ -34,4 +34,4 @@ module _ (d : FlowsData) (n : ℕ) (later : (r : ℕ) → r < n → HoldsAbove (
   unfolding row_uses columns_of_row
   row-above r lt available =
       above-append (r + 1) n (flat_map (range_uses d r row_start) (row_ranges d r available)) _
-          (ranges-use d n later r lt row_start (row_ranges d r available)) (row-columns-above r lt _)
+      (ranges-use d n later r lt row_start (row_ranges d r available)) (row-columns-above r lt _)

@@ -1,5 +1,5 @@
 -- At the least bound the lines of columns change, also of those in rows in rows.
-use Rattle.std.proofs.Common.{◌≡◌, ℕ, zero, suc, ◌+◌, ◌-◌, ◌==◌, ◌<◌, ◌≤◌, ◌⊎◌, inl, inr, Bool, true, false, ◌&&◌, ◌||◌, cond, List, [], ◌∷◌, ◌++◌, length, map, refl, subst, sym, ◌∙◌, ap, arith, Option, Some, None}
+use Rattle.std.proofs.Common.{◌≡◌, ℕ, zero, suc, ◌<◌, ◌≤◌, Bool, true, false, List, [], ◌∷◌, ◌++◌, length, map, refl, sym, ◌∙◌, ap, arith}
 use Rattle.std.specs.Prelude.{nat_lt}
 use Rattle.std.proofs.lemmas.Bool.{or_left}
 use Rattle.std.proofs.lemmas.Bool.Decides.{nat_tests}
@@ -8,7 +8,7 @@ use Rattle.flow_data.specs.declared.data.FlowsData.{FlowsData}
 use Rattle.flow_data.specs.Flows.{row_of, flow_in}
 use Rattle.flow_list.specs.Tokens.{Token, item_number, is_end}
 use Rattle.flow_list.specs.Column.{Column, ColumnLine, Inner, deeper, column}
-use Rattle.flow_list.specs.Rows.{columns_by, fails, to_overflow, fill_in, rows_to, size_in, most_columns, all_rows}
+use Rattle.flow_list.specs.Rows.{columns_by, fails, to_overflow, fill_in, rows_to, size_in, most_columns}
 use Rattle.flow_list.specs.Ranges.{judged, bounds_of, lines_of}
 use Rattle.flow_list.proofs.Fitting.{columns_by-step}
 use Rattle.flow_laws.specs.LeastHeight.{SizesAreLeast}
@@ -60,12 +60,12 @@ module _ (d : FlowsData) (constant : (depth : ℕ) → BreaksAreConstant d depth
       record {
         fill_changes = λ r q lo hi le below has e.
             chain-changes (flow_in d r) hi (λ t. column (rows_to d depth) d (flow_in d r) t lo)
-                (λ t. column (rows_to d depth) d (flow_in d r) t hi) (λ (c : Column). c.overflow)
+            (λ t. column (rows_to d depth) d (flow_in d r) t hi) (λ (c : Column). c.overflow)
             (steady-at depth (flow_in d r) lo hi (λ (c : Column). c.overflow) le law (λ c o. o) (λ a b o stays. stays.overflow))
-                (row_of d r).n q below has e;
+            (row_of d r).n q below has e;
         fill_tells = λ r q h lt e.
             columns-some (λ t. column (rows_to d depth) d (flow_in d r) t h) (flow_in d r) (row_of d r).n q
-                (λ t. column-block (rows_to d depth) d (flow_in d r) t h) (some r) (size-open (rows_to d depth) r q lt) e;
+            (λ t. column-block (rows_to d depth) d (flow_in d r) t h) (some r) (size-open (rows_to d depth) r q lt) e;
       }
 
   fails-over : (c : Column) → c.overflow ≡ true → fails c ≡ true
@@ -81,6 +81,6 @@ module _ (d : FlowsData) (constant : (depth : ℕ) → BreaksAreConstant d depth
   unfolding judged
   judged-changes depth r q lo hi le below has e =
       chain-changes (flow_in d r) hi (λ t. column (rows_to d depth) d (flow_in d r) t lo)
-          (λ t. column (rows_to d depth) d (flow_in d r) t hi) fails
+      (λ t. column (rows_to d depth) d (flow_in d r) t hi) fails
       (steady-at depth (flow_in d r) lo hi fails le (fills-change depth) fails-over fails-same)
-          (most_columns (row_of d r).n (flow_in d r) q) q below has e
+      (most_columns (row_of d r).n (flow_in d r) q) q below has e

@@ -15,13 +15,12 @@ use Rattle.flow_data.specs.declared.data.Item.{Item}
 use Rattle.flow_data.specs.declared.data.Item.TheVariants.{Atom, Row}
 use Rattle.flow_data.specs.declared.data.RowInfo.{RowInfo}
 use Rattle.flow_data.specs.declared.data.Stack.{Stack}
-use Rattle.flow_data.specs.Flows.{flow_of, stack_of, item_of, row_in, rows_in, no_item, no_flow, no_row, no_stack}
+use Rattle.flow_data.specs.Flows.{flow_of, stack_of, item_of, row_in, rows_in, no_item, no_flow, no_stack}
 use Rattle.flow_data.specs.Soundness.{IsSound, IsSoundItem, count_of}
 use Rattle.flow_laws.proofs.HoldingOnce.{one-place, one-at}
-use Rattle.flow_laws.proofs.HoldingParts.{count-own}
 use Rattle.flow_data.proofs.Counts.{count-cons, count-no}
 use Rattle.flow_laws.proofs.Totals.{sum-flat, sum-map}
-use Rattle.flow_list.specs.Certificate.{StackRow, stack_row, stack_rows, numbers_below, rows_in_stacks}
+use Rattle.flow_list.specs.Certificate.{StackRow, stack_rows, numbers_below, rows_in_stacks}
 
 -- ---- numbers below
 
@@ -84,7 +83,7 @@ same-number n r (x ∷ all) = go (x.row == n) refl (n == r) refl (same-number n 
     go : (a : Bool) → (x.row == n) ≡ a → (b : Bool) → (n == r) ≡ b →
         count_of r (numbers_of (filter (λ (x : StackRow). x.row == n) all)) ≡ cond b (count_of r (numbers_of all)) 0 →
         count_of r (numbers_of (cond a (x ∷ filter (λ (x : StackRow). x.row == n) all)
-            (filter (λ (x : StackRow). x.row == n) all))) ≡ cond b (count_of r (x.row ∷ numbers_of all)) 0
+        (filter (λ (x : StackRow). x.row == n) all))) ≡ cond b (count_of r (x.row ∷ numbers_of all)) 0
     go true ea true eb rest =
         let f = numbers_of (filter (λ (x : StackRow). x.row == n) all) in
         count-cons r x.row f ∙ ap (λ k. cond (x.row == r) 1 0 + k) rest ∙ sym (count-cons r x.row (numbers_of all))
@@ -138,7 +137,7 @@ module _ (d : FlowsData) (sound : IsSound d) where
       each (s ∷ ss) =
           let f = flow_of d (stack_of d s).flow in
           let one : count_of r (numbers_of (rows_of_stack s)) ≡ in_stack r s =
-              ap (count_of r) (rows-are d (stack_of d s).bound f 0 f.items) in
+          ap (count_of r) (rows-are d (stack_of d s).bound f 0 f.items) in
           let rest = each ss in
           omega (arith, sum_by-cons (λ s. count_of r (numbers_of (rows_of_stack s))) s ss, sum_by-cons (in_stack r) s ss)
 
@@ -147,9 +146,9 @@ module _ (d : FlowsData) (sound : IsSound d) where
   stacks-count r lt =
       ap (count_of r) (numbers-flat (λ n. filter (λ (x : StackRow). x.row == n) all_rows_in) (numbers_below (length d.rows)))
       ∙ sum-flat (λ k. cond (k == r) 1 0) (λ n. numbers_of (filter (λ (x : StackRow). x.row == n) all_rows_in))
-          (numbers_below (length d.rows))
+      (numbers_below (length d.rows))
       ∙ sum-one (λ n. count_of r (numbers_of (filter (λ (x : StackRow). x.row == n) all_rows_in))) (length d.rows) r lt
-          (λ n low other. same-number n r all_rows_in ∙ none n other)
+      (λ n low other. same-number n r all_rows_in ∙ none n other)
       ∙ same-number r r all_rows_in ∙ own
     where
       none : (n : ℕ) → (n ≡ r → ⊥) → cond (n == r) (count_of r (numbers_of all_rows_in)) 0 ≡ 0
@@ -166,10 +165,10 @@ module _ (d : FlowsData) (sound : IsSound d) where
       let known = (sound.stacks s lt_s).flow in
       let owned = sound.flow_belongs f known in
       let parts = sum_by-append (λ k. cond (k == f) 1 0) (map (λ (r : RowInfo). r.flow) d.rows)
-          (map (λ (s : Stack). s.flow) d.stacks) in
+      (map (λ (s : Stack). s.flow) d.stacks) in
       let stacks = sum-map (λ k. cond (k == f) 1 0) (λ (s : Stack). s.flow) d.stacks in
       one-place (λ (s : Stack). cond (s.flow == f) 1 0) d.stacks s t no_stack (omega arith) lt_s lt_t (one-at f f refl)
-          (one-at (stack_of d t).flow f (sym same))
+      (one-at (stack_of d t).flow f (sym same))
 
   module _ (s k r : ℕ) (lt : s < length d.stacks) (inside : k < length (flow_of d (stack_of d s).flow).items)
       (is : item_of (flow_of d (stack_of d s).flow) k ≡ Row r) where
@@ -195,7 +194,7 @@ module _ (d : FlowsData) (sound : IsSound d) where
         go (inl some) =
             let b = in-all in
             let same = one-place (λ f. count_of r (rows_in f)) d.flows (stack_of d s).flow (stack_of d t).flow no_flow
-                (omega arith) (sound.stacks s lt).flow (sound.stacks t lt_t).flow here (omega arith) in
+            (omega arith) (sound.stacks s lt).flow (sound.stacks t lt_t).flow here (omega arith) in
             absurd (other (sym (one-stack s t lt lt_t same)))
         go (inr none) = omega arith
 
@@ -221,4 +220,4 @@ pub stack-rows-known : (d : FlowsData) → All (λ (x : StackRow). x.row < lengt
 unfolding rows_in_stacks
 stack-rows-known d =
     below-known (flat_map (λ s. stack_rows d (stack_of d s).bound (flow_of d (stack_of d s).flow) 0
-        (flow_of d (stack_of d s).flow).items) (numbers_below (length d.stacks))) (length d.rows) (length d.rows) (omega arith)
+    (flow_of d (stack_of d s).flow).items) (numbers_below (length d.stacks))) (length d.rows) (length d.rows) (omega arith)

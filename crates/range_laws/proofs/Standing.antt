@@ -50,5 +50,8 @@ stand-all book (u ∷ us) a = All-cons (λ u. stands_in book u ≡ true) u us a.
 
 pub all-stand : (book us : List Use) → AllStand book us → Stand book us
 all-stand book [] all = tt
-all-stand book (u ∷ us) all = (All-head (λ u. stands_in book u ≡
-    true) u us all, all-stand book us (All-tail (λ u. stands_in book u ≡ true) u us all))
+all-stand book (u ∷ us) all = (
+  All-head (λ u. stands_in book u ≡
+      true) u us all,
+  all-stand book us (All-tail (λ u. stands_in book u ≡ true) u us all),
+)

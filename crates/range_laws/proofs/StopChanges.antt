@@ -1,7 +1,6 @@
 -- At its least bound the lines of a column change.
-use Rattle.std.proofs.Common.{◌≡◌, ℕ, zero, suc, ◌+◌, ◌-◌, ◌==◌, ◌<◌, ◌≤◌, ◌⊎◌, inl, inr, Bool, true, false, ◌&&◌, ◌||◌, cond, List, [], ◌∷◌, ◌++◌, length, map, refl, subst, sym, ◌∙◌, ap, arith, Option, Some, None}
+use Rattle.std.proofs.Common.{◌≡◌, ℕ, ◌+◌, ◌-◌, ◌<◌, ◌≤◌, ◌⊎◌, inl, inr, Bool, true, false, ◌&&◌, cond, List, [], ◌∷◌, ◌++◌, length, map, refl, subst, sym, ◌∙◌, ap, arith, Option, Some, None}
 use Rattle.std.specs.Prelude.{nat_lt, nat_le}
-use Rattle.std.specs.List.{list_any}
 use Rattle.std.proofs.lemmas.Bool.{cases_lt, and_parts, and_left, and_right}
 use Rattle.std.proofs.lemmas.Bool.Decides.{nat_tests}
 use Rattle.flow_data.specs.declared.data.Flow.{Flow}
@@ -41,21 +40,21 @@ module _ (inner : Inner) (law : FillsChange inner) (s : Step) (row : ℕ × Toke
       inner_lines (is_cut s lo) (Some (fill_at lo)) ≡ inner_lines (is_cut s hi) (Some (fill_at hi)) → ⊥
   only-high a b some same =
       let none : [] ≡ map deeper (fill_at hi).lines = sym (ap (λ c. inner_lines c (Some (fill_at lo))) a) ∙ same
-          ∙ ap (λ c. inner_lines c (Some (fill_at hi))) b in
+      ∙ ap (λ c. inner_lines c (Some (fill_at hi))) b in
       law.fill_tells row.0 row.1 (room s hi) (omega arith) (deeper-none (fill_at hi).lines (sym none))
 
   only-low : is_cut s lo ≡ true → is_cut s hi ≡ false → 0 < s.height →
       inner_lines (is_cut s lo) (Some (fill_at lo)) ≡ inner_lines (is_cut s hi) (Some (fill_at hi)) → ⊥
   only-low a b some same =
       let none : map deeper (fill_at lo).lines ≡ [] = sym (ap (λ c. inner_lines c (Some (fill_at lo))) a) ∙ same
-          ∙ ap (λ c. inner_lines c (Some (fill_at hi))) b in
+      ∙ ap (λ c. inner_lines c (Some (fill_at hi))) b in
       law.fill_tells row.0 row.1 (room s lo) (omega arith) (deeper-none (fill_at lo).lines none)
 
   both-cut : is_cut s lo ≡ true → is_cut s hi ≡ true → inner_lines (is_cut s lo) (Some (fill_at lo)) ≡
       inner_lines (is_cut s hi) (Some (fill_at hi)) → (fill_at lo).lines ≡ (fill_at hi).lines
   both-cut a b same =
       deeper-same (fill_at lo).lines (fill_at hi).lines (sym (ap (λ c. inner_lines c (Some (fill_at lo))) a) ∙ same
-          ∙ ap (λ c. inner_lines c (Some (fill_at hi))) b)
+      ∙ ap (λ c. inner_lines c (Some (fill_at hi))) b)
 
   -- the row comes to begin within the height
   begins-here : (nat_lt 0 s.height && nat_lt lo (s.y + s.bottoms)) ≡ true → s.y + s.bottoms ≡ hi →
@@ -97,9 +96,9 @@ module _ (inner : Inner) (law : FillsChange inner) (s : Step) (row : ℕ × Toke
     where
       go : (b : Bool) → (nat_lt 0 s.height && nat_lt lo (s.y + s.bottoms)) ≡ b → (c : Bool) → is_cut s lo ≡ c →
           NoneBelow hi (s.need ∷ cond b ((s.y + s.bottoms) ∷ []) [] ++
-              cond c ((s.y + s.bottoms + s.height) ∷ map (λ b. s.y + s.bottoms + b) (fill_at lo).bounds) []) →
+          cond c ((s.y + s.bottoms + s.height) ∷ map (λ b. s.y + s.bottoms + b) (fill_at lo).bounds) []) →
           Has hi (s.need ∷ cond b ((s.y + s.bottoms) ∷ []) [] ++
-              cond c ((s.y + s.bottoms + s.height) ∷ map (λ b. s.y + s.bottoms + b) (fill_at lo).bounds) []) → ⊥
+          cond c ((s.y + s.bottoms + s.height) ∷ map (λ b. s.y + s.bottoms + b) (fill_at lo).bounds) []) → ⊥
       go true eb true ec n e = let k = cut-from s lo ec in let m =
           (and_parts (nat_lt 0 s.height) (nat_lt lo (s.y + s.bottoms)) eb).1 in grind (arith, nat_tests)
       go true eb false ec n e = first (has-one hi (s.y + s.bottoms) [] (has-rest hi s.need ((s.y + s.bottoms) ∷ []) needs e))
@@ -109,8 +108,8 @@ module _ (inner : Inner) (law : FillsChange inner) (s : Step) (row : ℕ × Toke
           first (inr k) = cc
       go false eb true ec n e =
           cut-here ec n.1.0 n.1.1 (has-one hi (s.y + s.bottoms + s.height) (map (λ b. s.y + s.bottoms + b) (fill_at lo).bounds)
-              (has-rest hi s.need ((s.y + s.bottoms + s.height) ∷ map (λ b. s.y + s.bottoms + b) (fill_at lo).bounds) needs e))
-              same
+          (has-rest hi s.need ((s.y + s.bottoms + s.height) ∷ map (λ b. s.y + s.bottoms + b) (fill_at lo).bounds) needs e))
+          same
       go false eb false ec n e = let k = has-rest hi s.need [] needs e in cc
 
 -- the stop that the first line tells, and the lines behind it
@@ -139,32 +138,32 @@ module _ (inner : Inner) (law : FillsChange inner) (d : FlowsData) (f : Flow) wh
 
       by-row : (s : Step) → (cut lo (steps_from inner d f t)).stop ≡ Some s → hi < s.need → (o : Option (ℕ × Token)) → s.row ≡ o →
           NoneBelow hi (bounds_at s lo (fill_in_room inner o (room s lo))) →
-              Has hi (bounds_at s lo (fill_in_room inner o (room s lo))) →
+          Has hi (bounds_at s lo (fill_in_room inner o (room s lo))) →
           inner_lines (is_cut s lo) (fill_in_room inner o (room s lo)) ≡
-              inner_lines (is_cut s hi) (fill_in_room inner o (room s hi)) → ⊥
+          inner_lines (is_cut s hi) (fill_in_room inner o (room s hi)) → ⊥
       by-row s e needs None is below has same = let k = has-rest hi s.need [] needs has in cc
       by-row s e needs (Some row) is below has same =
           row-changes inner law s row (stop-good inner lo (item_number t) s (steps_from inner d f t) good e row is) lo hi le needs
-              below has same
+          below has same
 
       by-need : (s : Step) → (cut lo (steps_from inner d f t)).stop ≡ Some s →
           NoneBelow hi (bounds_at s lo (fill_in_room inner s.row (room s lo))) →
           Has hi (bounds_at s lo (fill_in_room inner s.row (room s lo))) →
           (column_up_to inner (avoids_at d f) lo (cut lo (steps_from inner d f t)).before (Some s)).lines ≡
-              (column_up_to inner (avoids_at d f) hi (cut hi (steps_from inner d f t)).before
-              (cut hi (steps_from inner d f t)).stop).lines →
+          (column_up_to inner (avoids_at d f) hi (cut hi (steps_from inner d f t)).before
+          (cut hi (steps_from inner d f t)).stop).lines →
           (s.need ≤ hi) ⊎ (hi < s.need) → ⊥
       by-need s e below has same (inl fit) =
           cut-later inner lo hi (item_number t) s (steps_from inner d f t) good le e fit
           (sym (up-to-stop hi (cut hi (steps_from inner d f t)).before (cut hi (steps_from inner d f t)).stop)
-              ∙ sym (ap head_stop same))
+          ∙ sym (ap head_stop same))
       by-need s e below has same (inr needs) =
           let k : cut hi (steps_from inner d f t) ≡ cut lo (steps_from inner d f t) =
-              cut-same lo hi s (steps_from inner d f t) le e needs in
+          cut-same lo hi s (steps_from inner d f t) le e needs in
           let stop : (cut hi (steps_from inner d f t)).stop ≡ Some s = ap (λ (c : Cut). c.stop) k ∙ e in
           let w = subst (λ (o : Option Step). (column_up_to inner (avoids_at d f) lo (cut lo (steps_from inner d f t)).before
-              (Some s)).lines ≡ (column_up_to inner (avoids_at d f) hi (cut hi (steps_from inner d f t)).before o).lines) stop
-              same in
+          (Some s)).lines ≡ (column_up_to inner (avoids_at d f) hi (cut hi (steps_from inner d f t)).before o).lines) stop
+          same in
           by-row s e needs s.row refl below has (ap behind_head w)
 
       turned : (a b : ℕ) → (a < b) ⊎ (b ≤ a) → (b ≤ a) ⊎ (a < b)
@@ -175,7 +174,7 @@ module _ (inner : Inner) (law : FillsChange inner) (d : FlowsData) (f : Flow) wh
           NoneBelow hi (column_up_to inner (avoids_at d f) lo (cut lo (steps_from inner d f t)).before o).bounds →
           Has hi (column_up_to inner (avoids_at d f) lo (cut lo (steps_from inner d f t)).before o).bounds →
           (column_up_to inner (avoids_at d f) lo (cut lo (steps_from inner d f t)).before o).lines ≡
-              (column_up_to inner (avoids_at d f) hi (cut hi (steps_from inner d f t)).before
-              (cut hi (steps_from inner d f t)).stop).lines → ⊥
+          (column_up_to inner (avoids_at d f) hi (cut hi (steps_from inner d f t)).before
+          (cut hi (steps_from inner d f t)).stop).lines → ⊥
       go None e below has same = cc
       go (Some s) e below has same = by-need s e below has same (turned hi s.need (cases_lt hi s.need))

@@ -1,5 +1,5 @@
 -- The stop of a column at two heights: the same one below what it needs, else a later one or none.
-use Rattle.std.proofs.Common.{◌≡◌, ℕ, zero, suc, ◌+◌, ◌-◌, ◌==◌, ◌<◌, ◌≤◌, ◌⊎◌, inl, inr, Bool, true, false, ◌&&◌, ◌||◌, cond, List, [], ◌∷◌, ◌++◌, length, map, refl, subst, sym, ◌∙◌, ap, arith, Option, Some, None}
+use Rattle.std.proofs.Common.{◌≡◌, ℕ, zero, suc, ◌+◌, ◌<◌, ◌≤◌, Bool, true, false, cond, List, [], ◌∷◌, refl, sym, ◌∙◌, ap, arith, Option, Some, None}
 use Rattle.std.specs.Prelude.{nat_lt}
 use Rattle.std.proofs.lemmas.Bool.Decides.{nat_tests}
 use Rattle.flow_data.specs.declared.data.Flow.{Flow}
@@ -26,14 +26,20 @@ pub steps-good : (inner : Inner) (d : FlowsData) (f : Flow) (s : Strip) (k : ℕ
     Good inner k (steps inner d f s k q n)
 unfolding steps
 steps-good inner d f s k q zero = tt
-steps-good inner d f s k q (suc n) =
-    (refl, row-height inner q (item_of f k), go (is_forced (seam_of f (k + 1)).level)
-        (steps-good inner d f (lay_all (strip_behind inner f s k q) (seam_of f (k + 1)).head) (k + 1) row_start n))
+steps-good inner d f s k q (suc n) = (
+  refl,
+  row-height inner q (item_of f k),
+  go (is_forced (seam_of f (k + 1)).level)
+      (steps-good inner d f (lay_all (strip_behind inner f s k q) (seam_of f (k + 1)).head) (k + 1) row_start n),
+)
   where
     go : (b : Bool) →
         Good inner (k + 1) (steps inner d f (lay_all (strip_behind inner f s k q) (seam_of f (k + 1)).head) (k + 1) row_start n) →
-        Good inner (k + 1) (elim b as (λ _. List Step) [ true ↦ [] | false ↦ steps inner d f
-            (lay_all (strip_behind inner f s k q) (seam_of f (k + 1)).head) (k + 1) row_start n ])
+        Good inner (k + 1) (elim b as (λ _. List Step) [
+          | true ↦ []
+          | false ↦ steps inner d f
+              (lay_all (strip_behind inner f s k q) (seam_of f (k + 1)).head) (k + 1) row_start n
+        ])
     go true g = tt
     go false g = g
 
@@ -59,8 +65,8 @@ cut-same lo hi s (x ∷ ss) le e lt = go (nat_lt lo x.need) refl (nat_lt hi x.ne
     go : (b : Bool) → nat_lt lo x.need ≡ b → (c : Bool) → nat_lt hi x.need ≡ c →
         (cond b (record { before = []; stop = Some x }) (longer x (cut lo ss))).stop ≡ Some s →
         ((cut lo ss).stop ≡ Some s → cut hi ss ≡ cut lo ss) →
-            cond c (record { before = []; stop = Some x }) (longer x (cut hi ss)) ≡
-            cond b (record { before = []; stop = Some x }) (longer x (cut lo ss))
+        cond c (record { before = []; stop = Some x }) (longer x (cut hi ss)) ≡
+        cond b (record { before = []; stop = Some x }) (longer x (cut lo ss))
     go true eb true ec e later = refl
     go true eb false ec e later = let m : x ≡ s = cc in let n : x.need ≡ s.need = ap (λ (w : Step). w.need) m in
         absurd (grind (arith, nat_tests))

@@ -1,5 +1,5 @@
 -- A true book stays true when sizes are entered, at any depth that is enough.
-use Rattle.std.proofs.Common.{◌≡◌, ℕ, zero, suc, ◌+◌, ◌<◌, ◌≤◌, ◌⊎◌, inl, inr, true, false, cond, List, [], ◌∷◌, ◌++◌, length, get_or, refl, subst, sym, ◌∙◌, ap, arith}
+use Rattle.std.proofs.Common.{◌≡◌, ℕ, zero, suc, ◌+◌, ◌<◌, ◌≤◌, ◌⊎◌, inl, inr, false, cond, List, [], ◌∷◌, ◌++◌, length, get_or, refl, subst, sym, ◌∙◌, ap, arith}
 use Rattle.std.specs.Prelude.{All}
 use Rattle.std.specs.List.{flat_map}
 use Rattle.std.proofs.lemmas.Bool.{or_from}
@@ -9,12 +9,12 @@ use Rattle.std.proofs.lemmas.List.Folds.{list_any-append}
 use Rattle.flow_data.specs.declared.data.FlowsData.{FlowsData}
 use Rattle.flow_data.specs.declared.data.Item.{Item}
 use Rattle.flow_data.specs.declared.data.Item.TheVariants.{Atom, Row}
-use Rattle.flow_data.specs.Flows.{row_of, flow_in, item_of, row_in, rows_in, no_item, no_row, no_flow}
+use Rattle.flow_data.specs.Flows.{row_of, flow_in, row_in, no_item, no_row, no_flow}
 use Rattle.flow_data.specs.Soundness.{IsSound, IsInnerRow}
 use Rattle.flow_laws.proofs.SoundRows.{rows-in-range}
-use Rattle.flow_list.specs.Book.{AllStand, AreOfRows, IsTrueBook, after_uses}
+use Rattle.flow_list.specs.Book.{AllStand, IsTrueBook, after_uses}
 use Rattle.flow_list.specs.Certificate.{Use, same_use, stands_in, size_uses, entered, entered_with}
-use Rattle.range_laws.specs.Entering.{UsesAreLater, BookStaysTrue}
+use Rattle.range_laws.specs.Entering.{BookStaysTrue}
 use Rattle.range_laws.proofs.Above.{Above, not-above}
 use Rattle.range_laws.proofs.EnteredOnce.{Entered, Follow, entered-follow}
 use Rattle.range_laws.proofs.LaterRows.{HoldsAbove, size-deeper}
@@ -57,8 +57,11 @@ follow-true d book (u ∷ us) t f = subst (IsTrueBook d) (append_assoc book (u �
     (follow-true d (book ++ u ∷ []) us (one-true d book u t f.0 f.1) f.2)
 
 pub none-true : (d : FlowsData) → IsTrueBook d []
-none-true d = record { once = λ first u rest split. absurd (no-split first u rest split); after_its_uses =
-    λ first u rest split. absurd (no-split first u rest split) }
+none-true d = record {
+  once = λ first u rest split. absurd (no-split first u rest split);
+  after_its_uses =
+      λ first u rest split. absurd (no-split first u rest split);
+}
   where
     no-split : (first : List Use) (u : Use) (rest : List Use) → [] ≡ first ++ u ∷ rest → ⊥
     no-split [] u rest e = cc
@@ -77,8 +80,11 @@ above-rows b n (u ∷ us) a = All-cons (λ (u : Use). u.0 < n) u us a.1 (above-r
 
 above-later : (k n : ℕ) (us : List Use) → Above (k + 1) n us → All (λ (v : Use). (k < v.0) × (v.0 < n)) us
 above-later k n [] a = All-nil (λ (v : Use). (k < v.0) × (v.0 < n))
-above-later k n (u ∷ us) a = All-cons (λ (v : Use). (k < v.0) × (v.0 < n)) u us (let le = a.0 in
-    omega arith, a.1) (above-later k n us a.2)
+above-later k n (u ∷ us) a = All-cons (λ (v : Use). (k < v.0) × (v.0 < n)) u us (
+  let le = a.0 in
+      omega arith,
+  a.1,
+) (above-later k n us a.2)
 
 -- what is so of the rows among items is so of each item that is a row
 each-row : (P : ℕ → Type 0) (items : List Item) → All P (flat_map row_in items) → (k r : ℕ) → get_or items k no_item ≡ Row r → P r
@@ -144,9 +150,9 @@ module _ (d : FlowsData) (sound : IsSound d) where
   unfolding after_uses
   not-itself book u lt none =
       let e = entered-follow d (length d.rows) deeper (suc (length d.rows)) (u.0 + 1) (omega arith) book (size_uses d u)
-          (deeper u lt) in
+      (deeper u lt) in
       ap (λ xs. stands_in xs u) e.is ∙ (list_any-append (same_use u) book e.more
-          ∙ or_from (stands_in book u) (stands_in e.more u) none (not-above u (length d.rows) e.more e.above))
+      ∙ or_from (stands_in book u) (stands_in e.more u) none (not-above u (length d.rows) e.more e.above))
 
   first-entered : (book : List Use) (u : Use) → stands_in book u ≡ false →
       entered d (suc (length d.rows)) book (u ∷ []) ≡ entered d (length d.rows) book (size_uses d u) ++ u ∷ []
@@ -159,7 +165,7 @@ module _ (d : FlowsData) (sound : IsSound d) where
   one-size book u lt none =
       first-entered book u none
       ∙ ap (λ us. us ++ u ∷ []) (entered-alike d (length d.rows) deeper (length d.rows) (suc (length d.rows)) (u.0 + 1)
-          (omega arith) (omega arith) book (size_uses d u) (deeper u lt))
+      (omega arith) (omega arith) book (size_uses d u) (deeper u lt))
 
   pub book-stays-true : BookStaysTrue d
   unfolding after_uses

@@ -3,7 +3,7 @@ use Rattle.std.specs.Prelude.{◌≡◌, ℕ, List, [], length, Option, All, ◌
 use Rattle.flow_data.specs.declared.data.FlowsData.{FlowsData}
 use Rattle.flow_list.specs.Tokens.{Token}
 use Rattle.flow_list.specs.Rows.{all_rows}
-use Rattle.flow_list.specs.Ranges.{Range, ranges, judged, lines_of}
+use Rattle.flow_list.specs.Ranges.{Range, ranges}
 use Rattle.flow_list.specs.Certificate.{Use, range_owned, range_uses}
 use Rattle.flow_list.specs.Book.{AllStand}
 

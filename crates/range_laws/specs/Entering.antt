@@ -1,8 +1,7 @@
 -- Sizes are entered in a book in one order, each once and after the sizes that it uses itself (this project's own).
-use Rattle.std.specs.Prelude.{◌≡◌, ℕ, ◌<◌, ◌≤◌, true, false, List, [], ◌∷◌, ◌++◌, length, All}
+use Rattle.std.specs.Prelude.{◌≡◌, ℕ, ◌<◌, ◌≤◌, false, List, [], ◌∷◌, ◌++◌, length, All}
 use Rattle.std.specs.List.{flat_map}
 use Rattle.flow_data.specs.declared.data.FlowsData.{FlowsData}
-use Rattle.flow_data.specs.Flows.{flow_in}
 use Rattle.flow_list.specs.Tokens.{Token}
 use Rattle.flow_list.specs.Rows.{all_rows}
 use Rattle.flow_list.specs.RowHeights.{size_of}
@@ -53,7 +52,7 @@ pub record OwnColumnsEnter (d : FlowsData) (r : ℕ) (q : Token) : Type 0 where
   -- what they use is entered after what the ranges use
   pub after_ranges : (book : List Use) → after_uses d book (size_uses d (r, q)) ≡
       after_uses d (after_uses d book (flat_map (range_uses d r q) (size_ranges d r q)))
-          (uses_of (judged (all_rows d) d r q (size_of d r q)))
+      (uses_of (judged (all_rows d) d r q (size_of d r q)))
   -- where all of it stands there then, nothing new is entered for them
   pub none_new : (book : List Use) → AllStand (after_uses d book (flat_map (range_uses d r q) (size_ranges d r q)))
       (uses_of (judged (all_rows d) d r q (size_of d r q))) →
