@@ -132,8 +132,8 @@ module _ (d : FlowsData) (x : Inner) (c : Contents) where
     RowReached k None = Unit {0}
     RowReached k (Some row) = (item_of f k ≡ Row row.0) × IsReached d (flow_in d row.0) row.1 × Reached k row.1 × RowMoves row.0
 
-    abbrev IsReached : ℕ → Step → Type 0
-    IsReached k s = (s.item ≡ k) × (s.item < length f.items) × RowReached s.item s.row
+    abbrev StepReached : ℕ → Step → Type 0
+    StepReached k s = (s.item ≡ k) × (s.item < length f.items) × RowReached s.item s.row
 
     abbrev IsLaterPlace : Place → Type 0
     IsLaterPlace p = Later r f t p.end
@@ -147,22 +147,22 @@ module _ (d : FlowsData) (x : Inner) (c : Contents) where
             let m = reached.3.fills row.1 b reached.1 in
             later-inside s.item row.0 row.1 (x.fill row.0 row.1 b).end lt reached.0 reached.2 (m.place e) (m.fewer e) (m.rest e)
 
-    seams-later : (need k : ℕ) (ss : List Step) → item_number t < k → EachFrom IsReached k ss → Each IsLaterPlace (seams_before need ss)
+    seams-later : (need k : ℕ) (ss : List Step) → item_number t < k → EachFrom StepReached k ss → Each IsLaterPlace (seams_before need ss)
     seams-later need k [] lt reached = tt
     seams-later need k (s ∷ ss) lt reached =
         (later-seam s.item (let e = reached.0.0 in omega arith) (let e = reached.0.1 in omega arith), seams-later s.need (k + 1) ss (omega arith) reached.1)
 
-    between-later : (k : ℕ) (ss : List Step) → item_number t ≤ k → EachFrom IsReached k ss → Each IsLaterPlace (seams_between ss)
+    between-later : (k : ℕ) (ss : List Step) → item_number t ≤ k → EachFrom StepReached k ss → Each IsLaterPlace (seams_between ss)
     between-later k [] le reached = tt
     between-later k (s ∷ ss) le reached = seams-later s.need (k + 1) ss (omega arith) reached.1
 
-    last-later : (p : Place) (k : ℕ) (ss : List Step) → item_number t ≤ k → Later r f t p.end → EachFrom IsReached k ss → Later r f t (last_place p ss).end
+    last-later : (p : Place) (k : ℕ) (ss : List Step) → item_number t ≤ k → Later r f t p.end → EachFrom StepReached k ss → Later r f t (last_place p ss).end
     last-later p k [] le a reached = a
     last-later p k (s ∷ ss) le a reached =
         last-later (record { level = 0; end = (s.item + 1) ∷ []; extent = s.need; overflow = false }) (k + 1) ss (omega arith)
         (later-seam (s.item + 1) (let e = reached.0.0 in omega arith) (let e = reached.0.1 in omega arith)) reached.1
 
-    up_to-later : (avoids : ℕ → Bool) (h : ℕ) (before : List Step) (stop : Option Step) → (stop ≡ None → (s : Step) × (ss : List Step) × (before ≡ s ∷ ss)) → EachFrom IsReached (item_number t) (through before stop) →
+    up_to-later : (avoids : ℕ → Bool) (h : ℕ) (before : List Step) (stop : Option Step) → (stop ≡ None → (s : Step) × (ss : List Step) × (before ≡ s ∷ ss)) → EachFrom StepReached (item_number t) (through before stop) →
         Later r f t (column_up_to x avoids h before stop).end
     up_to-later avoids h before None some reached =
         let n = some refl in
@@ -170,15 +170,15 @@ module _ (d : FlowsData) (x : Inner) (c : Contents) where
         let reached' = rw n.2 at reached in
         subst P (sym n.2) (last-later _ (item_number t + 1) n.1 (omega arith) (later-seam (n.0.item + 1) (let e = reached'.0.0 in omega arith) (let e = reached'.0.1 in omega arith)) reached'.1)
     up_to-later avoids h before (Some s) some reached =
-        let last = last-each IsReached (item_number t) before s reached in
+        let last = last-each StepReached (item_number t) before s reached in
         let le : item_number t ≤ s.item = let e = last.0 in omega arith in
         stopped-each IsLaterPlace x (avoids s.item) h s before s.row (between-later (item_number t) (before ++ s ∷ []) (omega arith) reached) (λ which. later-seam (s.item + 1) (omega arith) (let lt = last.1 in omega arith))
         (λ row over is low. inside-later (avoids s.item) s (room s h) (room s h) row le last.1 (subst (RowReached s.item) is last.2))
 
-    over-later : (avoids : ℕ → Bool) (h : ℕ) (ss : List Step) → ((s : Step) × (more : List Step) × (ss ≡ s ∷ more)) → EachFrom IsReached (item_number t) ss → Later r f t (column_over x avoids h ss).end
+    over-later : (avoids : ℕ → Bool) (h : ℕ) (ss : List Step) → ((s : Step) × (more : List Step) × (ss ≡ s ∷ more)) → EachFrom StepReached (item_number t) ss → Later r f t (column_over x avoids h ss).end
     over-later avoids h ss n reached =
-        let P : List Step → Type 0 = λ ss. EachFrom IsReached (item_number t) ss → Later r f t (column_over x avoids h ss).end in
-        let at_cons : P (n.0 ∷ n.1) = λ reached. up_to-later avoids h (cut h (n.0 ∷ n.1)).before (cut h (n.0 ∷ n.1)).stop (cut-some h n.0 n.1) (cut-each IsReached h (item_number t) (n.0 ∷ n.1) reached) in
+        let P : List Step → Type 0 = λ ss. EachFrom StepReached (item_number t) ss → Later r f t (column_over x avoids h ss).end in
+        let at_cons : P (n.0 ∷ n.1) = λ reached. up_to-later avoids h (cut h (n.0 ∷ n.1)).before (cut h (n.0 ∷ n.1)).stop (cut-some h n.0 n.1) (cut-each StepReached h (item_number t) (n.0 ∷ n.1) reached) in
         subst P (sym n.2) at_cons reached
 
     -- ---- the items of the column
@@ -197,9 +197,9 @@ module _ (d : FlowsData) (x : Inner) (c : Contents) where
     abbrev IsBefore : Strip → ℕ → Token → ℕ → Type 0
     IsBefore s k q n = (item_number t ≤ k) × (k + n ≡ length f.items) × Reached k q × IsPlaceIn k q
 
-    steps-reached : (s : Strip) (k : ℕ) (q : Token) (n : ℕ) → IsBefore s k q n → EachFrom IsReached k (steps x d f s k q n)
+    steps-reached : (s : Strip) (k : ℕ) (q : Token) (n : ℕ) → IsBefore s k q n → EachFrom StepReached k (steps x d f s k q n)
     steps-reached =
-        steps-each x d f IsBefore IsReached (λ s k q n b. let e = b.1 in (refl, omega arith, row-reached k q (item_of f k) refl (item-moves f.items k moves) b.2 b.3))
+        steps-each x d f IsBefore StepReached (λ s k q n b. let e = b.1 in (refl, omega arith, row-reached k q (item_of f k) refl (item-moves f.items k moves) b.2 b.3))
         (λ s k q n b. let le = b.0 in let e = b.1 in (omega arith, omega arith, reached-later (k + 1) (omega arith), starts-place (k + 1)))
 
     first-place : (u : Token) → IsPlaceBefore d f u → IsPlaceIn (item_number u) (within u)
@@ -214,7 +214,7 @@ module _ (d : FlowsData) (x : Inner) (c : Contents) where
     some-items : (first : Step) × (more : List Step) × (steps_from x d f t ≡ first ∷ more)
     some-items = some-steps x d f (start_strip d f t) (item_number t) (within t) (length f.items - item_number t) (let lt = starts-in in omega arith)
 
-    items-reached : EachFrom IsReached (item_number t) (steps_from x d f t)
+    items-reached : EachFrom StepReached (item_number t) (steps_from x d f t)
     items-reached = steps-reached (start_strip d f t) (item_number t) (within t) (length f.items - item_number t) (omega arith, let lt = starts-in in omega arith, reached-first, first-place t here)
 
     -- a column that begins before the end ends later

@@ -17,7 +17,7 @@ use Rattle.flow_list.proofs.PlaceBounds.{Each-append}
 use Rattle.flow_laws.specs.Progress.{AtomAt, atoms_of_items, contents_to, atoms_from}
 use Rattle.flow_laws.proofs.Totals.{sum-flat, sum-map}
 use Rattle.flow_laws.proofs.HoldingRows.{IsWithin, rows-within}
-use Rattle.flow_laws.proofs.HoldingParts.{split-count, count-own, once-in-flow}
+use Rattle.flow_laws.proofs.HoldingParts.{split-count, once-in-flow}
 
 -- ---- lists
 
