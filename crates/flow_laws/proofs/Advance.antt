@@ -11,7 +11,7 @@ use Rattle.flow_list.specs.Column.{Filled, Inner, Step, Place, cut, steps, steps
 use Rattle.flow_list.specs.Rows.{item_left, items_left, left_in}
 use Rattle.flow_list.proofs.ColumnParts.{EachFrom, steps-each, some-steps, through, cut-each, last-each, cut-some, stopped-each}
 use Rattle.flow_laws.specs.Progress.{AtomAt, Contents, item_atoms, atoms_of_items, atoms_in, EndsWith}
-use Rattle.flow_laws.proofs.Places.{in-items, some-left}
+use Rattle.flow_laws.proofs.Places.{in-items, some-left, IsReached, start-reached}
 
 -- ---- what is left of a list of items
 
@@ -60,8 +60,7 @@ module _ (d : FlowsData) (x : Inner) (c : Contents) where
     pub rest : filled.at_end ≡ false → EndsWith (c.atoms s filled.end) (c.atoms s q)
 
   pub record RowMoves (s : ℕ) : Type 0 where
-    pub some : 0 < length (flow_in d s).items
-    pub fills : (q : Token) (a : ℕ) → IsPlaceBefore d (flow_in d s) q → FillMoves s q (x.fill s q a)
+    pub fills : (q : Token) (a : ℕ) → IsReached d (flow_in d s) q → FillMoves s q (x.fill s q a)
 
   abbrev pub ItemMoves : Item → Type 0
   ItemMoves (Atom height kind) = Unit {0}
@@ -131,7 +130,7 @@ module _ (d : FlowsData) (x : Inner) (c : Contents) where
     -- the row of item k, taken from a place in it, where that is reached
     abbrev RowReached : ℕ → Option (ℕ × Token) → Type 0
     RowReached k None = Unit {0}
-    RowReached k (Some row) = (item_of f k ≡ Row row.0) × IsPlaceBefore d (flow_in d row.0) row.1 × Reached k row.1 × RowMoves row.0
+    RowReached k (Some row) = (item_of f k ≡ Row row.0) × IsReached d (flow_in d row.0) row.1 × Reached k row.1 × RowMoves row.0
 
     abbrev IsReached : ℕ → Step → Type 0
     IsReached k s = (s.item ≡ k) × (s.item < length f.items) × RowReached s.item s.row
@@ -184,16 +183,16 @@ module _ (d : FlowsData) (x : Inner) (c : Contents) where
 
     -- ---- the items of the column
 
-    -- the place from which item k is taken is one in it, where it is a row
+    -- the place from which item k is taken is one in it, where it is a row, or its end
     abbrev IsPlaceIn : ℕ → Token → Type 0
-    IsPlaceIn k q = (s : ℕ) → item_of f k ≡ Row s → IsPlaceBefore d (flow_in d s) q
+    IsPlaceIn k q = (s : ℕ) → item_of f k ≡ Row s → IsReached d (flow_in d s) q
 
     row-reached : (k : ℕ) (q : Token) (item : Item) → item_of f k ≡ item → ItemMoves item → Reached k q → IsPlaceIn k q → RowReached k (row_from item q)
     row-reached k q (Atom height kind) is m reached place = tt
     row-reached k q (Row s) is m reached place = (is, place s is, reached, m)
 
     starts-place : (k : ℕ) → IsPlaceIn k row_start
-    starts-place k s is = let m : ItemMoves (Row s) = rw is at (item-moves f.items k moves) in m.some
+    starts-place k s is = start-reached d (flow_in d s)
 
     abbrev IsBefore : Strip → ℕ → Token → ℕ → Type 0
     IsBefore s k q n = (item_number t ≤ k) × (k + n ≡ length f.items) × Reached k q × IsPlaceIn k q
@@ -210,7 +209,7 @@ module _ (d : FlowsData) (x : Inner) (c : Contents) where
         let same : Row h.1 ≡ Row s = sym h.2 ∙ is in
         let rows : h.1 ≡ s = cc in
         let P : ℕ → Type 0 = λ n. IsPlaceBefore d (flow_in d n) (j ∷ rest) in
-        subst P rows h.3
+        inr (subst P rows h.3)
 
     some-items : (first : Step) × (more : List Step) × (steps_from x d f t ≡ first ∷ more)
     some-items = some-steps x d f (start_strip d f t) (item_number t) (within t) (length f.items - item_number t) (let lt = starts-in in omega arith)

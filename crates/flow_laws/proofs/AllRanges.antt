@@ -105,7 +105,7 @@ least-of-top : (t : ℕ) (bs : List ℕ) → IfSome (least_bound (Some t) bs) (�
 least-of-top t [] = omega arith
 least-of-top t (b ∷ bs) = let le = (fold-least (min t b) bs).0 in omega arith
 
-least-above : (top : Option ℕ) (bs : List ℕ) (low : ℕ) → is_past top low ≡ false → IsBelowEach low bs → IfSome (least_bound top bs) (λ high. low < high)
+pub least-above : (top : Option ℕ) (bs : List ℕ) (low : ℕ) → is_past top low ≡ false → IsBelowEach low bs → IfSome (least_bound top bs) (λ high. low < high)
 least-above None [] low past below = tt
 least-above (Some t) [] low past below = grind (arith, nat_tests)
 least-above None (b ∷ bs) low past below = fold-above low b bs below.0 below.1

@@ -91,8 +91,12 @@ rows_to-above d (suc depth) = λ r q h.
     front-above (λ c. c.overflow) h (columns (rows_to d depth) d (flow_in d r) (row_of d r).n q h) (columns-above (rows_to d depth) (rows_to-above d depth) d (flow_in d r) (row_of d r).n q h)
 
 -- and so of the columns that are judged
-pub judged-above : (d : FlowsData) (r : ℕ) (q : Token) (h : ℕ) → IsBelowEach h (bounds_of (judged (all_rows d) d r q h))
-unfolding judged all_rows
-judged-above d r q h =
+pub judged-above-at : (d : FlowsData) (depth r : ℕ) (q : Token) (h : ℕ) → IsBelowEach h (bounds_of (judged (rows_to d depth) d r q h))
+unfolding judged
+judged-above-at d depth r q h =
     let n = most_columns (row_of d r).n (flow_in d r) q in
-    front-above fails h (columns (rows_to d (length d.rows)) d (flow_in d r) n q h) (columns-above (rows_to d (length d.rows)) (rows_to-above d (length d.rows)) d (flow_in d r) n q h)
+    front-above fails h (columns (rows_to d depth) d (flow_in d r) n q h) (columns-above (rows_to d depth) (rows_to-above d depth) d (flow_in d r) n q h)
+
+pub judged-above : (d : FlowsData) (r : ℕ) (q : Token) (h : ℕ) → IsBelowEach h (bounds_of (judged (all_rows d) d r q h))
+unfolding all_rows
+judged-above d r q h = judged-above-at d (length d.rows) r q h

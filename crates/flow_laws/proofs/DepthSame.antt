@@ -2,7 +2,7 @@
 use Rattle.std.proofs.Common.{◌≡◌, ℕ, zero, suc, ◌+◌, ◌-◌, ◌<◌, ◌≤◌, Bool, true, false, not, ◌&&◌, List, [], ◌∷◌, length, drop, get_or, Option, Some, None, refl, ◌∙◌, ap, arith}
 use Rattle.std.specs.Prelude.{All}
 use Rattle.std.specs.List.{flat_map, list_any}
-use Rattle.flow_list.specs.Data.{Flow, FlowsData, Item, Atom, Row}
+use Rattle.flow_data.specs.Data.{Flow, FlowsData, Item, Atom, Row}
 use Rattle.flow_data.specs.Flows.{row_of, flow_in, item_of, seam_of, no_item, row_in}
 use Rattle.flow_list.specs.ClonedEdges.{open_across, bottoms}
 use Rattle.flow_data.specs.Soundness.{IsSound, NestsAtMost}
@@ -29,7 +29,7 @@ module _ (x y : Inner) where
   RowAlike None = Unit {0}
   RowAlike (Some row) = ToldAlike x y row.0
 
-  item-at : (items : List Item) (k : ℕ) → ItemsAlike items → ItemAlike (get_or items k no_item)
+  pub item-at : (items : List Item) (k : ℕ) → ItemsAlike items → ItemAlike (get_or items k no_item)
   item-at [] zero same = tt
   item-at [] (suc k) same = tt
   item-at (item ∷ items) zero same = same.0
@@ -40,7 +40,7 @@ module _ (x y : Inner) where
   items-drop (suc n) [] same = tt
   items-drop (suc n) (item ∷ items) same = items-drop n items same.1
 
-  height-same : (item : Item) (q : Token) → ItemAlike item → height_of x item q ≡ height_of y item q
+  pub height-same : (item : Item) (q : Token) → ItemAlike item → height_of x item q ≡ height_of y item q
   height-same (Atom height kind) q same = refl
   height-same (Row r) q same = same.size q
 
@@ -63,7 +63,7 @@ module _ (x y : Inner) where
     step-of : Strip → ℕ → Token → ℕ → Step
     step-of s k q height = record (step_at y d f s k q) { height = height; need = (lay_all (put s height) (seam_of f (k + 1)).tail).y + bottoms d (open_across f (k + 1)) }
 
-    steps-same : (s : Strip) (k : ℕ) (q : Token) (n : ℕ) → steps x d f s k q n ≡ steps y d f s k q n
+    pub steps-same : (s : Strip) (k : ℕ) (q : Token) (n : ℕ) → steps x d f s k q n ≡ steps y d f s k q n
     unfolding steps step-of
     steps-same s k q zero = refl
     steps-same s k q (suc n) =
@@ -93,14 +93,14 @@ module _ (x y : Inner) where
     up_to-same avoids h before None same = refl
     up_to-same avoids h before (Some s) same = ap (stopped (avoids s.item) h before s) (fill-same (room s h) s.row same)
 
-    column-same : (t : Token) (h : ℕ) → column x d f t h ≡ column y d f t h
+    pub column-same : (t : Token) (h : ℕ) → column x d f t h ≡ column y d f t h
     unfolding column
     column-same t h =
         ap (column_over x (avoids_at d f) h) (steps-same (start_strip d f t) (item_number t) (within t) (length f.items - item_number t))
         ∙ up_to-same (avoids_at d f) h (cut h (steps_from y d f t)).before (cut h (steps_from y d f t)).stop
         (cut-stop IsAlike h (item_number t) (steps_from y d f t) (steps-alike (start_strip d f t) (item_number t) (within t) (length f.items - item_number t)))
 
-    columns-same : (n : ℕ) (t : Token) (h : ℕ) → columns x d f n t h ≡ columns y d f n t h
+    pub columns-same : (n : ℕ) (t : Token) (h : ℕ) → columns x d f n t h ≡ columns y d f n t h
     unfolding columns_by
     columns-same zero t h = refl
     columns-same (suc n) t h = go (is_end f t) (columns-same n (column y d f t h).end h)
@@ -110,10 +110,10 @@ module _ (x y : Inner) where
         go true e = refl
         go false e = ap (λ c. c ∷ columns x d f n c.end h) (column-same t h) ∙ ap (λ cs. column y d f t h ∷ cs) e
 
-    reach-same : (q : Token) → reach x d f q ≡ reach y d f q
+    pub reach-same : (q : Token) → reach x d f q ≡ reach y d f q
     reach-same q = rw (heights-same (within q) (drop (item_number q) f.items) (items-drop (item_number q) f.items alike)) refl
 
-    left_in-same : (q : Token) → left_in x f q ≡ left_in y f q
+    pub left_in-same : (q : Token) → left_in x f q ≡ left_in y f q
     left_in-same q = left-same (within q) (drop (item_number q) f.items) (items-drop (item_number q) f.items alike)
 
 least-same : (p p' : ℕ → Bool) → ((h : ℕ) → p h ≡ p' h) → (n lo : ℕ) → least p n lo ≡ least p' n lo
@@ -132,19 +132,21 @@ unfolding fits
 fits-same x y d r q h alike =
     ap (λ cs. is_end (flow_in d r) (end_of q cs) && not (list_any fails cs)) (columns-same x y d (flow_in d r) alike (most_columns (row_of d r).n (flow_in d r) q) q h)
 
-size-same : (x y : Inner) (d : FlowsData) (r : ℕ) (q : Token) → ItemsAlike x y (flow_in d r).items → size_in x d r q ≡ size_in y d r q
+pub size-same : (x y : Inner) (d : FlowsData) (r : ℕ) (q : Token) → ItemsAlike x y (flow_in d r).items →
+    size_in x d r q ≡ size_in y d r q
 unfolding size_in
 size-same x y d r q alike =
     ap (λ n. least (fits x d r q) n 0) (reach-same x y d (flow_in d r) alike q) ∙ least-same (fits x d r q) (fits y d r q) (λ h. fits-same x y d r q h alike) (reach y d (flow_in d r) q) 0
 
-fill_in-same : (x y : Inner) (d : FlowsData) (r : ℕ) (q : Token) (h : ℕ) → ItemsAlike x y (flow_in d r).items → fill_in x d r q h ≡ fill_in y d r q h
+pub fill_in-same : (x y : Inner) (d : FlowsData) (r : ℕ) (q : Token) (h : ℕ) → ItemsAlike x y (flow_in d r).items →
+    fill_in x d r q h ≡ fill_in y d r q h
 unfolding fill_in
 fill_in-same x y d r q h alike = ap (filled_by (flow_in d r) q) (columns-same x y d (flow_in d r) alike (row_of d r).n q h)
 
 -- ---- by how many rows stand one inside another
 
 -- what is true of each row in a flow is true of each of its items that is a row
-items-alike : (x y : Inner) (P : ℕ → Type 0) → ((r : ℕ) → P r → ToldAlike x y r) → (items : List Item) → All P (flat_map row_in items) → ItemsAlike x y items
+pub items-alike : (x y : Inner) (P : ℕ → Type 0) → ((r : ℕ) → P r → ToldAlike x y r) → (items : List Item) → All P (flat_map row_in items) → ItemsAlike x y items
 items-alike x y P told [] all = tt
 items-alike x y P told (Atom height kind ∷ items) all = (tt, items-alike x y P told items all)
 items-alike x y P told (Row r ∷ items) all = (told r (all 0 r (omega arith)), items-alike x y P told items (λ k e lt. all (suc k) e (omega arith)))

@@ -1,12 +1,14 @@
 -- A column ends within a row only where that row is its stop, and has less room than it needs.
-use Rattle.std.proofs.Common.{◌≡◌, ℕ, ◌+◌, ◌-◌, ◌<◌, ◌≤◌, Bool, true, false, cond, List, [], ◌∷◌, ◌++◌, length, Option, Some, None, refl, arith}
+use Rattle.std.proofs.Common.{◌≡◌, ℕ, zero, suc, ◌+◌, ◌-◌, ◌<◌, ◌≤◌, Bool, true, false, cond, List, [], ◌∷◌, ◌++◌, length, Option, Some, None, refl, arith}
+use Rattle.std.specs.Prelude.{nat_lt}
 use Rattle.std.specs.List.{AllByRecursion as Each}
-use Rattle.flow_list.specs.Data.{Flow, FlowsData}
-use Rattle.flow_data.specs.Flows.{item_of}
-use Rattle.flow_list.specs.Tokens.{Token, item_number, within}
-use Rattle.flow_list.specs.Strip.{Strip}
-use Rattle.flow_list.specs.Column.{Filled, Inner, Step, Place, cut, height_of, row_from, steps, steps_from, start_strip, inside_place, room, seams_before, seams_between, column, column_up_to, avoids_at}
-use Rattle.flow_list.proofs.ColumnParts.{EachFrom, steps-each, OfStop, cut-stop, stopped-each}
+use Rattle.flow_data.specs.Data.{Flow, FlowsData}
+use Rattle.flow_data.specs.Flows.{item_of, seam_of}
+use Rattle.flow_list.specs.Tokens.{Token, row_start, item_number, within}
+use Rattle.flow_list.specs.Strip.{Strip, lay_all}
+use Rattle.flow_list.specs.Column.{Filled, Inner, Step, Place, cut, longer, height_of, row_from, strip_behind, steps, steps_from, start_strip, is_forced, inside_place, room, seams_before, seams_between, column, column_up_to, avoids_at}
+use Rattle.flow_list.proofs.ColumnParts.{stopped-each}
+pub use Rattle.flow_list.proofs.ColumnParts.{OfStop}
 
 -- ---- where a column ends
 
@@ -68,11 +70,27 @@ pub record IsStepFrom (inner : Inner) (f : Flow) (k : ℕ) (s : Step) : Type 0 w
   pub row : s.row ≡ row_from (item_of f s.item) from
   pub height : s.height ≡ height_of inner (item_of f s.item) from
 
-steps-from : (inner : Inner) (d : FlowsData) (f : Flow) (low : ℕ) (s : Strip) (k : ℕ) (q : Token) (n : ℕ) → low ≤ k → EachFrom (λ m. IsStepFrom inner f low) k (steps inner d f s k q n)
-steps-from inner d f low =
-    steps-each inner d f (λ s k q n. low ≤ k) (λ m. IsStepFrom inner f low) (λ s k q n le. record { later = le; from = q; row = refl; height = refl }) (λ s k q n le. omega arith)
+pub steps-from : (inner : Inner) (d : FlowsData) (f : Flow) (low : ℕ) (s : Strip) (k : ℕ) (q : Token) (n : ℕ) → low ≤ k →
+    Each (IsStepFrom inner f low) (steps inner d f s k q n)
+unfolding steps
+steps-from inner d f low s k q zero le = tt
+steps-from inner d f low s k q (suc n) le =
+    (record { later = le; from = q; row = refl; height = refl }, go (is_forced (seam_of f (k + 1)).level) (steps-from inner d f low (lay_all (strip_behind inner f s k q) (seam_of f (k + 1)).head) (k + 1) row_start n (omega arith)))
+  where
+    more : List Step
+    more = steps inner d f (lay_all (strip_behind inner f s k q) (seam_of f (k + 1)).head) (k + 1) row_start n
+
+    go : (x : Bool) → Each (IsStepFrom inner f low) more → Each (IsStepFrom inner f low) (elim x [ true ↦ [] | false ↦ more ])
+    go true r = tt
+    go false r = r
+
+pub cut-of-steps : (P : Step → Type 0) (h : ℕ) (ss : List Step) → Each P ss → OfStop P (cut h ss).stop
+cut-of-steps P h [] all = tt
+cut-of-steps P h (s ∷ ss) all = go (nat_lt h s.need) (cut-of-steps P h ss all.1)
+  where
+    go : (b : Bool) → OfStop P (cut h ss).stop → OfStop P (cond b (record { before = []; stop = Some s }) (longer s (cut h ss))).stop
+    go true u = all.0
+    go false u = u
 
 pub stop-from : (inner : Inner) (d : FlowsData) (f : Flow) (t : Token) (h : ℕ) → OfStop (IsStepFrom inner f (item_number t)) (cut h (steps_from inner d f t)).stop
-stop-from inner d f t h =
-    cut-stop (IsStepFrom inner f (item_number t)) h (item_number t) (steps_from inner d f t)
-    (steps-from inner d f (item_number t) (start_strip d f t) (item_number t) (within t) (length f.items - item_number t) (omega arith))
+stop-from inner d f t h = cut-of-steps (IsStepFrom inner f (item_number t)) h (steps_from inner d f t) (steps-from inner d f (item_number t) (start_strip d f t) (item_number t) (within t) (length f.items - item_number t) (omega arith))

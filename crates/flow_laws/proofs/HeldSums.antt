@@ -43,7 +43,7 @@ height_held d n f = held d (height_of_flow d) n f
 -- ---- items
 
 -- the items of a row's flow, and the atoms of another flow
-count_in : FlowsData → ℕ → ℕ
+pub count_in : FlowsData → ℕ → ℕ
 count_in d f = cond (count_of f (map (λ (r : RowInfo). r.flow) d.rows) == 0) (count_by is_atom (flow_of d f).items) (length (flow_of d f).items)
 
 -- those of a flow, n deep
@@ -80,7 +80,7 @@ module _ (d : FlowsData) (sound : IsSound d) where
   unfolding count_in
   count-le f = let a = count_by-le-length is_atom (flow_of d f).items in grind (arith, nat_tests)
 
-  row-count : (r : ℕ) → r < length d.rows → count_in d (row_of d r).flow ≡ length (flow_in d r).items
+  pub row-count : (r : ℕ) → r < length d.rows → count_in d (row_of d r).flow ≡ length (flow_in d r).items
   unfolding count_in
   row-count r lt = let a = has-count (λ (r : RowInfo). r.flow) d.rows r no_row lt in grind (arith, nat_tests)
 
@@ -97,7 +97,7 @@ module _ (d : FlowsData) (sound : IsSound d) where
       sum_by-append (λ m. cond (m == (get_or d.stacks k e).flow) 1 0) (map (λ (r : RowInfo). r.flow) d.rows) (map (λ (s : Stack). s.flow) d.stacks) in
       grind (arith, nat_tests)
 
-  counts-le : up (count_in d) 0 (length d.flows) ≤ item_total d
+  pub counts-le : up (count_in d) 0 (length d.flows) ≤ item_total d
   counts-le =
       let within = up-within (count_in d) 0 (length d.flows) (flow_owners d) (owners-known d sound) (λ n lt. sound.flow_belongs n (omega arith)) in
       let both = sum_by-append (count_in d) (map (λ (r : RowInfo). r.flow) d.rows) (map (λ (s : Stack). s.flow) d.stacks) in
@@ -144,7 +144,8 @@ items-total inner total q (Row r ∷ items) all =
     let rest = items-total inner total row_start items (λ k e lt. all (suc k) e (omega arith)) in
     omega (arith, sum_by-cons total r (flat_map row_in items))
 
-items-part : (inner : Inner) (total : ℕ → ℕ) (q : Token) (n : ℕ) (items : List Item) → All (λ s. (p : Token) → inner.left s p ≤ total s) (flat_map row_in items) →
+pub items-part : (inner : Inner) (total : ℕ → ℕ) (q : Token) (n : ℕ) (items : List Item) →
+    All (λ s. (p : Token) → inner.left s p ≤ total s) (flat_map row_in items) →
     items_left inner q (drop n items) ≤ length items + sum_by total (flat_map row_in items)
 items-part inner total q zero items all = items-total inner total q items all
 items-part inner total q (suc n) [] all = omega arith

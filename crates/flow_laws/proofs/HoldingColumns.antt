@@ -14,7 +14,7 @@ use Rattle.flow_list.specs.Placing.{RowLaid}
 use Rattle.flow_list.specs.Fragments.{continuing, laid_start, laid_to, stop_of, column_made, fragment_of}
 use Rattle.flow_laws.specs.Progress.{AtomAt, Contents, item_atoms, atoms_of_items, atoms_in}
 use Rattle.flow_laws.specs.Holding.{atoms_in_tree, atoms_in_trees}
-use Rattle.flow_laws.proofs.Places.{in-items}
+use Rattle.flow_laws.proofs.Places.{in-items, IsReached, start-reached}
 use Rattle.flow_laws.proofs.HoldingTrees.{Reads, column-reads}
 use Rattle.flow_laws.proofs.HoldingEnds.{taken_at, taken-start, taken, EndsAtSeam, EndsInRow, EndsFor, column-ends}
 use Rattle.flow_laws.proofs.HoldingLaid.{of_item, of_items, counted, items_to, seam-laid, row-laid}
@@ -29,21 +29,24 @@ module _ (d : FlowsData) (x : Inner) (c : Contents) (columns : RowLaid → List 
 
   -- A row within holds its atoms: whole, all from a place on; filled, those before the place that it leaves. That place is a later one.
   pub record RowHolds (s : ℕ) : Type 0 where
-    pub some : 0 < length (flow_in d s).items
-    pub whole : (q : Token) (a : ℕ) → IsPlaceBefore d (flow_in d s) q → piece_of s q a false ≡ c.atoms s q
-    pub part : (q : Token) (a : ℕ) → IsPlaceBefore d (flow_in d s) q → piece_of s q a true ++ c.atoms s (x.fill s q a).end ≡ c.atoms s q
-    pub none : (q : Token) (a : ℕ) → IsPlaceBefore d (flow_in d s) q → (x.fill s q a).at_end ≡ true → c.atoms s (x.fill s q a).end ≡ []
-    pub place : (q : Token) (a : ℕ) → IsPlaceBefore d (flow_in d s) q → (x.fill s q a).at_end ≡ false → IsPlaceBefore d (flow_in d s) (x.fill s q a).end
-    pub fewer : (q : Token) (a : ℕ) → IsPlaceBefore d (flow_in d s) q → (x.fill s q a).at_end ≡ false → x.left s (x.fill s q a).end < x.left s q
+    pub whole : (q : Token) (a : ℕ) → IsReached d (flow_in d s) q → piece_of s q a false ≡ c.atoms s q
+    pub part : (q : Token) (a : ℕ) → IsReached d (flow_in d s) q →
+        piece_of s q a true ++ c.atoms s (x.fill s q a).end ≡ c.atoms s q
+    pub none : (q : Token) (a : ℕ) → IsReached d (flow_in d s) q → (x.fill s q a).at_end ≡ true →
+        c.atoms s (x.fill s q a).end ≡ []
+    pub place : (q : Token) (a : ℕ) → IsReached d (flow_in d s) q → (x.fill s q a).at_end ≡ false →
+        IsPlaceBefore d (flow_in d s) (x.fill s q a).end
+    pub fewer : (q : Token) (a : ℕ) → IsReached d (flow_in d s) q → (x.fill s q a).at_end ≡ false →
+        x.left s (x.fill s q a).end < x.left s q
 
   abbrev pub ItemHolds : Item → Type 0
   ItemHolds (Atom height kind) = Unit {0}
   ItemHolds (Row s) = RowHolds s
 
-  -- this is a place in an item
+  -- this is a place in an item, or its end
   abbrev PlaceIn : Token → Item → Type 0
   PlaceIn q (Atom height kind) = Unit {0}
-  PlaceIn q (Row s) = IsPlaceBefore d (flow_in d s) q
+  PlaceIn q (Row s) = IsReached d (flow_in d s) q
 
   abbrev FirstIn : Token → List Item → Type 0
   FirstIn q [] = Unit {0}
@@ -51,7 +54,7 @@ module _ (d : FlowsData) (x : Inner) (c : Contents) (columns : RowLaid → List 
 
   start-in : (item : Item) → ItemHolds item → PlaceIn row_start item
   start-in (Atom height kind) holds = tt
-  start-in (Row s) holds = holds.some
+  start-in (Row s) holds = start-reached d (flow_in d s)
 
   start-first : (items : List Item) → Each ItemHolds items → FirstIn row_start items
   start-first [] holds = tt
@@ -138,24 +141,21 @@ module _ (d : FlowsData) (x : Inner) (c : Contents) (columns : RowLaid → List 
       inside = in-items d f t here
 
       -- the place in item k from which it is taken
-      pub place-at : (k s : ℕ) → item_of f k ≡ Row s → item_number t ≤ k → IsPlaceBefore d (flow_in d s) (taken x f t k)
+      pub place-at : (k s : ℕ) → item_of f k ≡ Row s → item_number t ≤ k → IsReached d (flow_in d s) (taken x f t k)
       place-at k s is le = go (k - item_number t) refl
         where
-          row_holds : RowHolds s
-          row_holds = let P : Item → Type 0 = λ item. ItemHolds item in subst P is (holds-at f.items k holds)
-
-          first : (u : Token) → IsPlaceBefore d f u → item_of f (item_number u) ≡ Row s → IsPlaceBefore d (flow_in d s) (within u)
+          first : (u : Token) → IsPlaceBefore d f u → item_of f (item_number u) ≡ Row s → IsReached d (flow_in d s) (within u)
           first [] place e = absurd place
-          first (i ∷ []) place e = row_holds.some
+          first (i ∷ []) place e = start-reached d (flow_in d s)
           first (i ∷ (j ∷ rest)) place e =
               let both : Row place.1 ≡ Row s = sym place.2 ∙ e in
               let rows : place.1 ≡ s = cc in
               let P : ℕ → Type 0 = λ n. IsPlaceBefore d (flow_in d n) (j ∷ rest) in
-              subst P rows place.3
+              inr (subst P rows place.3)
 
-          go : (n : ℕ) → k - item_number t ≡ n → IsPlaceBefore d (flow_in d s) (taken_at n (within t))
+          go : (n : ℕ) → k - item_number t ≡ n → IsReached d (flow_in d s) (taken_at n (within t))
           go zero e = let same : k ≡ item_number t = omega arith in let Q : ℕ → Type 0 = λ k. item_of f k ≡ Row s in first t here (subst Q same is)
-          go (suc n) e = row_holds.some
+          go (suc n) e = start-reached d (flow_in d s)
 
       first-in : FirstIn (within t) (drop (item_number t) f.items)
       first-in =
@@ -165,7 +165,7 @@ module _ (d : FlowsData) (x : Inner) (c : Contents) (columns : RowLaid → List 
           go : (item : Item) → item_of f (item_number t) ≡ item → PlaceIn (within t) item
           go (Atom height kind) is = tt
           go (Row s) is =
-              let P : ℕ → Type 0 = λ n. IsPlaceBefore d (flow_in d s) (taken_at n (within t)) in
+              let P : ℕ → Type 0 = λ n. IsReached d (flow_in d s) (taken_at n (within t)) in
               let e : item_number t - item_number t ≡ 0 = omega arith in
               subst P e (place-at (item_number t) s is (omega arith))
 
@@ -201,8 +201,8 @@ module _ (d : FlowsData) (x : Inner) (c : Contents) (columns : RowLaid → List 
         row_holds : RowHolds e.row
         row_holds = let P : Item → Type 0 = λ item. ItemHolds item in subst P e.item (holds-at f.items s.item holds)
 
-        from_place : IsPlaceBefore d (flow_in d e.row) e.from
-        from_place = subst (IsPlaceBefore d (flow_in d e.row)) (sym e.taken_from) (place-at s.item e.row e.item e.later)
+        from_place : IsReached d (flow_in d e.row) e.from
+        from_place = subst (IsReached d (flow_in d e.row)) (sym e.taken_from) (place-at s.item e.row e.item e.later)
 
         abbrev left : Token
         left = (x.fill e.row e.from (room s h)).end

@@ -7,7 +7,7 @@ use Rattle.std.proofs.lemmas.Bool.Decides.{nat_tests}
 use Rattle.std.proofs.lemmas.List.Elements.{All-from_recursion}
 use Rattle.std.proofs.lemmas.List.Kept.{AllPairs-cons}
 use Rattle.std.proofs.lemmas.List.Sums.{sum_by-cons, sum_by-append, get_or-le-sum_by}
-use Rattle.flow_list.specs.Data.{FlowsData, Item, RowInfo, Stack, Atom, Row}
+use Rattle.flow_data.specs.Data.{FlowsData, Item, RowInfo, Stack, Atom, Row}
 use Rattle.flow_data.specs.Flows.{row_of, flow_in, row_in, rows_in, no_row, no_flow}
 use Rattle.flow_data.specs.Soundness.{IsSound, count_of}
 use Rattle.flow_data.proofs.OpenBoxes.{some-index}
@@ -17,7 +17,7 @@ use Rattle.flow_list.proofs.PlaceBounds.{Each-append}
 use Rattle.flow_laws.specs.Progress.{AtomAt, atoms_of_items, contents_to, atoms_from}
 use Rattle.flow_laws.proofs.Totals.{sum-flat, sum-map}
 use Rattle.flow_laws.proofs.HoldingRows.{IsWithin, rows-within}
-use Rattle.flow_laws.proofs.HoldingParts.{split-count, once-in-row}
+use Rattle.flow_laws.proofs.HoldingParts.{split-count, once-in-flow}
 
 -- ---- lists
 
@@ -28,7 +28,7 @@ sum-two g (x ∷ xs) zero (suc j) d lt known = omega (arith, sum_by-cons g x xs,
 sum-two g (x ∷ xs) (suc i) (suc j) d lt known = omega (arith, sum_by-cons g x xs, sum-two g xs i j d (omega arith) (omega arith))
 
 -- where a sum is 1 at most, it has one place
-one-place : {X : Type 0} (g : X → ℕ) (xs : List X) (i j : ℕ) (d : X) → sum_by g xs ≤ 1 → i < length xs → j < length xs → 1 ≤ g (get_or xs i d) → 1 ≤ g (get_or xs j d) → i ≡ j
+pub one-place : {X : Type 0} (g : X → ℕ) (xs : List X) (i j : ℕ) (d : X) → sum_by g xs ≤ 1 → i < length xs → j < length xs → 1 ≤ g (get_or xs i d) → 1 ≤ g (get_or xs j d) → i ≡ j
 one-place g xs i j d few in_i in_j at_i at_j = go (cases_lt i j) (cases_lt j i)
   where
     go : (i < j) ⊎ (j ≤ i) → (j < i) ⊎ (i ≤ j) → i ≡ j
@@ -36,7 +36,7 @@ one-place g xs i j d few in_i in_j at_i at_j = go (cases_lt i j) (cases_lt j i)
     go (inr ge) (inl lt) = absurd (let two = sum-two g xs j i d lt in_i in omega arith)
     go (inr ge) (inr le) = omega arith
 
-one-at : (m n : ℕ) → m ≡ n → 1 ≤ cond (m == n) 1 0
+pub one-at : (m n : ℕ) → m ≡ n → 1 ≤ cond (m == n) 1 0
 one-at m n e = let yes : (m == n) ≡ true = grind (arith, nat_tests) in let P : Bool → Type 0 = λ b. 1 ≤ cond b 1 0 in subst P (sym yes) (omega arith)
 
 -- these atoms differ from each other
@@ -263,7 +263,8 @@ module _ (d : FlowsData) (sound : IsSound d) where
 
     fine-drop : (i : ℕ) → Fine (drop i (flow_in d s).items)
     fine-drop i = record {
-      few = λ u known. let a = split-count u i (flow_in d s).items in let b = once-in-row d sound s lt u known in omega arith;
+      few = λ u known. let a = split-count u i (flow_in d s).items in let b =
+          once-in-flow d sound (row_of d s).flow (sound.rows s no_row lt).flow u known in omega arith;
       child = λ u some. let a = split-count u i (flow_in d s).items in omega arith;
     }
 

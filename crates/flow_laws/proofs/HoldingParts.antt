@@ -7,8 +7,8 @@ use Rattle.std.proofs.lemmas.List.Elements.{All-take, All-drop}
 use Rattle.std.proofs.lemmas.List.Concat.{flat_map-append}
 use Rattle.std.proofs.lemmas.List.Sums.{sum_by-append, get_or-le-sum_by}
 use Rattle.mc_base.specs.PlainTree.{PlainTree}
-use Rattle.flow_list.specs.Data.{Flow, FlowsData, Item, Atom, Row}
-use Rattle.flow_data.specs.Flows.{row_of, flow_in, item_of, no_item, no_row, no_flow, row_in, rows_in}
+use Rattle.flow_data.specs.Data.{Flow, FlowsData, Item, Atom, Row}
+use Rattle.flow_data.specs.Flows.{flow_of, item_of, no_item, no_flow, row_in, rows_in}
 use Rattle.flow_data.specs.Soundness.{IsSound, IsSoundFlow, IsSoundItem, count_of}
 use Rattle.flow_data.proofs.Counts.{distinct-once}
 use Rattle.flow_list.specs.Tokens.{Token, row_start, item_number, within}
@@ -125,28 +125,32 @@ split-count m n items =
     sym (sum_by-append (λ k. cond (k == m) 1 0) (flat_map row_in (take n items)) (flat_map row_in (drop n items)))
     ∙ ap (count_of m) (sym (flat_map-append row_in (take n items) (drop n items))) ∙ ap (λ xs. count_of m (flat_map row_in xs)) (take-append-drop n items)
 
--- in sound flows a row stands once at most in a row's flow
-pub once-in-row : (d : FlowsData) → IsSound d → (r : ℕ) → r < length d.rows → (m : ℕ) → m < length d.rows → count_of m (rows_in (flow_in d r)) ≤ 1
-once-in-row d sound r lt m known =
-    let row = sound.rows r no_row lt in
+-- in sound data a row stands once at most in a flow
+pub once-in-flow : (d : FlowsData) → IsSound d → (f : ℕ) → f < length d.flows → (m : ℕ) → m < length d.rows →
+    count_of m (rows_in (flow_of d f)) ≤ 1
+once-in-flow d sound f lt m known =
     let belongs = sound.row_belongs m known in
-    let in_all : count_of m (rows_in (flow_in d r)) ≤ sum_by (λ f. count_of m (rows_in f)) d.flows = get_or-le-sum_by (λ f. count_of m (rows_in f)) d.flows (row_of d r).flow no_flow row.flow in
+    let in_all : count_of m (rows_in (flow_of d f)) ≤ sum_by (λ f. count_of m (rows_in f)) d.flows =
+    get_or-le-sum_by (λ f. count_of m (rows_in f)) d.flows f no_flow lt in
     let all = sum-flat (λ k. cond (k == m) 1 0) rows_in d.flows in
     omega arith
 
--- In sound flows no row is twice among items of a row's flow.
-pub rows-apart : (d : FlowsData) → IsSound d → (r : ℕ) → r < length d.rows → (k i n : ℕ) (q : Token) → AllPairs (λ a b. a ≢ b) (flat_map row_of_part (parts_of k q (take n (drop i (flow_in d r).items))))
-rows-apart d sound r lt k i n q =
-    subst (AllPairs (λ a b. a ≢ b)) (sym (rows-are k q (take n (drop i (flow_in d r).items))))
-    (distinct-once (length d.rows) (flat_map row_in (take n (drop i (flow_in d r).items)))
-    (rows-in-range d (take n (drop i (flow_in d r).items)) (All-take (IsSoundItem d) n (drop i (flow_in d r).items) (All-drop (IsSoundItem d) i (flow_in d r).items flow.items))) once)
+-- In sound data no row is twice among items of a flow.
+pub rows-apart : (d : FlowsData) → IsSound d → (f : ℕ) → f < length d.flows → (k i n : ℕ) (q : Token) →
+    AllPairs (λ a b. a ≢ b) (flat_map row_of_part (parts_of k q (take n (drop i (flow_of d f).items))))
+rows-apart d sound f lt k i n q =
+    subst (AllPairs (λ a b. a ≢ b)) (sym (rows-are k q (take n (drop i (flow_of d f).items))))
+    (distinct-once (length d.rows) (flat_map row_in (take n (drop i (flow_of d f).items)))
+    (rows-in-range d (take n (drop i (flow_of d f).items))
+    (All-take (IsSoundItem d) n (drop i (flow_of d f).items)
+    (All-drop (IsSoundItem d) i (flow_of d f).items flow.items))) once)
   where
-    flow : IsSoundFlow d (flow_in d r)
-    flow = sound.flows (row_of d r).flow no_flow (sound.rows r no_row lt).flow
+    flow : IsSoundFlow d (flow_of d f)
+    flow = sound.flows f no_flow lt
 
-    once : (m : ℕ) → m < length d.rows → count_of m (flat_map row_in (take n (drop i (flow_in d r).items))) ≤ 1
+    once : (m : ℕ) → m < length d.rows → count_of m (flat_map row_in (take n (drop i (flow_of d f).items))) ≤ 1
     once m known =
-        let all = once-in-row d sound r lt m known in
-        let a = split-count m i (flow_in d r).items in
-        let b = split-count m n (drop i (flow_in d r).items) in
+        let all = once-in-flow d sound f lt m known in
+        let a = split-count m i (flow_of d f).items in
+        let b = split-count m n (drop i (flow_of d f).items) in
         omega arith

@@ -1,11 +1,11 @@
 -- Columns one after another hold the atoms between them, and so do the columns of rows, by how many rows stand one inside another.
-use Rattle.std.proofs.Common.{◌≡◌, ℕ, zero, suc, ◌+◌, ◌<◌, ◌≤◌, Bool, true, false, List, [], ◌∷◌, ◌++◌, length, get_or, Option, Some, refl, sym, subst, ◌∙◌, ap, arith, append_assoc, ◌⊎◌, inl, inr}
+use Rattle.std.proofs.Common.{◌≡◌, ℕ, zero, suc, ◌+◌, ◌<◌, ◌≤◌, Bool, true, false, List, [], ◌∷◌, ◌++◌, length, get_or, Option, Some, refl, sym, subst, ◌∙◌, ap, arith, append_assoc, inl, inr}
 use Rattle.std.specs.Prelude.{All}
 use Rattle.std.specs.List.{AllByRecursion as Each, flat_map}
 use Rattle.std.proofs.lemmas.List.{append-nil, drop_more}
 use Rattle.mc_base.specs.PlainTree.{PlainTree, plain_trees}
-use Rattle.flow_list.specs.Data.{Flow, FlowsData, Item, Atom, Row}
-use Rattle.flow_data.specs.Flows.{row_of, flow_in, row_in, rows_in, no_item, no_row}
+use Rattle.flow_data.specs.Data.{Flow, FlowsData, Item, Atom, Row}
+use Rattle.flow_data.specs.Flows.{row_of, flow_of, flow_in, row_in, rows_in, no_item, no_row}
 use Rattle.flow_data.specs.Soundness.{IsSound}
 use Rattle.flow_list.specs.Tokens.{Token, item_number, within, is_end, IsPlaceBefore}
 use Rattle.flow_list.specs.Column.{Column, Inner}
@@ -14,13 +14,10 @@ use Rattle.flow_list.specs.Placing.{RowLaid}
 use Rattle.flow_list.specs.Fragments.{column_made, fragment_of, fragments_from, row_fragments}
 use Rattle.flow_laws.specs.Progress.{Contents, atoms_in, contents_to}
 use Rattle.flow_laws.specs.Holding.{atoms_in_tree, atoms_in_trees}
-use Rattle.flow_laws.proofs.Places.{in-items, before-end}
-use Rattle.flow_laws.proofs.SoundRows.{good-rows}
+use Rattle.flow_laws.proofs.Places.{in-items, before-end, IsReached}
+use Rattle.flow_laws.proofs.SoundRows.{good-rows, rows-of-data}
+use Rattle.flow_list.proofs.Fitting.{columns_by-past}
 use Rattle.flow_laws.proofs.HoldingColumns.{none-left, item-some, RowHolds, ItemHolds, column-holds, column-reached, column-fewer}
-
--- the end, or a place before it
-abbrev pub IsReached : FlowsData → Flow → Token → Type 0
-IsReached d f t = (is_end f t ≡ true) ⊎ IsPlaceBefore d f t
 
 before : (d : FlowsData) (f : Flow) (t : Token) → IsReached d f t → is_end f t ≡ false → IsPlaceBefore d f t
 before d f t (inl e) inner = cc
@@ -76,10 +73,11 @@ module _ (d : FlowsData) (x : Inner) (c : Contents) (columns : RowLaid → List 
           let more = again (next t) (column-reached d x c columns r f holds t place h) in
           omega arith
 
-  pub some-fewer : (n : ℕ) (t : Token) → 0 < n → IsPlaceBefore d f t → is_end f t ≡ false → left_in x f (end_of t (columns_from n t)) < left_in x f t
+  place-fewer : (n : ℕ) (t : Token) → 0 < n → IsPlaceBefore d f t → is_end f t ≡ false →
+      left_in x f (end_of t (columns_from n t)) < left_in x f t
   unfolding columns_by
-  some-fewer zero t some place inner = absurd (omega arith)
-  some-fewer (suc n) t some place inner = go (is_end f t) inner
+  place-fewer zero t some place inner = absurd (omega arith)
+  place-fewer (suc n) t some place inner = go (is_end f t) inner
     where
       go : (b : Bool) → b ≡ false → left_in x f (end_of t (elim b as (λ _. List Column) [ true ↦ [] | false ↦ column_made x d f h t ∷ columns_from n (next t) ])) < left_in x f t
       go true e = cc
@@ -87,6 +85,12 @@ module _ (d : FlowsData) (x : Inner) (c : Contents) (columns : RowLaid → List 
           let less = column-fewer d x c columns r f holds t place h in
           let more = columns-fewer n (next t) (column-reached d x c columns r f holds t place h) in
           omega arith
+
+  pub some-fewer : (n : ℕ) (t : Token) → 0 < n → IsReached d f t → is_end f (end_of t (columns_from n t)) ≡ false →
+      left_in x f (end_of t (columns_from n t)) < left_in x f t
+  some-fewer n t some (inl e) inner = let stays : is_end f (end_of t (columns_from n t)) ≡ true =
+      rw (columns_by-past (column_made x d f h) f n t e) e in cc
+  some-fewer n t some (inr place) inner = place-fewer n t some place (before-end d f t place)
 
   left-some : (t : Token) → IsPlaceBefore d f t → 0 < left_in x f t
   left-some t place =
@@ -122,15 +126,23 @@ module _ (d : FlowsData) (x : Inner) (c : Contents) (columns : RowLaid → List 
 abbrev pub RowsHold : FlowsData → ℕ → Flow → Type 0
 RowsHold d m f = Each (ItemHolds d (rows_to d m) (contents_to d m) (row_fragments d m)) f.items
 
-row-holds : (d : FlowsData) (m s : ℕ) → 0 < length (flow_in d s).items → 0 < (row_of d s).n → RowsHold d m (flow_in d s) → RowHolds d (rows_to d (suc m)) (contents_to d (suc m)) (row_fragments d (suc m)) s
+row-holds : (d : FlowsData) (m s : ℕ) → 0 < (row_of d s).n → RowsHold d m (flow_in d s) →
+    RowHolds d (rows_to d (suc m)) (contents_to d (suc m)) (row_fragments d (suc m)) s
 unfolding rows_to contents_to row_fragments fill_in
-row-holds d m s some columns holds = record {
-  some = some;
-  whole = λ q a place. all-hold d (rows_to d m) (contents_to d m) (row_fragments d m) s (flow_in d s) holds (Some a) (row_of d s).flow q (inr place);
-  part = λ q a place. columns-hold d (rows_to d m) (contents_to d m) (row_fragments d m) s (flow_in d s) holds (Some a) (row_of d s).flow (row_of d s).n q (inr place);
-  none = λ q a place e. none-left (contents_to d m) s (flow_in d s) (end_of q (columns_from d (rows_to d m) (contents_to d m) (row_fragments d m) s (flow_in d s) holds (Some a) (row_of d s).n q)) e;
-  place = λ q a place e. before d (flow_in d s) (end_of q (columns_from d (rows_to d m) (contents_to d m) (row_fragments d m) s (flow_in d s) holds (Some a) (row_of d s).n q)) (columns-reached d (rows_to d m) (contents_to d m) (row_fragments d m) s (flow_in d s) holds (Some a) (row_of d s).n q (inr place)) e;
-  fewer = λ q a place e. some-fewer d (rows_to d m) (contents_to d m) (row_fragments d m) s (flow_in d s) holds (Some a) (row_of d s).n q columns place (before-end d (flow_in d s) q place);
+row-holds d m s columns holds = record {
+  whole = λ q a at. all-hold d (rows_to d m) (contents_to d m) (row_fragments d m) s (flow_in d s) holds (Some a)
+      (row_of d s).flow q at;
+  part = λ q a at. columns-hold d (rows_to d m) (contents_to d m) (row_fragments d m) s (flow_in d s) holds (Some a)
+      (row_of d s).flow (row_of d s).n q at;
+  none = λ q a at e. none-left (contents_to d m) s (flow_in d s)
+      (end_of q (columns_from d (rows_to d m) (contents_to d m) (row_fragments d m) s (flow_in d s) holds (Some a)
+      (row_of d s).n q)) e;
+  place = λ q a at e. before d (flow_in d s) (end_of q
+      (columns_from d (rows_to d m) (contents_to d m) (row_fragments d m) s (flow_in d s) holds (Some a) (row_of d s).n q))
+      (columns-reached d (rows_to d m) (contents_to d m) (row_fragments d m) s (flow_in d s) holds (Some a)
+      (row_of d s).n q at) e;
+  fewer = λ q a at e. some-fewer d (rows_to d m) (contents_to d m) (row_fragments d m) s (flow_in d s) holds (Some a)
+      (row_of d s).n q columns at e;
 }
 
 items-hold : (d : FlowsData) (m : ℕ) (P : ℕ → Type 0) → ((s : ℕ) → P s → RowHolds d (rows_to d m) (contents_to d m) (row_fragments d m) s) → (items : List Item) → All P (flat_map row_in items) →
@@ -151,8 +163,20 @@ module _ (d : FlowsData) (sound : IsSound d) where
       let good = good-rows d sound r lt in
       λ k e in_rows. record { known = (good k e in_rows).0; some = (good k e in_rows).1; later = (sound.inner_rows r lt k e in_rows).later }
 
+  -- a row of the data, where it has no more rows behind it
+  known-holds : (m s : ℕ) → s < length d.rows → length d.rows ≤ s + m →
+      RowHolds d (rows_to d m) (contents_to d m) (row_fragments d m) s
+  known-holds zero s lt le = absurd (omega arith)
+  known-holds (suc m) s lt le =
+      row-holds d m s (sound.rows s no_row lt).some_column
+      (items-hold d m (IsWithin s) (λ u w. let later = w.later in known-holds m u w.known (omega arith)) (flow_in d s).items
+      (rows-within s lt))
+
   pub rows-hold : (m r : ℕ) → r < length d.rows → length d.rows ≤ suc (r + m) → RowsHold d m (flow_in d r)
-  rows-hold zero r lt le = items-hold d zero (IsWithin r) (λ s w. absurd (let known = w.known in let later = w.later in omega arith)) (flow_in d r).items (rows-within r lt)
-  rows-hold (suc m) r lt le =
-      items-hold d (suc m) (IsWithin r)
-      (λ s w. row-holds d m s w.some (sound.rows s no_row w.known).some_column (rows-hold m s w.known (let later = w.later in omega arith))) (flow_in d r).items (rows-within r lt)
+  rows-hold m r lt le = items-hold d m (IsWithin r) (λ s w. let later = w.later in known-holds m s w.known (omega arith))
+      (flow_in d r).items (rows-within r lt)
+
+  -- so in any flow of the data
+  pub flow-holds : (f : ℕ) → f < length d.flows → RowsHold d (length d.rows) (flow_of d f)
+  flow-holds f lt = items-hold d (length d.rows) (λ s. s < length d.rows)
+      (λ s known. known-holds (length d.rows) s known (omega arith)) (flow_of d f).items (rows-of-data d sound f lt)

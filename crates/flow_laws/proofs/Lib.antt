@@ -1,34 +1,34 @@
-mod Advance
-mod BoundsAbove
-mod DepthSame
-mod Descent
-mod Exists
-mod FillEnds
-mod Held
+pub mod Advance
+pub mod AllRanges
+pub mod BoundsAbove
+pub mod DepthSame
+pub mod Descent
+pub mod Exists
+pub mod FillEnds
+pub mod Held
 pub mod HeldSums
-mod Holding
-mod HoldingColumns
-mod HoldingEnds
-mod HoldingLaid
-mod HoldingOnce
-mod HoldingParts
-mod HoldingRows
-mod HoldingStacks
-mod HoldingTrees
+pub mod Holding
+pub mod HoldingColumns
+pub mod HoldingEnds
+pub mod HoldingLaid
+pub mod HoldingOnce
+pub mod HoldingParts
+pub mod HoldingRows
+pub mod HoldingStacks
+pub mod HoldingTrees
 pub mod LaidSums
-mod Laying
+pub mod Laying
 pub mod Needs
+pub mod OneRange
 pub mod PlacedSums
-mod Places
-mod OneRange
-mod AllRanges
-mod TallAndArea
+pub mod Places
 pub mod RowHeightBounds
-mod RowsAdvance
-mod RowsStay
+pub mod RowsAdvance
+pub mod RowsStay
 pub mod Small
-mod SoundRows
-mod StackSums
-mod StopStays
-mod Totals
-mod TreeBounds
+pub mod SoundRows
+pub mod StackSums
+pub mod StopStays
+pub mod TallAndArea
+pub mod Totals
+pub mod TreeBounds

@@ -26,7 +26,7 @@ below-each high h (b ∷ bs) all lt =
 -- ---- what is judged
 
 -- one of the columns breaks a rule where one of those that are judged does
-any-judged : (cs : List Column) → list_any fails (up_to fails cs) ≡ list_any fails cs
+pub any-judged : (cs : List Column) → list_any fails (up_to fails cs) ≡ list_any fails cs
 any-judged [] = refl
 any-judged (c ∷ cs) = go (fails c) (any-judged cs)
   where
@@ -35,7 +35,7 @@ any-judged (c ∷ cs) = go (fails c) (any-judged cs)
     go false e = e
 
 -- where none does, all columns are judged
-all-judged : (cs : List Column) → list_any fails cs ≡ false → up_to fails cs ≡ cs
+pub all-judged : (cs : List Column) → list_any fails cs ≡ false → up_to fails cs ≡ cs
 all-judged [] e = refl
 all-judged (c ∷ cs) e = go (fails c) e (all-judged cs)
   where

@@ -21,7 +21,7 @@ column-stays inner law d f t lo h le b = over-stays inner law (avoids_at d f) lo
 
 module _ (stops : Column → Bool) (kept : (a b : Column) → ColumnStays a b → stops b ≡ stops a) (fine : (a : Column) → stops a ≡ false → a.overflow ≡ false) where
   -- these columns and those stay up to the first that the test stops
-  data StayUpTo : List Column → List Column → Type 0 where
+  pub data StayUpTo : List Column → List Column → Type 0 where
     none : StayUpTo [] []
     ends : {a b : Column} {cs ds : List Column} → stops a ≡ true → ColumnStays a b → StayUpTo (a ∷ cs) (b ∷ ds)
     more : {a b : Column} {cs ds : List Column} → stops a ≡ false → ColumnStays a b → StayUpTo cs ds → StayUpTo (a ∷ cs) (b ∷ ds)
@@ -32,11 +32,13 @@ module _ (stops : Column → Bool) (kept : (a b : Column) → ColumnStays a b �
   rest-below : (h : ℕ) (c : Column) (cs : List Column) → stops c ≡ false → IsBelowEach h (bounds_of (up_to stops (c ∷ cs))) → IsBelowEach h (bounds_of (up_to stops cs))
   rest-below h c cs n b = rw n at ((IsBelowEach-append h c.bounds _ b).1)
 
-  cons-stay : (c c' : Column) (cs cs' : List Column) → ColumnStays c c' → (o : Bool) → stops c ≡ o → (o ≡ false → StayUpTo cs cs') → StayUpTo (c ∷ cs) (c' ∷ cs')
+  pub cons-stay : (c c' : Column) (cs cs' : List Column) → ColumnStays c c' → (o : Bool) → stops c ≡ o →
+      (o ≡ false → StayUpTo cs cs') → StayUpTo (c ∷ cs) (c' ∷ cs')
   cons-stay c c' cs cs' e true k rest = ends k e
   cons-stay c c' cs cs' e false k rest = more k e (rest refl)
 
-  columns-stay : (inner : Inner) (law : FillsStay inner) (d : FlowsData) (f : Flow) (n : ℕ) (t : Token) (lo h : ℕ) → lo ≤ h → IsBelowEach h (bounds_of (up_to stops (columns inner d f n t lo))) →
+  pub columns-stay : (inner : Inner) (law : FillsStay inner) (d : FlowsData) (f : Flow) (n : ℕ) (t : Token) (lo h : ℕ) → lo ≤ h →
+      IsBelowEach h (bounds_of (up_to stops (columns inner d f n t lo))) →
       StayUpTo (columns inner d f n t lo) (columns inner d f n t h)
   unfolding columns_by
   columns-stay inner law d f zero t lo h le b = none
@@ -53,40 +55,43 @@ module _ (stops : Column → Bool) (kept : (a b : Column) → ColumnStays a b �
           cons-stay (column inner d f t lo) (column inner d f t h) _ _ e (stops (column inner d f t lo)) refl
           (λ k. rw (e.end (fine _ k)) (again (column inner d f t lo).end (rest-below h (column inner d f t lo) _ k b)))
 
-  lines-stay : {cs ds : List Column} → StayUpTo cs ds → flat_map (λ (c : Column). c.lines) (up_to stops ds) ≡ flat_map (λ (c : Column). c.lines) (up_to stops cs)
+  pub lines-stay : {cs ds : List Column} → StayUpTo cs ds →
+      flat_map (λ (c : Column). c.lines) (up_to stops ds) ≡ flat_map (λ (c : Column). c.lines) (up_to stops cs)
   lines-stay none = refl
   lines-stay (ends k e) = rw (kept _ _ e, k, e.lines) refl
   lines-stay (more k e rest) = rw (kept _ _ e, k, e.lines, lines-stay rest) refl
 
-  any-stays : {cs ds : List Column} → StayUpTo cs ds → list_any stops ds ≡ list_any stops cs
+  pub any-stays : {cs ds : List Column} → StayUpTo cs ds → list_any stops ds ≡ list_any stops cs
   any-stays none = refl
   any-stays (ends k e) = rw (kept _ _ e, k) refl
   any-stays (more k e rest) = rw (kept _ _ e, k, any-stays rest) refl
 
-  end-stays : {cs ds : List Column} → StayUpTo cs ds → list_any stops cs ≡ false → (q : Token) → end_of q ds ≡ end_of q cs
+  pub end-stays : {cs ds : List Column} → StayUpTo cs ds → list_any stops cs ≡ false → (q : Token) → end_of q ds ≡ end_of q cs
   end-stays none n q = refl
   end-stays (ends k e) n q = let m : true ≡ false = rw k at n in cc
   end-stays (more k e rest) n q = rw (e.end (fine _ k)) (end-stays rest (rw k at n) _)
 
-  level-stays : {cs ds : List Column} → StayUpTo cs ds → list_any stops cs ≡ false → (l : ℕ) → fold (λ l (c : Column). max l c.level) l ds ≡ fold (λ l (c : Column). max l c.level) l cs
+  pub level-stays : {cs ds : List Column} → StayUpTo cs ds → list_any stops cs ≡ false → (l : ℕ) →
+      fold (λ l (c : Column). max l c.level) l ds ≡ fold (λ l (c : Column). max l c.level) l cs
   level-stays none n l = refl
   level-stays (ends k e) n l = let m : true ≡ false = rw k at n in cc
   level-stays (more k e rest) n l = rw (e.level (fine _ k)) (level-stays rest (rw k at n) _)
 
-  each-stays : {cs ds : List Column} → StayUpTo cs ds → ColumnsStay (up_to stops cs) (up_to stops ds)
+  pub each-stays : {cs ds : List Column} → StayUpTo cs ds → ColumnsStay (up_to stops cs) (up_to stops ds)
   each-stays none = tt
   each-stays (ends k e) = rw (kept _ _ e, k) (e, tt)
   each-stays (more k e rest) = rw (kept _ _ e, k) (e, each-stays rest)
 
 -- ---- fills
 
-abbrev overflows : Column → Bool
+abbrev pub overflows : Column → Bool
 overflows c = c.overflow
 
-overflow-kept : (a b : Column) → ColumnStays a b → overflows b ≡ overflows a
+pub overflow-kept : (a b : Column) → ColumnStays a b → overflows b ≡ overflows a
 overflow-kept a b e = e.overflow
 
-fold-stays : (inner : Inner) (law : FillsStay inner) (d : FlowsData) (f : Flow) (n : ℕ) (q : Token) (lo h : ℕ) → lo ≤ h → IsBelowEach h (filled_by f q (columns inner d f n q lo)).bounds →
+pub fold-stays : (inner : Inner) (law : FillsStay inner) (d : FlowsData) (f : Flow) (n : ℕ) (q : Token) (lo h : ℕ) → lo ≤ h →
+    IsBelowEach h (filled_by f q (columns inner d f n q lo)).bounds →
     FillStays (filled_by f q (columns inner d f n q lo)) (filled_by f q (columns inner d f n q h))
 fold-stays inner law d f n q lo h le b =
     let same = columns-stay overflows overflow-kept (λ a k. k) inner law d f n q lo h le b in
@@ -110,7 +115,7 @@ rows_to-stay d (suc depth) = fill-stays (rows_to d depth) (rows_to-stay d depth)
 
 -- ---- what is judged, and what fits
 
-fails-kept : (a b : Column) → ColumnStays a b → fails b ≡ fails a
+pub fails-kept : (a b : Column) → ColumnStays a b → fails b ≡ fails a
 fails-kept a b e = go a.overflow b.overflow e.overflow (λ n. e.level n)
   where
     go : (o u : Bool) → u ≡ o → (o ≡ false → b.level ≡ a.level) → (u || nat_lt 0 b.level) ≡ (o || nat_lt 0 a.level)

@@ -8,12 +8,12 @@ use Rattle.std.proofs.lemmas.List.{drop_more, drop-drop, drop_all, get_or-drop}
 use Rattle.std.proofs.lemmas.List.Sums.{sum_by-cons, sum_by-take-drop}
 use Rattle.std.proofs.Math.Nat.{suc-mul}
 use Rattle.flow_list.proofs.Fitting.{columns_by-step}
-use Rattle.flow_list.specs.Data.{Flow, FlowsData, Item, Atom, Row}
+use Rattle.flow_data.specs.Data.{Flow, FlowsData, Item, Atom, Row}
 use Rattle.flow_list.specs.Atoms.{IsAtom}
 use Rattle.flow_data.specs.Flows.{row_of, flow_in, item_of, seam_of, no_item, no_flow, no_row, atom_height}
 use Rattle.flow_data.specs.Soundness.{IsSound, IsSoundFlow}
 use Rattle.flow_list.specs.Strip.{Strip, lay_all}
-use Rattle.flow_list.specs.Tokens.{Token, row_start, item_number, within, is_end, IsPlaceBefore}
+use Rattle.flow_list.specs.Tokens.{Token, row_start, item_number, within, is_end, IsPlace, IsPlaceBefore}
 use Rattle.flow_list.specs.Column.{Column, Inner, Step, Place, Cut, cut, longer, step_at, steps, strip_behind, is_forced, start_strip, steps_from, seams_before, seams_between, inside_place, room, last_place, no_place, column, column_over, column_up_to, avoids_at, loose_need, Filled}
 use Rattle.flow_list.specs.Rows.{columns, end_of, fits, fails, most_columns, all_rows}
 use Rattle.flow_list.proofs.ColumnParts.{stopped-each}
@@ -162,7 +162,7 @@ module _ (inner : Inner) (d : FlowsData) (f : Flow) (sound : IsSoundFlow d f) (h
   up_to-ends avoids i u (Some s) good fine =
       stopped-each (PlaceEndsBy i (length u.before)) inner (avoids s.item) h s u.before s.row (between-end (length u.before) i 0 0 (u.before ++ s ∷ []) good.0 (one-more u.before s)) (λ which whole. cc)
       (λ row over is low whole. inside-ends i (length u.before) (avoids s.item) s (inner.fill row.0 row.1 (room s h)) good.1
-      (λ atom. let here : IsAtom (item_of f s.item) = rw good.1 atom in let none = good.2 here in cc)) fine
+          (λ atom. let here : IsAtom (item_of f s.item) = rw good.1 atom in let none = good.2 here in cc)) fine
     where
       one-more : (xs : List Step) (s : Step) → i + length (xs ++ s ∷ []) ≤ i + length xs + 1
       one-more [] s = omega arith
@@ -321,3 +321,13 @@ module _ (d : FlowsData) (sound : IsSound d) (r : ℕ) (lt : r < length d.rows) 
     tall_rejects = λ k h a b atom low. not-true (fits (all_rows d) d r q h) (λ e. let l = (fits-hold q h place e).loose k a b atom in absurd (omega arith));
     area_rejects = λ h many. not-true (fits (all_rows d) d r q h) (λ e. let l = (fits-hold q h place e).high in absurd (omega arith));
   }
+
+  -- at the end no atom is left
+  pub tall-and-area-anywhere : (q : Token) → IsPlace d (flow_in d r) q → TallAndAreaReject d r q
+  tall-and-area-anywhere q (inl end) =
+      let none = at-end (flow_in d r) q end in
+      record {
+        tall_rejects = λ k h a b atom low. let l = (hold-end 0 h q none).loose k a b atom in absurd (omega arith);
+        area_rejects = λ h many. let l = (hold-end 0 h q none).high in absurd (omega arith);
+      }
+  tall-and-area-anywhere q (inr before) = tall-and-area q before

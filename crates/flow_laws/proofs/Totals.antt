@@ -153,17 +153,17 @@ up-within g low m xs all each = let e = sum-less g (count_up low m) xs (λ n. wi
 
 -- ---- totals
 
-module _ (d : FlowsData) where
-  -- all that stands in flow f, with the flows of the rows within it, n flows deep
+module _ (d : FlowsData) (weight : ℕ → ℕ) where
+  -- the weight of flow f, with those of the flows of the rows within it, n flows deep
   pub total_within : ℕ → ℕ → ℕ
   total_within zero f = 0
-  total_within (suc n) f = flow_height d (flow_of d f) + sum_by (λ r. total_within n (row_of d r).flow) (rows_in (flow_of d f))
+  total_within (suc n) f = weight f + sum_by (λ r. total_within n (row_of d r).flow) (rows_in (flow_of d f))
 
   -- the same of row r
   abbrev pub row_total : ℕ → ℕ → ℕ
   row_total n r = total_within n (row_of d r).flow
 
-  pub total-more : (n f : ℕ) → total_within (suc n) f ≡ flow_height d (flow_of d f) + sum_by (row_total n) (rows_in (flow_of d f))
+  pub total-more : (n f : ℕ) → total_within (suc n) f ≡ weight f + sum_by (row_total n) (rows_in (flow_of d f))
   unfolding total_within
   total-more n f = refl
 
@@ -171,6 +171,10 @@ module _ (d : FlowsData) where
   unfolding total_within
   total-rises zero f = omega arith
   total-rises (suc n) f = let a = sum_by-le-sum_by (row_total n) (row_total (suc n)) (rows_in (flow_of d f)) (λ r. total-rises n (row_of d r).flow) in omega arith
+
+-- all that stands in a flow itself
+abbrev pub height_in : FlowsData → ℕ → ℕ
+height_in d f = flow_height d (flow_of d f)
 
 -- ---- rows and flows
 
@@ -230,47 +234,70 @@ module _ (d : FlowsData) (sound : IsSound d) where
 
   -- ---- the totals of rows
 
-  -- which is the same at each depth that serves
-  pub total-same : (n r a b : ℕ) → NestsAtMost d n r → n ≤ a → n ≤ b → row_total d a r ≡ row_total d b r
-  unfolding total_within
-  total-same zero r a b nests le ge = absurd nests
-  total-same (suc n) r zero b nests le ge = absurd (omega arith)
-  total-same (suc n) r (suc a) zero nests le ge = absurd (omega arith)
-  total-same (suc n) r (suc a) (suc b) nests le ge =
-      ap (λ m. flow_height d (flow_in d r) + m) (sum-same (row_total d a) (row_total d b) (rows_in (flow_in d r)) (λ k e lt. total-same n (get_or (rows_in (flow_in d r)) k e) a b (nests k e lt) (omega arith) (omega arith)))
+  module _ (weight : ℕ → ℕ) where
+    -- which is the same at each depth that serves
+    pub total-same : (n r a b : ℕ) → NestsAtMost d n r → n ≤ a → n ≤ b → row_total d weight a r ≡ row_total d weight b r
+    unfolding total_within
+    total-same zero r a b nests le ge = absurd nests
+    total-same (suc n) r zero b nests le ge = absurd (omega arith)
+    total-same (suc n) r (suc a) zero nests le ge = absurd (omega arith)
+    total-same (suc n) r (suc a) (suc b) nests le ge =
+        ap (λ m. weight (row_of d r).flow + m)
+        (sum-same (row_total d weight a) (row_total d weight b) (rows_in (flow_in d r))
+        (λ k e lt. total-same n (get_or (rows_in (flow_in d r)) k e) a b (nests k e lt) (omega arith) (omega arith)))
 
-  total-row : (r : ℕ) → r < length d.rows → row_total d (length d.rows) r ≡ flow_height d (flow_in d r) + sum_by (row_total d (length d.rows)) (rows_in (flow_in d r))
-  total-row r lt =
-      let fuel : suc (length d.rows - 1) ≡ length d.rows = omega arith in
-      let good = good-rows d sound r lt in
-      let P : ℕ → Type 0 = λ n. row_total d n r ≡ flow_height d (flow_in d r) + sum_by (row_total d (length d.rows - 1)) (rows_in (flow_in d r)) in
-      let one : row_total d (length d.rows) r ≡ flow_height d (flow_in d r) + sum_by (row_total d (length d.rows - 1)) (rows_in (flow_in d r)) = subst P fuel (total-more d (length d.rows - 1) (row_of d r).flow) in
-      one ∙ ap (λ m. flow_height d (flow_in d r) + m) (sum-same (row_total d (length d.rows - 1)) (row_total d (length d.rows)) (rows_in (flow_in d r))
-      (λ k e l. let g = (good k e l).0 in let later = (sound.inner_rows r lt k e l).later in total-same (length d.rows - get_or (rows_in (flow_in d r)) k e) (get_or (rows_in (flow_in d r)) k e) (length d.rows - 1) (length d.rows) (nests-by-number d sound (length d.rows - get_or (rows_in (flow_in d r)) k e) (get_or (rows_in (flow_in d r)) k e) g (omega arith)) (omega arith) (omega arith)))
+    total-row : (r : ℕ) → r < length d.rows → row_total d weight (length d.rows) r
+        ≡ weight (row_of d r).flow + sum_by (row_total d weight (length d.rows)) (rows_in (flow_in d r))
+    total-row r lt =
+        let fuel : suc (length d.rows - 1) ≡ length d.rows = omega arith in
+        let good = good-rows d sound r lt in
+        let P : ℕ → Type 0 = λ n. row_total d weight n r
+        ≡ weight (row_of d r).flow + sum_by (row_total d weight (length d.rows - 1)) (rows_in (flow_in d r)) in
+        let one : row_total d weight (length d.rows) r
+        ≡ weight (row_of d r).flow + sum_by (row_total d weight (length d.rows - 1)) (rows_in (flow_in d r)) =
+        subst P fuel (total-more d weight (length d.rows - 1) (row_of d r).flow) in
+        one ∙ ap (λ m. weight (row_of d r).flow + m)
+        (sum-same (row_total d weight (length d.rows - 1)) (row_total d weight (length d.rows)) (rows_in (flow_in d r))
+        (λ k e l. let g = (good k e l).0 in let later = (sound.inner_rows r lt k e l).later in
+        total-same (length d.rows - get_or (rows_in (flow_in d r)) k e) (get_or (rows_in (flow_in d r)) k e)
+        (length d.rows - 1) (length d.rows) (nests-by-number d sound (length d.rows - get_or (rows_in (flow_in d r)) k e)
+        (get_or (rows_in (flow_in d r)) k e) g (omega arith)) (omega arith) (omega arith)))
 
-  totals-split : (k m : ℕ) → k + m ≤ length d.rows → up (row_total d (length d.rows)) k m ≡ up (λ i. flow_height d (flow_in d i)) k m + sum_by (row_total d (length d.rows)) (children k m)
-  unfolding up children count_up
-  totals-split k zero le = refl
-  totals-split k (suc m) le =
-      omega (
-        arith,
-        totals-split (suc k) m (omega arith),
-        total-row k (omega arith),
-        sum_by-cons (row_total d (length d.rows)) k (count_up (suc k) m),
-        sum_by-cons (λ i. flow_height d (flow_in d i)) k (count_up (suc k) m),
-        sum_by-append (row_total d (length d.rows)) (rows_in (flow_in d k)) (flat_map (λ i. rows_in (flow_in d i)) (count_up (suc k) m)),
-      )
+    totals-split : (k m : ℕ) → k + m ≤ length d.rows → up (row_total d weight (length d.rows)) k m
+        ≡ up (λ i. weight (row_of d i).flow) k m + sum_by (row_total d weight (length d.rows)) (children k m)
+    unfolding up children count_up
+    totals-split k zero le = refl
+    totals-split k (suc m) le =
+        omega (
+          arith,
+          totals-split (suc k) m (omega arith),
+          total-row k (omega arith),
+          sum_by-cons (row_total d weight (length d.rows)) k (count_up (suc k) m),
+          sum_by-cons (λ i. weight (row_of d i).flow) k (count_up (suc k) m),
+          sum_by-append (row_total d weight (length d.rows)) (rows_in (flow_in d k))
+              (flat_map (λ i. rows_in (flow_in d i)) (count_up (suc k) m)),
+        )
 
-  -- what stands in a row is no higher than all flows together
-  pub total-le : (r : ℕ) → r < length d.rows → row_total d (length d.rows) r ≤ sum_by (flow_height d) d.flows
+    -- what stands in a row weighs no more than all flows together
+    pub total-up : (r : ℕ) → r < length d.rows → row_total d weight (length d.rows) r ≤ up weight 0 (length d.flows)
+    total-up r lt =
+        let m = length d.rows - r - 1 in
+        let whole : r + suc (length d.rows - r - 1) ≡ length d.rows = omega arith in
+        let split = totals-split r (suc (length d.rows - r - 1)) (omega arith) in
+        let first = up-more (row_total d weight (length d.rows)) r (length d.rows - r - 1) in
+        let range : suc r + (length d.rows - r - 1) ≡ length d.rows = omega arith in
+        let inside : AllIn (suc r) (suc r + (length d.rows - r - 1)) (children r (suc (length d.rows - r - 1))) =
+        rw range (children-in r r (suc (length d.rows - r - 1)) (omega arith) (omega arith)) in
+        let below = within-up (row_total d weight (length d.rows)) (suc r) (length d.rows - r - 1)
+        (children r (suc (length d.rows - r - 1))) inside
+        (λ n l. children-once r (suc (length d.rows - r - 1)) n whole (omega arith)) in
+        let by_flows = rows-by-flows weight r (suc (length d.rows - r - 1)) whole in
+        omega arith
+
+  -- so it is no higher than they
+  pub total-le : (r : ℕ) → r < length d.rows → row_total d (height_in d) (length d.rows) r ≤ sum_by (flow_height d) d.flows
   total-le r lt =
-      let m = length d.rows - r - 1 in
-      let whole : r + suc (length d.rows - r - 1) ≡ length d.rows = omega arith in
-      let split = totals-split r (suc (length d.rows - r - 1)) (omega arith) in
-      let first = up-more (row_total d (length d.rows)) r (length d.rows - r - 1) in
-      let range : suc r + (length d.rows - r - 1) ≡ length d.rows = omega arith in
-      let inside : AllIn (suc r) (suc r + (length d.rows - r - 1)) (children r (suc (length d.rows - r - 1))) = rw range (children-in r r (suc (length d.rows - r - 1)) (omega arith) (omega arith)) in
-      let below = within-up (row_total d (length d.rows)) (suc r) (length d.rows - r - 1) (children r (suc (length d.rows - r - 1))) inside (λ n l. children-once r (suc (length d.rows - r - 1)) n whole (omega arith)) in
-      let by_flows = rows-by-flows (λ f. flow_height d (flow_of d f)) r (suc (length d.rows - r - 1)) whole in
-      let listed = up-list (λ f. flow_height d (flow_of d f)) (flow_height d) no_flow 0 d.flows (λ i l. let z : 0 + i ≡ i = omega arith in rw z refl) in
+      let whole = total-up (height_in d) r lt in
+      let listed = up-list (height_in d) (flow_height d) no_flow 0 d.flows
+      (λ i l. let z : 0 + i ≡ i = omega arith in rw z refl) in
       omega arith

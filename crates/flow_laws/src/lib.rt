@@ -16,7 +16,7 @@ ghost use Rattle.flow_laws.specs.Rectangles.{RectanglesAreBounded};
 ghost use Rattle.flow_laws.specs.RangeLaws.{RangesReject, RangesAccount};
 ghost use Rattle.flow_laws.specs.TallAndArea.{TallAndAreaReject};
 ghost use Rattle.flow_data.specs.Flows.{flow_in};
-ghost use Rattle.flow_list.specs.Tokens.{Token, IsPlaceBefore};
+ghost use Rattle.flow_list.specs.Tokens.{Token, IsPlace, IsPlaceBefore};
 ghost use Rattle.flow_data.specs.Soundness.{IsSound};
 
 /// Breaks are constant over a range of heights: each bound of a column is above its height, and up to the least its lines and
@@ -74,14 +74,14 @@ pub fn rectangles_are_bounded()
 
 /// In sound flows no height of a range fits whose reason holds: the range ends no higher than what an atom needs after an unforced break, the
 /// atoms are more than the columns hold just below its end, or the columns at its start leave a place, end at a bad break or overflow, and
-/// none of their bounds is below its end.
+/// none of their bounds is below its end. At the row's end there is no such range.
 pub fn ranges_reject()
-    ensures { (d : FlowsData) → IsSound d → (r : ℕ) → r < length d.rows → (q : Token) → IsPlaceBefore d (flow_in d r) q → RangesReject d r q }
+    ensures { (d : FlowsData) → IsSound d → (r : ℕ) → r < length d.rows → (q : Token) → IsPlace d (flow_in d r) q → RangesReject d r q }
 {}
 
 /// In sound flows the ranges of a row from a place on tell of each lower height why it doesn't fit: the reason of each range holds, its lines
 /// are those of the columns that the reason speaks of, and one after another, none empty, they go from 0 up to the size, or up to one above
-/// what is available where that is less.
+/// what is available where that is less. At the row's end there are none.
 pub fn ranges_account()
-    ensures { (d : FlowsData) → IsSound d → (r : ℕ) → r < length d.rows → (q : Token) → IsPlaceBefore d (flow_in d r) q → (available : Option ℕ) → RangesAccount d r q available }
+    ensures { (d : FlowsData) → IsSound d → (r : ℕ) → r < length d.rows → (q : Token) → IsPlace d (flow_in d r) q → (available : Option ℕ) → RangesAccount d r q available }
 {}

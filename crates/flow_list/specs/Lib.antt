@@ -1,4 +1,5 @@
 pub mod Atoms
+pub mod Book
 pub mod Building
 pub mod Certificate
 pub mod ClonedEdges
@@ -6,6 +7,7 @@ pub mod Column
 pub mod Counts
 pub mod Data
 pub mod FileFlows
+pub mod Folds
 pub mod Fragments
 pub mod Looks
 pub mod Placing

@@ -62,14 +62,18 @@ pub fn the_fault_of_a_text_is_the_first()
 /// A text has at most one first fault: it is the one that is read, and no flow file has one.
 pub fn a_text_has_one_first_fault_at_most()
     ensures read { (text : List ℕ) (fault : Fault) → IsFirstFault text fault → lines_of text ≡ Err fault }
-    ensures one { (text : List ℕ) (fault other : Fault) → IsFirstFault text fault → IsFirstFault text other → fault ≡ other }
-    ensures none { (text : List ℕ) (lines : List Line) (file : FlowFile) (fault : Fault) → IsText 0 lines text → IsFlowFile lines file → IsFirstFault text fault → ⊥ }
+    ensures one { (text : List ℕ) (fault other : Fault) → IsFirstFault text fault → IsFirstFault text other →
+        fault ≡ other }
+    ensures none { (text : List ℕ) (lines : List Line) (file : FlowFile) (fault : Fault) → IsText 0 lines text →
+        IsFlowFile lines file → IsFirstFault text fault → ⊥ }
 {}
 
 /// The limits that are tested on lines are those of the file's rows.
 pub fn limits_are_those_of_the_rows()
-    ensures length { (lines : List Line) (file : FlowFile) → IsFlowFile lines file → first_long lines ≡ first_above 16777216 (file_numbers file) }
-    ensures columns { (lines : List Line) (file : FlowFile) → IsFlowFile lines file → first_wide lines ≡ first_above 32 (file_columns file) }
+    ensures length { (lines : List Line) (file : FlowFile) → IsFlowFile lines file →
+        first_long lines ≡ first_above 16777216 (file_numbers file) }
+    ensures columns { (lines : List Line) (file : FlowFile) → IsFlowFile lines file →
+        first_wide lines ≡ first_above 32 (file_columns file) }
     ensures nest { (lines : List Line) (file : FlowFile) → IsFlowFile lines file → is_deep 0 lines ≡ nat_lt 3 (file_depth file) }
     ensures items { (lines : List Line) (file : FlowFile) → IsFlowFile lines file → items lines ≡ file_items file }
     ensures inner_items { (lines : List Line) (file : FlowFile) → IsFlowFile lines file → has_crowded_row no_counts lines ≡ nat_lt 2000 (file_most_inner file) }

@@ -18,20 +18,23 @@ char_marked ch style false stays =
     (λ _. by_test stays (λ s. filter is_mark (cond s (Char 32 style ∷ []) []) ≡ []) (λ _. refl) (λ _. refl))
     (λ _. refl)
 
-piece_marked : (styles : List RunStyle) (piece : Piece) (stays : Bool) → filter is_mark (piece_becomes styles piece stays) ≡ mark_of styles piece
+piece_marked : (styles : List RunStyle) (piece : Piece) (stays : Bool)
+    → filter is_mark (piece_becomes styles piece stays) ≡ mark_of styles piece
 piece_marked styles (Char ch style) stays = char_marked ch style (keeps styles style) stays
 piece_marked styles (Image w height style) stays = refl
 piece_marked styles Forced stays = refl
 piece_marked styles Chance stays = refl
 
-collapsed_marked : (styles : List RunStyle) (before pieces : List Piece) → filter is_mark (collapsed_behind styles before pieces) ≡ marks styles pieces
+collapsed_marked : (styles : List RunStyle) (before pieces : List Piece)
+    → filter is_mark (collapsed_behind styles before pieces) ≡ marks styles pieces
 collapsed_marked styles before [] = refl
 collapsed_marked styles before (piece ∷ after) =
     filter-append is_mark (becomes styles before piece after) (collapsed_behind styles (piece ∷ before) after)
     ∙ ap (λ front. front ++ filter is_mark (collapsed_behind styles (piece ∷ before) after)) (piece_marked styles piece (follows_content styles before && precedes_content styles after))
     ∙ ap (λ rest. mark_of styles piece ++ rest) (collapsed_marked styles (piece ∷ before) after)
 
-pub answer_marks : (runs answer : Runs) → answer.pieces ≡ collapsed runs → filter is_mark answer.pieces ≡ marks runs.styles runs.pieces
+pub answer_marks : (runs answer : Runs) → answer.pieces ≡ collapsed runs
+    → filter is_mark answer.pieces ≡ marks runs.styles runs.pieces
 answer_marks runs answer p = ap (filter is_mark) p ∙ collapsed_marked runs.styles [] runs.pieces
 
 char_few : (ch style : ℕ) (keep stays : Bool) → length (char_becomes keep ch style stays) ≤ 8
@@ -50,7 +53,8 @@ piece_few styles (Image w height style) stays = omega arith
 piece_few styles Forced stays = omega arith
 piece_few styles Chance stays = omega arith
 
-collapsed_few : (styles : List RunStyle) (before pieces : List Piece) → length (collapsed_behind styles before pieces) ≤ 8 * length pieces
+collapsed_few : (styles : List RunStyle) (before pieces : List Piece)
+    → length (collapsed_behind styles before pieces) ≤ 8 * length pieces
 collapsed_few styles before [] = omega arith
 collapsed_few styles before (piece ∷ after) =
     let here = piece_few styles piece (follows_content styles before && precedes_content styles after) in

@@ -10,10 +10,11 @@ use Rattle.inline_text.specs.WhiteSpace.{keeps, is_white, char_becomes, kind_of_
 use Rattle.inline_text.proofs.Scan.{collapsed_at, collapsed_behind_at}
 use Rattle.inline_text.proofs.Settled.{by_test}
 
-char_again : (number : ℕ → ℕ) (ch style : ℕ) (keep stays : Bool) → char_becomes keep ch (number style) stays ≡ map (renumbered number) (char_becomes keep ch style stays)
+char_again : (number : ℕ → ℕ) (ch style : ℕ) (keep stays : Bool)
+    → char_becomes keep ch (number style) stays ≡ map (renumbered number) (char_becomes keep ch style stays)
 char_again number ch style true stays =
     by_test (ch == 10) (λ t. cond t (Forced ∷ []) (cond (ch == 9) (replicate 8 (Char 32 (number style))) (Char ch (number style) ∷ []))
-        ≡ map (renumbered number) (cond t (Forced ∷ []) (cond (ch == 9) (replicate 8 (Char 32 style)) (Char ch style ∷ []))))
+    ≡ map (renumbered number) (cond t (Forced ∷ []) (cond (ch == 9) (replicate 8 (Char 32 style)) (Char ch style ∷ []))))
     (λ _. refl)
     (λ _. by_test (ch == 9) (λ t. cond t (replicate 8 (Char 32 (number style))) (Char ch (number style) ∷ []) ≡ map (renumbered number) (cond t (replicate 8 (Char 32 style)) (Char ch style ∷ []))) (λ _. refl) (λ _. refl))
 char_again number ch style false stays =
@@ -21,27 +22,31 @@ char_again number ch style false stays =
     (λ _. by_test stays (λ s. cond s (Char 32 (number style) ∷ []) [] ≡ map (renumbered number) (cond s (Char 32 style ∷ []) [])) (λ _. refl) (λ _. refl))
     (λ _. refl)
 
-piece_again : (styles others : List RunStyle) (number : ℕ → ℕ) (piece : Piece) (stays : Bool) → KeepsToo styles others number piece
+piece_again : (styles others : List RunStyle) (number : ℕ → ℕ) (piece : Piece) (stays : Bool)
+    → KeepsToo styles others number piece
     → piece_becomes others (renumbered number piece) stays ≡ map (renumbered number) (piece_becomes styles piece stays)
 piece_again styles others number (Char ch style) stays h = ap (λ k. char_becomes k ch (number style) stays) h ∙ char_again number ch style (keeps styles style) stays
 piece_again styles others number (Image w height style) stays h = refl
 piece_again styles others number Forced stays h = refl
 piece_again styles others number Chance stays h = refl
 
-kind_again : (styles others : List RunStyle) (number : ℕ → ℕ) (piece : Piece) → KeepsToo styles others number piece → kind_of others (renumbered number piece) ≡ kind_of styles piece
+kind_again : (styles others : List RunStyle) (number : ℕ → ℕ) (piece : Piece) → KeepsToo styles others number piece
+    → kind_of others (renumbered number piece) ≡ kind_of styles piece
 kind_again styles others number (Char ch style) h = ap (λ k. kind_of_char k ch) h
 kind_again styles others number (Image w height style) h = refl
 kind_again styles others number Forced h = refl
 kind_again styles others number Chance h = refl
 
-precedes_again : (styles others : List RunStyle) (number : ℕ → ℕ) (pieces : List Piece) → AllByRecursion (KeepsToo styles others number) pieces
+precedes_again : (styles others : List RunStyle) (number : ℕ → ℕ) (pieces : List Piece)
+    → AllByRecursion (KeepsToo styles others number) pieces
     → precedes_content others (map (renumbered number) pieces) ≡ precedes_content styles pieces
 precedes_again styles others number [] h = refl
 precedes_again styles others number (piece ∷ after) h =
     ap (λ k. content_behind k (precedes_content others (map (renumbered number) after))) (kind_again styles others number piece h.0)
     ∙ ap (content_behind (kind_of styles piece)) (precedes_again styles others number after h.1)
 
-collapsed_again : (styles others : List RunStyle) (number : ℕ → ℕ) (follows : Bool) (pieces : List Piece) → AllByRecursion (KeepsToo styles others number) pieces
+collapsed_again : (styles others : List RunStyle) (number : ℕ → ℕ) (follows : Bool) (pieces : List Piece)
+    → AllByRecursion (KeepsToo styles others number) pieces
     → collapsed_at others follows (map (renumbered number) pieces) ≡ map (renumbered number) (collapsed_at styles follows pieces)
 collapsed_again styles others number follows [] h = refl
 collapsed_again styles others number follows (piece ∷ after) h =
@@ -53,7 +58,8 @@ collapsed_again styles others number follows (piece ∷ after) h =
     ∙ ap (λ rest. map (renumbered number) (piece_becomes styles piece stays) ++ rest) (collapsed_again styles others number next after h.1)
     ∙ sym (map-append (renumbered number) (piece_becomes styles piece stays) (collapsed_at styles next after))
 
-pub collapses_again : (styles others : List RunStyle) (number : ℕ → ℕ) (pieces : List Piece) → All (KeepsToo styles others number) pieces
+pub collapses_again : (styles others : List RunStyle) (number : ℕ → ℕ) (pieces : List Piece)
+    → All (KeepsToo styles others number) pieces
     → collapsed (record { pieces = map (renumbered number) pieces; styles = others }) ≡ map (renumbered number) (collapsed (record { pieces = pieces; styles = styles }))
 collapses_again styles others number pieces h =
     collapsed_behind_at others [] (map (renumbered number) pieces)

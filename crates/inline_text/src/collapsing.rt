@@ -63,7 +63,8 @@ pub fn collapse(alloc: Global, runs: &Runs) -> Result<Runs, NoMemory>
 pub fn is_blank(styles: &[RunStyle], pieces: &[Piece]) -> bool
     ensures pieces { IsTrue result ↔ All (λ piece. IsTrue (is_blank_piece styles.now piece)) pieces.now }
     // Nothing but `wbr` is left of it.
-    ensures left { IsTrue result ↔ All (λ piece. IsTrue (is_chance piece)) (collapsed (record { pieces = pieces.now; styles = styles.now })) }
+    ensures left { IsTrue result ↔ All (λ piece. IsTrue (is_chance piece))
+        (collapsed (record { pieces = pieces.now; styles = styles.now })) }
 {
     all_blank(styles, pieces)
 }
@@ -72,7 +73,9 @@ pub fn is_blank(styles: &[RunStyle], pieces: &[Piece]) -> bool
 fn all_blank(styles: &[RunStyle], pieces: &[Piece]) -> bool
     ensures { result ≡ list_all (is_blank_piece styles.now) pieces.now }
 {
-    pieces.iter().all(|piece| is_blank_kind(kind(styles, piece)))
+    pieces
+        .iter()
+        .all(|piece| is_blank_kind(kind(styles, piece)))
 }
 
 /// Whether a piece of this kind is white space that collapses or a `wbr`.

@@ -33,10 +33,12 @@ no_more P a b ha hb first_a first_b = by_order (cases_lt a b) (cases_lt b a)
     by_order (inr le) (inr ge) = omega arith
 
 -- a stretch that fits where its end is
-stretch_fits : (runs : Runs) (faces : List Face) (width from to : ℕ) → to ≡ stretch_end runs.pieces from → Fits runs faces width from to → Fits runs faces width from (stretch_end runs.pieces from)
+stretch_fits : (runs : Runs) (faces : List Face) (width from to : ℕ) → to ≡ stretch_end runs.pieces from
+    → Fits runs faces width from to → Fits runs faces width from (stretch_end runs.pieces from)
 stretch_fits runs faces width from to e fits = subst (Fits runs faces width from) e fits
 
-pub one_end : (runs : Runs) (faces : List Face) (width from a b : ℕ) → EndsAt runs faces width from a → EndsAt runs faces width from b → a ≡ b
+pub one_end : (runs : Runs) (faces : List Face) (width from a b : ℕ) → EndsAt runs faces width from a
+    → EndsAt runs faces width from b → a ≡ b
 one_end runs faces width from a b (whole e fits) (whole e' fits') = e ∙ sym e'
 one_end runs faces width from a b (whole e fits) (last_that_fits wide counted fits' later) = absurd (wide (stretch_fits runs faces width from a e fits))
 one_end runs faces width from a b (whole e fits) (first wide none counted before) = absurd (wide (stretch_fits runs faces width from a e fits))
@@ -60,24 +62,28 @@ one_end runs faces width from a b (unbroken none e) (unbroken none' e') = e ∙ 
 line_of : ℕ → ℕ → ℕ → ℕ → Line
 line_of from to w h = record { from = from; to = to; w = w; h = h }
 
-parts_same : (from from' to to' w w' h h' : ℕ) → from ≡ from' → to ≡ to' → w ≡ w' → h ≡ h' → line_of from to w h ≡ line_of from' to' w' h'
+parts_same : (from from' to to' w w' h h' : ℕ) → from ≡ from' → to ≡ to' → w ≡ w' → h ≡ h'
+    → line_of from to w h ≡ line_of from' to' w' h'
 parts_same from from' to to' w w' h h' e1 e2 e3 e4 = cc
 
 fields_same : (x y : Line) → x.from ≡ y.from → x.to ≡ y.to → x.w ≡ y.w → x.h ≡ y.h → x ≡ y
 unfolding line_of
 fields_same x y e1 e2 e3 e4 = parts_same x.from y.from x.to y.to x.w y.w x.h y.h e1 e2 e3 e4
 
-height_same : (runs : Runs) (faces : List Face) (strut : ℕ) (pieces : List Piece) (a b : ℕ) → HasHeight runs faces strut pieces a → HasHeight runs faces strut pieces b → a ≡ b
+height_same : (runs : Runs) (faces : List Face) (strut : ℕ) (pieces : List Piece) (a b : ℕ)
+    → HasHeight runs faces strut pieces a → HasHeight runs faces strut pieces b → a ≡ b
 height_same runs faces strut pieces a b h k = let same : pos a ≡ pos b = h ∙ sym k in cc
 
-line_same : (runs : Runs) (faces : List Face) (width strut from : ℕ) (x y : Line) → IsLine runs faces width strut from x → IsLine runs faces width strut from y → x ≡ y
+line_same : (runs : Runs) (faces : List Face) (width strut from : ℕ) (x y : Line) → IsLine runs faces width strut from x
+    → IsLine runs faces width strut from y → x ≡ y
 line_same runs faces width strut from x y h k =
     let to = one_end runs faces width from x.to y.to h.ends k.ends in
     fields_same x y (h.begins ∙ sym k.begins) to
     (h.is_width ∙ ap (line_width runs faces from) to ∙ sym k.is_width)
     (height_same runs faces strut (part runs.pieces from x.to) x.h y.h h.is_height (subst (λ (n : ℕ). HasHeight runs faces strut (part runs.pieces from n) y.h) (sym to) k.is_height))
 
-pub one_list : (runs : Runs) (faces : List Face) (width strut from : ℕ) (xs ys : List Line) → AreLines runs faces width strut from xs → AreLines runs faces width strut from ys → xs ≡ ys
+pub one_list : (runs : Runs) (faces : List Face) (width strut from : ℕ) (xs ys : List Line)
+    → AreLines runs faces width strut from xs → AreLines runs faces width strut from ys → xs ≡ ys
 one_list runs faces width strut from [] [] h k = refl
 one_list runs faces width strut from [] (y ∷ ys) h k = absurd (k.0 h)
 one_list runs faces width strut from (x ∷ xs) [] h k = absurd (h.0 k)
@@ -88,7 +94,8 @@ one_list runs faces width strut from (x ∷ xs) (y ∷ ys) h k =
 
 -- ---- lines stay within the run
 
-end_within : (runs : Runs) (faces : List Face) (width from to : ℕ) → from ≤ length runs.pieces → EndsAt runs faces width from to → to ≤ length runs.pieces
+end_within : (runs : Runs) (faces : List Face) (width from to : ℕ) → from ≤ length runs.pieces
+    → EndsAt runs faces width from to → to ≤ length runs.pieces
 end_within runs faces width from to le h = by_end h
   where
     most : stretch_end runs.pieces from ≤ length runs.pieces
@@ -103,18 +110,21 @@ end_within runs faces width from to le h = by_end h
     by_end (first wide none counted before) = counted_within counted
     by_end (unbroken none e) = omega (arith, most, e)
 
-within_by_recursion : (runs : Runs) (faces : List Face) (width strut from : ℕ) (lines : List Line) → from ≤ length runs.pieces → AreLines runs faces width strut from lines
+within_by_recursion : (runs : Runs) (faces : List Face) (width strut from : ℕ) (lines : List Line) → from ≤ length runs.pieces
+    → AreLines runs faces width strut from lines
     → AllByRecursion (λ (line : Line). line.to ≤ length runs.pieces) lines
 within_by_recursion runs faces width strut from [] le are = tt
 within_by_recursion runs faces width strut from (line ∷ lines) le are =
     let here = end_within runs faces width from line.to le are.1.ends in
     (here, within_by_recursion runs faces width strut line.to lines here are.2)
 
-pub within : (runs : Runs) (faces : List Face) (width strut : ℕ) (lines : List Line) → AreLines runs faces width strut 0 lines → All (λ (line : Line). line.to ≤ length runs.pieces) lines
+pub within : (runs : Runs) (faces : List Face) (width strut : ℕ) (lines : List Line) → AreLines runs faces width strut 0 lines
+    → All (λ (line : Line). line.to ≤ length runs.pieces) lines
 within runs faces width strut lines are =
     All-from_recursion (λ (line : Line). line.to ≤ length runs.pieces) lines (within_by_recursion runs faces width strut 0 lines (omega arith) are)
 
-few_from : (runs : Runs) (faces : List Face) (width strut from : ℕ) (lines : List Line) → from ≤ length runs.pieces → AreLines runs faces width strut from lines → from + length lines ≤ length runs.pieces
+few_from : (runs : Runs) (faces : List Face) (width strut from : ℕ) (lines : List Line) → from ≤ length runs.pieces
+    → AreLines runs faces width strut from lines → from + length lines ≤ length runs.pieces
 few_from runs faces width strut from [] le are = omega arith
 few_from runs faces width strut from (line ∷ lines) le are =
     let here = end_within runs faces width from line.to le are.1.ends in
@@ -122,5 +132,6 @@ few_from runs faces width strut from (line ∷ lines) le are =
     let rest = few_from runs faces width strut line.to lines here are.2 in
     omega (arith, later, rest)
 
-pub few : (runs : Runs) (faces : List Face) (width strut : ℕ) (lines : List Line) → AreLines runs faces width strut 0 lines → length lines ≤ length runs.pieces
+pub few : (runs : Runs) (faces : List Face) (width strut : ℕ) (lines : List Line) → AreLines runs faces width strut 0 lines
+    → length lines ≤ length runs.pieces
 few runs faces width strut lines are = let all = few_from runs faces width strut 0 lines (omega arith) are in omega (arith, all)

@@ -1,5 +1,10 @@
 -- What follows of the cause for which the command stopped.
-use Rattle.std.proofs.Common.{subst, sym, ◌∙◌, ◌≢◌, ◌≤◌}
+use Rattle.std.proofs.Common.{subst, sym, ap, map, string_bytes, ◌∙◌, ◌≡◌, ◌≢◌, ◌≤◌}
+use Rattle.mc_run.specs.Words.{command_of}
+use Rattle.mc_run.specs.declared.stop.Stop.{Stop}
+use Rattle.mc_run.specs.declared.stop.Stop.TheVariants.{Refused}
+use Rattle.mc_run.specs.Stops.{status_of, line_of}
+use Rattle.mc_run.specs.Told.{Tells}
 use Rattle.mc_run.proofs.Causes.{status_at_most, ungrammatical, unbuilt, limited, complete}
 use Rattle.mc_run.proofs.OneReason.{no_result, stops_for}
 use Rattle.mc_run.proofs.run.Goals as goal
@@ -19,3 +24,18 @@ returns-clause-statuses g c = subst (λ n. n ≤ 7) (sym c.status.ensures) (stat
 pub returns-clause-complete : goal.returns-clause-complete
 returns-clause-complete g c = λ accepts read calm memory.
     absurd (complete _ _ _ _ _ _ _ c.in-Err.ensures.err accepts read calm (subst (λ n. n ≢ 7) c.status.ensures memory))
+
+pub returns-in_default-clause-refused : goal.returns-in_default-clause-refused
+returns-in_default-clause-refused g c = λ refusal told read memory.
+    let got = c.in_default.ensures.ok in
+    absurd (no_result (command_of (map string_bytes c.args.words.now)) (g.F.Files.held c.args.files.now) got.0 refusal got.1 told)
+
+pub returns-clause-refused : goal.returns-clause-refused
+returns-clause-refused g c = λ refusal told read memory.
+    let part = c.in-Err.ensures.part in
+    let is : c.in-Err.stop ≡ Refused refusal =
+    stops_for (command_of (map string_bytes c.args.words.now)) (g.F.Files.held c.args.files.now) (g.F.Files.faults c.args.files.now) (g.F.Files.faults c.answer.new.files)
+    (g.K.Sink.faults c.args.out.now) (g.K.Sink.faults c.answer.new.out) c.in-Err.stop refusal c.in-Err.ensures.err (λ same. let p = part same in (p.0, p.1)) told read (subst (λ n. n ≢ 7) c.status.ensures memory) in (
+      c.status.ensures ∙ ap status_of is,
+      subst (λ (s : Stop). Tells (g.E.Sink.written c.args.err.now) (g.E.Sink.written c.tell.new.err) (g.E.Sink.faults c.args.err.now) (g.E.Sink.faults c.tell.new.err) (line_of s)) is c.tell.ensures,
+    )

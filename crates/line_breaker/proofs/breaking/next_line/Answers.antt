@@ -70,7 +70,7 @@ returns-clause-line c =
     record {
       begins = refl;
       ends = ends runs faces places opportunities ahead from c.args.width to s is_end;
-      is_width = c.line_width.ensures ∙ ap (λ (n : ℕ). width_between places from n to) f.end ∙ width_is runs faces places opportunities ahead from to s t.0 (omega (arith, t.1, f.end));
+      is_width = c.line_width.ensures.value ∙ ap (λ (n : ℕ). width_between places from n to) f.end ∙ width_is runs faces places opportunities ahead from to s t.0 (omega (arith, t.1, f.end));
       is_height = height_is c.as_slice-styles.result.now runs.styles faces _ (above_of faces strut) _ (below_of faces strut) c.split_at-2.result.0.now (part runs.pieces from to) c.line_height.result
           c.as_slice-styles.ensures (c.extent_of-strut.ensures.above ∙ ap (above_of faces) same) (c.extent_of-strut.ensures.below ∙ ap (below_of faces) same) own c.line_height.ensures;
     }

@@ -1,0 +1,5 @@
+pub mod AnyFlow
+pub mod Counting
+pub mod Depths
+pub mod Following
+pub mod Staying

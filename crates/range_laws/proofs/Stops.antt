@@ -1,0 +1,103 @@
+-- The stop of a column at two heights: the same one below what it needs, else a later one or none.
+use Rattle.std.proofs.Common.{◌≡◌, ℕ, zero, suc, ◌+◌, ◌-◌, ◌==◌, ◌<◌, ◌≤◌, ◌⊎◌, inl, inr, Bool, true, false, ◌&&◌, ◌||◌, cond, List, [], ◌∷◌, ◌++◌, length, map, refl, subst, sym, ◌∙◌, ap, arith, Option, Some, None}
+use Rattle.std.specs.Prelude.{nat_lt}
+use Rattle.std.proofs.lemmas.Bool.Decides.{nat_tests}
+use Rattle.flow_data.specs.declared.data.Flow.{Flow}
+use Rattle.flow_data.specs.declared.data.FlowsData.{FlowsData}
+use Rattle.flow_data.specs.declared.data.Item.{Item}
+use Rattle.flow_data.specs.declared.data.Item.TheVariants.{Atom, Row}
+use Rattle.flow_data.specs.Flows.{item_of, seam_of}
+use Rattle.flow_list.specs.Strip.{Strip, lay_all}
+use Rattle.flow_list.specs.Tokens.{Token, row_start}
+use Rattle.flow_list.specs.Column.{Inner, Step, cut, longer, steps, strip_behind, row_from, height_of, is_forced}
+
+-- these items are numbered from k on, and a row's height is its size
+abbrev pub Good : Inner → ℕ → List Step → Type 0
+Good inner k [] = Unit {0}
+Good inner k (s ∷ ss) = (s.item ≡ k) × ((row : ℕ × Token) → s.row ≡ Some row → s.height ≡ inner.size row.0 row.1) ×
+    Good inner (k + 1) ss
+
+row-height : (inner : Inner) (q : Token) (item : Item) (row : ℕ × Token) → row_from item q ≡ Some row →
+    height_of inner item q ≡ inner.size row.0 row.1
+row-height inner q (Atom h kind) row e = absurd cc
+row-height inner q (Row r) row e = let k : (r, q) ≡ row = cc in ap (λ (w : ℕ × Token). inner.size w.0 w.1) k
+
+pub steps-good : (inner : Inner) (d : FlowsData) (f : Flow) (s : Strip) (k : ℕ) (q : Token) (n : ℕ) →
+    Good inner k (steps inner d f s k q n)
+unfolding steps
+steps-good inner d f s k q zero = tt
+steps-good inner d f s k q (suc n) =
+    (refl, row-height inner q (item_of f k), go (is_forced (seam_of f (k + 1)).level)
+        (steps-good inner d f (lay_all (strip_behind inner f s k q) (seam_of f (k + 1)).head) (k + 1) row_start n))
+  where
+    go : (b : Bool) →
+        Good inner (k + 1) (steps inner d f (lay_all (strip_behind inner f s k q) (seam_of f (k + 1)).head) (k + 1) row_start n) →
+        Good inner (k + 1) (elim b as (λ _. List Step) [ true ↦ [] | false ↦ steps inner d f
+            (lay_all (strip_behind inner f s k q) (seam_of f (k + 1)).head) (k + 1) row_start n ])
+    go true g = tt
+    go false g = g
+
+abbrev pub stop_number : Option Step → Option ℕ
+stop_number None = None
+stop_number (Some s) = Some s.item
+
+-- the stop is one of these items
+cut-above : (inner : Inner) (h k i : ℕ) (ss : List Step) → Good inner k ss → stop_number (cut h ss).stop ≡ Some i → k ≤ i
+cut-above inner h k i [] g e = absurd cc
+cut-above inner h k i (x ∷ ss) g e = go (nat_lt h x.need) e (λ m. cut-above inner h (k + 1) i ss g.2 m)
+  where
+    go : (b : Bool) → stop_number (cond b (record { before = []; stop = Some x }) (longer x (cut h ss))).stop ≡ Some i →
+        (stop_number (cut h ss).stop ≡ Some i → k + 1 ≤ i) → k ≤ i
+    go true e later = let m : x.item ≡ i = cc in let n = g.0 in omega arith
+    go false e later = let m = later e in omega arith
+
+-- below what the stop needs the same items fit
+pub cut-same : (lo hi : ℕ) (s : Step) (ss : List Step) → lo ≤ hi → (cut lo ss).stop ≡ Some s → hi < s.need → cut hi ss ≡ cut lo ss
+cut-same lo hi s [] le e lt = refl
+cut-same lo hi s (x ∷ ss) le e lt = go (nat_lt lo x.need) refl (nat_lt hi x.need) refl e (λ m. cut-same lo hi s ss le m lt)
+  where
+    go : (b : Bool) → nat_lt lo x.need ≡ b → (c : Bool) → nat_lt hi x.need ≡ c →
+        (cond b (record { before = []; stop = Some x }) (longer x (cut lo ss))).stop ≡ Some s →
+        ((cut lo ss).stop ≡ Some s → cut hi ss ≡ cut lo ss) →
+            cond c (record { before = []; stop = Some x }) (longer x (cut hi ss)) ≡
+            cond b (record { before = []; stop = Some x }) (longer x (cut lo ss))
+    go true eb true ec e later = refl
+    go true eb false ec e later = let m : x ≡ s = cc in let n : x.need ≡ s.need = ap (λ (w : Step). w.need) m in
+        absurd (grind (arith, nat_tests))
+    go false eb true ec e later = absurd (grind (arith, nat_tests))
+    go false eb false ec e later = ap (longer x) (later e)
+
+-- where the stop fits, a later one comes, or none
+pub cut-later : (inner : Inner) (lo hi k : ℕ) (s : Step) (ss : List Step) → Good inner k ss → lo ≤ hi →
+    (cut lo ss).stop ≡ Some s → s.need ≤ hi → stop_number (cut hi ss).stop ≡ Some s.item → ⊥
+cut-later inner lo hi k s [] g le e fit same = cc
+cut-later inner lo hi k s (x ∷ ss) g le e fit same = go (nat_lt lo x.need) refl (nat_lt hi x.need) refl e same
+    (λ m n. cut-later inner lo hi (k + 1) s ss g.2 le m fit n)
+  where
+    go : (b : Bool) → nat_lt lo x.need ≡ b → (c : Bool) → nat_lt hi x.need ≡ c →
+        (cond b (record { before = []; stop = Some x }) (longer x (cut lo ss))).stop ≡ Some s →
+        stop_number (cond c (record { before = []; stop = Some x }) (longer x (cut hi ss))).stop ≡ Some s.item →
+        ((cut lo ss).stop ≡ Some s → stop_number (cut hi ss).stop ≡ Some s.item → ⊥) → ⊥
+    go true eb true ec e same later = let m : x ≡ s = cc in let n : x.need ≡ s.need = ap (λ (w : Step). w.need) m in
+        grind (arith, nat_tests)
+    go true eb false ec e same later =
+        let m : x ≡ s = cc in
+        let n : x.item ≡ s.item = ap (λ (w : Step). w.item) m in
+        let above = cut-above inner hi (k + 1) s.item ss g.2 same in
+        let i = g.0 in
+        omega arith
+    go false eb true ec e same later = grind (arith, nat_tests)
+    go false eb false ec e same later = later e same
+
+pub stop-good : (inner : Inner) (lo k : ℕ) (s : Step) (ss : List Step) → Good inner k ss → (cut lo ss).stop ≡ Some s →
+    (row : ℕ × Token) → s.row ≡ Some row → s.height ≡ inner.size row.0 row.1
+stop-good inner lo k s [] g e row is = absurd cc
+stop-good inner lo k s (x ∷ ss) g e row is = go (nat_lt lo x.need) e (λ m. stop-good inner lo (k + 1) s ss g.2 m row is)
+  where
+    go : (b : Bool) → (cond b (record { before = []; stop = Some x }) (longer x (cut lo ss))).stop ≡ Some s →
+        ((cut lo ss).stop ≡ Some s → s.height ≡ inner.size row.0 row.1) → s.height ≡ inner.size row.0 row.1
+    go true e later =
+        let m : x ≡ s = cc in
+        let n : x.row ≡ Some row = ap (λ (w : Step). w.row) m ∙ is in
+        sym (ap (λ (w : Step). w.height) m) ∙ g.1 row n
+    go false e later = later e
