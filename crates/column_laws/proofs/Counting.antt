@@ -29,7 +29,8 @@ places-are-short d zero r q nests place = absurd nests
 places-are-short d (suc n) r [] nests place = absurd place
 places-are-short d (suc n) r (i ∷ []) nests place = omega arith
 places-are-short d (suc n) r (i ∷ (j ∷ rest)) nests place =
-    let inner = places-are-short d n place.1 (j ∷ rest) (rows-at (NestsAtMost d n) (flow_in d r).items nests i place.1 place.2) place.3 in
+    let inner = places-are-short d n place.1 (j ∷ rest)
+    (rows-at (NestsAtMost d n) (flow_in d r).items nests i place.1 place.2) place.3 in
     omega arith
 
 -- so does a later place
@@ -49,7 +50,8 @@ module _ (d : FlowsData) (sound : IsSound d) where
   left-within zero r q lt = omega arith
   left-within (suc m) r q lt =
       let range = rows-of-data d sound (row_of d r).flow (sound.rows r no_row lt).flow in
-      let part = items-part (rows_to d m) (row_total d (count_in d) m) (within q) (item_number q) (flow_in d r).items (λ k e in_rows p. left-within m (get_or (rows_in (flow_in d r)) k e) p (range k e in_rows)) in
+      let part = items-part (rows_to d m) (row_total d (count_in d) m) (within q) (item_number q) (flow_in d r).items
+      (λ k e in_rows p. left-within m (get_or (rows_in (flow_in d r)) k e) p (range k e in_rows)) in
       let more = total-more d (count_in d) m (row_of d r).flow in
       let own = row-count d sound r lt in
       omega arith
@@ -57,8 +59,10 @@ module _ (d : FlowsData) (sound : IsSound d) where
   left-small : (r : ℕ) (t : Token) → r < length d.rows → left_in (all_rows d) (flow_in d r) t ≤ 100000
   unfolding all_rows rows_to
   left-small r t lt =
-      let some : left_in (rows_to d (length d.rows)) (flow_in d r) t ≤ row_total d (count_in d) (suc (length d.rows)) r = left-within (suc (length d.rows)) r t lt in
-      let same = total-same d sound (count_in d) (length d.rows - r) r (suc (length d.rows)) (length d.rows) (nests-by-number d sound (length d.rows - r) r lt (omega arith)) (omega arith) (omega arith) in
+      let some : left_in (rows_to d (length d.rows)) (flow_in d r) t ≤ row_total d (count_in d) (suc (length d.rows)) r =
+      left-within (suc (length d.rows)) r t lt in
+      let same = total-same d sound (count_in d) (length d.rows - r) r (suc (length d.rows)) (length d.rows)
+      (nests-by-number d sound (length d.rows - r) r lt (omega arith)) (omega arith) (omega arith) in
       let whole = total-up d sound (count_in d) r lt in
       let counts = counts-le d sound in
       let limit = sound.item_limit in
@@ -79,7 +83,8 @@ module _ (d : FlowsData) (sound : IsSound d) where
         go : (n < left t) ⊎ (left t ≤ n) → length (first_columns d r n t h) ≤ left t
         go (inl less) = let most = at-most (column_within d f h) f n t in omega arith
         go (inr le) =
-            let same = no-more (column_within d f h) f (left t) n t le (columns-reach d sound r lt (left t) t h place (omega arith)) in
+            let same = no-more (column_within d f h) f (left t) n t le
+            (columns-reach d sound r lt (left t) t h place (omega arith)) in
             let most = at-most (column_within d f h) f (left t) t in
             let count = ap length same in
             omega arith
@@ -87,28 +92,38 @@ module _ (d : FlowsData) (sound : IsSound d) where
     all-reach : (q : Token) (h : ℕ) → IsPlaceBefore d f q → is_end f (end_of q (columns_from d r q h)) ≡ true
     all-reach q h place = columns-reach d sound r lt (left q) q (Some h) place (omega arith)
 
-    fits-all : (q : Token) (h : ℕ) → IsPlaceBefore d f q → fits (all_rows d) d r q h ≡ (nat_le (length (columns_from d r q h)) (most_columns (row_of d r).n f q) && not (list_any fails (columns_from d r q h)))
+    fits-all : (q : Token) (h : ℕ) → IsPlaceBefore d f q → fits (all_rows d) d r q h
+        ≡ (nat_le (length (columns_from d r q h)) (most_columns (row_of d r).n f q) && not
+        (list_any fails (columns_from d r q h)))
     unfolding fits
-    fits-all q h place = few-reach (λ t. column (all_rows d) d f t h) f (most_columns (row_of d r).n f q) (left q) q (all-reach q h place)
+    fits-all q h place = few-reach (λ t. column (all_rows d) d f t h) f (most_columns (row_of d r).n f q) (left q) q
+        (all-reach q h place)
 
-    by-fills : (n : ℕ) (q : Token) (h : ℕ) → IsPlaceBefore d f q → left q ≤ n → columns_of_fills (all_rows d) d r n q h ≡ columns_from d r q h
+    by-fills : (n : ℕ) (q : Token) (h : ℕ) → IsPlaceBefore d f q → left q ≤ n →
+        columns_of_fills (all_rows d) d r n q h ≡ columns_from d r q h
     by-fills n q h place le =
         let some = some-column d sound r lt in
         let many : n * 1 ≤ n * (row_of d r).n = mul-le-mul_left n (omega arith) in
         let one = mul-one n in
-        fills-make (all_rows d) d r n q h ∙ no-more (λ t. column (all_rows d) d f t h) f (left q) (n * (row_of d r).n) q (omega arith) (all-reach q h place)
+        fills-make (all_rows d) d r n q h ∙ no-more (λ t. column (all_rows d) d f t h) f (left q) (n * (row_of d r).n) q
+        (omega arith) (all-reach q h place)
 
     whole-fills : (n : ℕ) (q : Token) (height h : ℕ) → IsPlaceBefore d f q → left q ≤ n →
-        row_fragments d (length d.rows) (record { row = r; from = q; height = height; made_at = Some h; filled = false }) ≡ fragments_of_fills (column_fragment d r (Some h)) (all_rows d) d r n q h
+        row_fragments d (length d.rows) (record { row = r; from = q; height = height; made_at = Some h; filled = false })
+        ≡ fragments_of_fills (column_fragment d r (Some h)) (all_rows d) d r n q h
     unfolding column_fragment
     whole-fills n q height h place le =
-        fragments-are d sound (length d.rows) (record { row = r; from = q; height = height; made_at = Some h; filled = false }) lt (omega arith)
-        ∙ ap (fragments_from (column_fragment d r (Some h)) q) (sym (by-fills n q h place le)) ∙ sym (fragments-of (all_rows d) d r (column_fragment d r (Some h)) n q h)
+        fragments-are d sound (length d.rows)
+        (record { row = r; from = q; height = height; made_at = Some h; filled = false }) lt (omega arith)
+        ∙ ap (fragments_from (column_fragment d r (Some h)) q) (sym (by-fills n q h place le))
+        ∙ sym (fragments-of (all_rows d) d r (column_fragment d r (Some h)) n q h)
 
 pub columns-are-few : (d : FlowsData) → IsSound d → (r : ℕ) → r < length d.rows → ColumnsAreFew d r
 columns-are-few d sound r lt = record {
-  ends_are_short = λ n t h nests place. later-is-short d n r t (column_within d (flow_in d r) h t).end nests (column-is-later d sound r lt t h place);
-  fills_are_short = λ n t h nests place. later-is-short d n r t ((all_rows d).fill r t h).end nests (fill-is-later d sound r lt t h place);
+  ends_are_short = λ n t h nests place. later-is-short d n r t (column_within d (flow_in d r) h t).end nests
+      (column-is-later d sound r lt t h place);
+  fills_are_short = λ n t h nests place. later-is-short d n r t ((all_rows d).fill r t h).end nests
+      (fill-is-later d sound r lt t h place);
   no_more_than_left = few d sound r lt;
   left_is_small = λ t. let small = left-small d sound r t lt in omega arith;
   fits_by_all = fits-all d sound r lt;

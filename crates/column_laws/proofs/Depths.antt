@@ -1,5 +1,5 @@
--- What is told of a row's fragments, of what its lines rest on, of its atoms and of what is entered with it is the same at each depth that
--- serves.
+-- What is told of a row's fragments, of what its lines rest on, of its atoms and of what is entered with it is the same at each
+-- depth that serves.
 use Rattle.std.proofs.Common.{◌≡◌, ℕ, zero, suc, ◌+◌, ◌-◌, ◌==◌, ◌<◌, ◌≤◌, Bool, true, false, cond, not, ◌&&◌, List, [], ◌∷◌, ◌++◌, length, drop, Option, Some, None, refl, sym, subst, ◌∙◌, ap, arith}
 use Rattle.std.specs.Prelude.{All}
 use Rattle.std.specs.List.{flat_map, AllByRecursion as Each}
@@ -22,7 +22,8 @@ use Rattle.flow_list.specs.Certificate.{Use, Owned, owned_in_fill, owned_by, col
 use Rattle.flow_laws.specs.Depth.{ToldAlike}
 use Rattle.flow_laws.specs.Progress.{Contents, atoms_of_items, atoms_in, contents_to}
 use Rattle.flow_laws.proofs.DepthSame.{ItemAlike, ItemsAlike, item-at, height-same, steps-same, column-same, columns-same, left_in-same, items-alike, told-alike}
-use Rattle.flow_laws.proofs.FillEnds.{OfStop, IsStepFrom, stop-from}
+use Rattle.flow_list.proofs.ColumnParts.{OfStop}
+use Rattle.flow_laws.proofs.FillEnds.{IsStepFrom, stop-from}
 use Rattle.flow_laws.proofs.HeldSums.{height_held, size-held}
 use Rattle.flow_laws.proofs.LaidSums.{IsRowOf, share}
 use Rattle.flow_list.proofs.PlaceBounds.{IsNoLower}
@@ -62,15 +63,18 @@ module _ (c e : RowLaid → List PlainTree) where
   trees-alike zero ps all = refl
   trees-alike (suc n) [] all = refl
   trees-alike (suc n) (opens_at b y starts ∷ ps) all =
-      ap (λ kids. piece b starts y (bottom_of b ps) (plain_trees kids) ∷ trees_of c n (behind_box b ps)) (trees-alike n (inside_box b ps) (inside-alike b ps all.1))
-      ∙ ap (λ ts. piece b starts y (bottom_of b ps) (plain_trees (trees_of e n (inside_box b ps))) ∷ ts) (trees-alike n (behind_box b ps) (behind-alike b ps all.1))
+      ap (λ kids. piece b starts y (bottom_of b ps) (plain_trees kids) ∷ trees_of c n (behind_box b ps))
+      (trees-alike n (inside_box b ps) (inside-alike b ps all.1))
+      ∙ ap (λ ts. piece b starts y (bottom_of b ps) (plain_trees (trees_of e n (inside_box b ps))) ∷ ts)
+      (trees-alike n (behind_box b ps) (behind-alike b ps all.1))
   trees-alike (suc n) (closes_at b y ∷ ps) all = trees-alike n ps all.1
   trees-alike (suc n) (atom_at k y ∷ ps) all = ap (λ ts. atom_tree k y ∷ ts) (trees-alike n ps all.1)
   trees-alike (suc n) (row_at r y ∷ ps) all =
       ap (λ kids. row_piece r.row r.from y (cond r.filled None (Some r.height)) (plain_trees kids) ∷ trees_of c n ps) all.0
       ∙ ap (λ ts. row_piece r.row r.from y (cond r.filled None (Some r.height)) (plain_trees (e r)) ∷ ts) (trees-alike n ps all.1)
 
-  placed-alike : (f : Flow) (weigh : Laid → ℕ) (top : ℕ) → ((r : RowLaid) → IsRowOf f r → c r ≡ e r) → (ps : List Placed) → Each (IsNoLower weigh (IsRowOf f) top) ps → Each AlikeAt ps
+  placed-alike : (f : Flow) (weigh : Laid → ℕ) (top : ℕ) → ((r : RowLaid) → IsRowOf f r → c r ≡ e r) → (ps : List Placed) →
+      Each (IsNoLower weigh (IsRowOf f) top) ps → Each AlikeAt ps
   placed-alike f weigh top same [] all = tt
   placed-alike f weigh top same (opens_at b y starts ∷ ps) all = (tt, placed-alike f weigh top same ps all.1)
   placed-alike f weigh top same (closes_at b y ∷ ps) all = (tt, placed-alike f weigh top same ps all.1)
@@ -79,23 +83,29 @@ module _ (c e : RowLaid → List PlainTree) where
 
 -- ---- columns one after another, made alike
 
-by-same : (make other : Token → Column) → ((t : Token) → make t ≡ other t) → (f : Flow) (n : ℕ) (t : Token) → columns_by make f n t ≡ columns_by other f n t
+by-same : (make other : Token → Column) → ((t : Token) → make t ≡ other t) → (f : Flow) (n : ℕ) (t : Token) →
+    columns_by make f n t ≡ columns_by other f n t
 unfolding columns_by
 by-same make other same f zero t = refl
 by-same make other same f (suc n) t = go (is_end f t) (λ u. by-same make other same f n u)
   where
     go : (b : Bool) → ((u : Token) → columns_by make f n u ≡ columns_by other f n u) →
-        elim b as (λ _. List Column) [ true ↦ [] | false ↦ make t ∷ columns_by make f n (make t).end ] ≡ elim b as (λ _. List Column) [ true ↦ [] | false ↦ other t ∷ columns_by other f n (other t).end ]
+        elim b as (λ _. List Column) [ true ↦ [] | false ↦ make t ∷ columns_by make f n (make t).end ]
+        ≡ elim b as (λ _. List Column) [ true ↦ [] | false ↦ other t ∷ columns_by other f n (other t).end ]
     go true again = refl
     go false again = ap (λ (c : Column). c ∷ columns_by make f n c.end) (same t) ∙ ap (λ cs. other t ∷ cs) (again (other t).end)
 
-fragments-same : (make other : Token → PlainTree) → ((t : Token) → make t ≡ other t) → (t : Token) (cs : List Column) → fragments_from make t cs ≡ fragments_from other t cs
+fragments-same : (make other : Token → PlainTree) → ((t : Token) → make t ≡ other t) → (t : Token) (cs : List Column) →
+    fragments_from make t cs ≡ fragments_from other t cs
 fragments-same make other same t [] = refl
-fragments-same make other same t (c ∷ cs) = ap (λ p. p ∷ fragments_from make c.end cs) (same t) ∙ ap (λ ps. other t ∷ ps) (fragments-same make other same c.end cs)
+fragments-same make other same t (c ∷ cs) = ap (λ p. p ∷ fragments_from make c.end cs) (same t)
+    ∙ ap (λ ps. other t ∷ ps) (fragments-same make other same c.end cs)
 
-owned-same : (owned other : Token → List (List Use)) → ((t : Token) → owned t ≡ other t) → (t : Token) (cs : List Column) → columns_owned owned t cs ≡ columns_owned other t cs
+owned-same : (owned other : Token → List (List Use)) → ((t : Token) → owned t ≡ other t) → (t : Token) (cs : List Column) →
+    columns_owned owned t cs ≡ columns_owned other t cs
 owned-same owned other same t [] = refl
-owned-same owned other same t (c ∷ cs) = ap (λ us. us ++ columns_owned owned c.end cs) (same t) ∙ ap (λ us. other t ++ us) (owned-same owned other same c.end cs)
+owned-same owned other same t (c ∷ cs) = ap (λ us. us ++ columns_owned owned c.end cs) (same t)
+    ∙ ap (λ us. other t ++ us) (owned-same owned other same c.end cs)
 
 -- ---- a column of a flow, by two ways to tell of the rows in it that are alike
 
@@ -114,7 +124,8 @@ module _ (x y : Inner) (d : FlowsData) (f : Flow) (alike : ItemsAlike x y f.item
     where
       go : (item : Item) → ItemAlike x y item → laid_item x item k q ≡ laid_item y item k q
       go (Atom h kind) same = refl
-      go (Row r) same = ap (λ size. row (record { row = r; from = q; height = size; made_at = Some size; filled = false })) (same.size q)
+      go (Row r) same = ap (λ size. row (record { row = r; from = q; height = size; made_at = Some size; filled = false }))
+          (same.size q)
 
   items-same : (s : Strip) (k : ℕ) (q : Token) (n : ℕ) → laid_items x f s k q n ≡ laid_items y f s k q n
   unfolding laid_items
@@ -125,18 +136,22 @@ module _ (x y : Inner) (d : FlowsData) (f : Flow) (alike : ItemsAlike x y f.item
   items-same s k q (suc (suc m)) =
       ap (λ l. l ∷ (laid_edges (put s (height x k q)) (seam_of f (k + 1)).tail ++ more x (height x k q))) (item-same k q)
       ∙ ap (λ h. laid_item y (item_of f k) k q ∷ (laid_edges (put s h) (seam_of f (k + 1)).tail ++ more x h)) (height-alike k q)
-      ∙ ap (λ ls. laid_item y (item_of f k) k q ∷ (laid_edges (put s (height y k q)) (seam_of f (k + 1)).tail ++ (laid_edges (strip_behind y f s k q) (seam_of f (k + 1)).head ++ ls)))
+      ∙ ap (λ ls. laid_item y (item_of f k) k q ∷ (laid_edges (put s (height y k q)) (seam_of f (k + 1)).tail ++
+      (laid_edges (strip_behind y f s k q) (seam_of f (k + 1)).head ++ ls)))
       (items-same (lay_all (strip_behind y f s k q) (seam_of f (k + 1)).head) (k + 1) row_start (suc m))
     where
       more : Inner → ℕ → List Laid
-      more z h = laid_edges (lay_all (put s h) (seam_of f (k + 1)).tail) (seam_of f (k + 1)).head ++ laid_items z f (lay_all (lay_all (put s h) (seam_of f (k + 1)).tail) (seam_of f (k + 1)).head) (k + 1) row_start (suc m)
+      more z h = laid_edges (lay_all (put s h) (seam_of f (k + 1)).tail) (seam_of f (k + 1)).head
+          ++ laid_items z f (lay_all (lay_all (put s h) (seam_of f (k + 1)).tail) (seam_of f (k + 1)).head) (k + 1) row_start
+          (suc m)
 
   after-same : (s : Strip) (k : ℕ) (q : Token) (n : ℕ) → strip_after x f s k q n ≡ strip_after y f s k q n
   unfolding strip_after
   after-same s k q zero = refl
   after-same s k q (suc zero) = behind-same s k q
   after-same s k q (suc (suc m)) =
-      ap (λ b. strip_after x f (lay_all b (seam_of f (k + 1)).head) (k + 1) row_start (suc m)) (behind-same s k q) ∙ after-same (lay_all (strip_behind y f s k q) (seam_of f (k + 1)).head) (k + 1) row_start (suc m)
+      ap (λ b. strip_after x f (lay_all b (seam_of f (k + 1)).head) (k + 1) row_start (suc m)) (behind-same s k q)
+      ∙ after-same (lay_all (strip_behind y f s k q) (seam_of f (k + 1)).head) (k + 1) row_start (suc m)
 
   before-same : (s : Strip) (k : ℕ) (q : Token) (n : ℕ) → laid_before x f s k q n ≡ laid_before y f s k q n
   before-same s k q zero = refl
@@ -144,14 +159,20 @@ module _ (x y : Inner) (d : FlowsData) (f : Flow) (alike : ItemsAlike x y f.item
       ap (λ ls. ls ++ laid_edges (strip_after x f s k q (suc n)) (seam_of f (k + (suc n))).head) (items-same s k q (suc n))
       ∙ ap (λ b. laid_items y f s k q (suc n) ++ laid_edges b (seam_of f (k + (suc n))).head) (after-same s k q (suc n))
 
-  to-same : (t : Token) (h : Option ℕ) (stop : Option Step) (end : Token) → laid_to x d f t h stop end ≡ laid_to y d f t h stop end
+  to-same : (t : Token) (h : Option ℕ) (stop : Option Step) (end : Token) →
+      laid_to x d f t h stop end ≡ laid_to y d f t h stop end
   to-same t h stop [] = refl
   to-same t h stop (e ∷ []) =
-      ap (λ ls. cond (fills_item h stop (e - 1) && not (e == 0)) (ls ++ laid_filled h stop ++ laid_edges (strip_filled h stop) (seam_of f e).tail) (laid_items x f (start_strip d f t) (item_number t) (within t) (e - item_number t)))
+      ap (λ ls. cond (fills_item h stop (e - 1) && not (e == 0))
+      (ls ++ laid_filled h stop ++ laid_edges (strip_filled h stop) (seam_of f e).tail)
+      (laid_items x f (start_strip d f t) (item_number t) (within t) (e - item_number t)))
       (before-same (start_strip d f t) (item_number t) (within t) (e - 1 - item_number t))
-      ∙ ap (λ ls. cond (fills_item h stop (e - 1) && not (e == 0)) (laid_before y f (start_strip d f t) (item_number t) (within t) (e - 1 - item_number t) ++ laid_filled h stop ++ laid_edges (strip_filled h stop) (seam_of f e).tail) ls)
+      ∙ ap (λ ls. cond (fills_item h stop (e - 1) && not (e == 0))
+      (laid_before y f (start_strip d f t) (item_number t) (within t) (e - 1 - item_number t) ++ laid_filled h stop
+      ++ laid_edges (strip_filled h stop) (seam_of f e).tail) ls)
       (items-same (start_strip d f t) (item_number t) (within t) (e - item_number t))
-  to-same t h stop (e ∷ (j ∷ rest)) = ap (λ ls. ls ++ laid_filled h stop) (before-same (start_strip d f t) (item_number t) (within t) (e - item_number t))
+  to-same t h stop (e ∷ (j ∷ rest)) = ap (λ ls. ls ++ laid_filled h stop)
+      (before-same (start_strip d f t) (item_number t) (within t) (e - item_number t))
 
   from-same : (t : Token) → steps_from x d f t ≡ steps_from y d f t
   from-same t = steps-same x y d f alike (start_strip d f t) (item_number t) (within t) (length f.items - item_number t)
@@ -167,25 +188,34 @@ module _ (x y : Inner) (d : FlowsData) (f : Flow) (alike : ItemsAlike x y f.item
 
   -- a column's fragment, where the fragments of the rows placed in it are alike
   fragment-same : (c e : RowLaid → List PlainTree) (number : ℕ) (h : Option ℕ) (t : Token) →
-      Each (AlikeAt c e) (places_in d f t (laid_start d f t ++ laid_to y d f t h (stop_of y d f t h) (column_made y d f h t).end)) → fragment_of c x d number f h t ≡ fragment_of e y d number f h t
+      Each (AlikeAt c e) (places_in d f t (laid_start d f t ++ laid_to y d f t h (stop_of y d f t h)
+      (column_made y d f h t).end)) → fragment_of c x d number f h t ≡ fragment_of e y d number f h t
   fragment-same c e number h t all =
       let made = column_made y d f h t in
-      let laid : laid_to x d f t h (stop_of x d f t h) made.end ≡ laid_to y d f t h (stop_of y d f t h) made.end = to-same t h (stop_of x d f t h) made.end ∙ ap (λ stop. laid_to y d f t h stop made.end) (stop-same t h) in
+      let laid : laid_to x d f t h (stop_of x d f t h) made.end ≡ laid_to y d f t h (stop_of y d f t h) made.end =
+      to-same t h (stop_of x d f t h) made.end ∙ ap (λ stop. laid_to y d f t h stop made.end) (stop-same t h) in
       let places = places_in d f t (laid_start d f t ++ laid_to y d f t h (stop_of y d f t h) made.end) in
-      ap (λ (m : Column). column_tree number t m.end m.extent (plain_trees (all_trees c (places_in d f t (laid_start d f t ++ laid_to x d f t h (stop_of x d f t h) m.end))))) (made-same h t)
-      ∙ ap (λ ls. column_tree number t made.end made.extent (plain_trees (all_trees c (places_in d f t (laid_start d f t ++ ls))))) laid
+      ap (λ (m : Column). column_tree number t m.end m.extent
+      (plain_trees (all_trees c (places_in d f t (laid_start d f t ++ laid_to x d f t h (stop_of x d f t h) m.end)))))
+      (made-same h t)
+      ∙ ap (λ ls. column_tree number t made.end made.extent
+      (plain_trees (all_trees c (places_in d f t (laid_start d f t ++ ls))))) laid
       ∙ ap (λ ts. column_tree number t made.end made.extent (plain_trees ts)) (trees-alike c e (length places) places all)
 
   -- what its lines rest on, where that is alike of the rows in it
-  own-same : (a b : Owned) (t : Token) (h : ℕ) → ((s : ℕ) (q : Token) (room : ℕ) → (k : ℕ) → item_of f k ≡ Row s → a.fill s q room ≡ b.fill s q room) → column_owned a x d f t h ≡ column_owned b y d f t h
+  own-same : (a b : Owned) (t : Token) (h : ℕ) → ((s : ℕ) (q : Token) (room : ℕ) → (k : ℕ) → item_of f k ≡ Row s →
+      a.fill s q room ≡ b.fill s q room) → column_owned a x d f t h ≡ column_owned b y d f t h
   own-same a b t h same =
-      ap (λ ss. owned_by a h (cut h ss).before (cut h ss).stop) (from-same t) ∙ go (cut h (steps_from y d f t)).stop (stop-from y d f t h)
+      ap (λ ss. owned_by a h (cut h ss).before (cut h ss).stop) (from-same t)
+      ∙ go (cut h (steps_from y d f t)).stop (stop-from y d f t h)
     where
-      in-row : (s : Step) → IsStepFrom y f (item_number t) s → (u : Option Use) → s.row ≡ u → owned_in_fill a u (room s h) ≡ owned_in_fill b u (room s h)
+      in-row : (s : Step) → IsStepFrom y f (item_number t) s → (u : Option Use) → s.row ≡ u →
+          owned_in_fill a u (room s h) ≡ owned_in_fill b u (room s h)
       in-row s of None is = refl
       in-row s of (Some u) is = at (item_of f s.item) refl (sym of.row ∙ is)
         where
-          at : (item : Item) → item_of f s.item ≡ item → row_from item of.from ≡ Some u → a.fill u.0 u.1 (room s h) ≡ b.fill u.0 u.1 (room s h)
+          at : (item : Item) → item_of f s.item ≡ item → row_from item of.from ≡ Some u →
+              a.fill u.0 u.1 (room s h) ≡ b.fill u.0 u.1 (room s h)
           at (Atom high kind) here e = cc
           at (Row r) here e = let number : r ≡ u.0 = ap first e in same u.0 u.1 (room s h) s.item (here ∙ ap Row number)
             where
@@ -193,13 +223,16 @@ module _ (x y : Inner) (d : FlowsData) (f : Flow) (alike : ItemsAlike x y f.item
               first None = r
               first (Some v) = v.0
 
-      go : (stop : Option Step) → OfStop (IsStepFrom y f (item_number t)) stop → owned_by a h (cut h (steps_from y d f t)).before stop ≡ owned_by b h (cut h (steps_from y d f t)).before stop
+      go : (stop : Option Step) → OfStop (IsStepFrom y f (item_number t)) stop →
+          owned_by a h (cut h (steps_from y d f t)).before stop ≡ owned_by b h (cut h (steps_from y d f t)).before stop
       go None of = refl
-      go (Some s) of = ap (λ us. rows_among ((cut h (steps_from y d f t)).before ++ s ∷ []) ∷ cond (is_cut s h) us []) (in-row s of s.row refl)
+      go (Some s) of = ap (λ us. rows_among ((cut h (steps_from y d f t)).before ++ s ∷ []) ∷ cond (is_cut s h) us [])
+          (in-row s of s.row refl)
 
 -- ---- one row deeper
 
-module _ (d : FlowsData) (a b : ℕ) (r : ℕ) (P : ℕ → Type 0) (all : All P (rows_in (flow_in d r))) (told : (s : ℕ) → P s → ToldAlike (rows_to d a) (rows_to d b) s) where
+module _ (d : FlowsData) (a b : ℕ) (r : ℕ) (P : ℕ → Type 0) (all : All P (rows_in (flow_in d r)))
+    (told : (s : ℕ) → P s → ToldAlike (rows_to d a) (rows_to d b) s) where
   abbrev x : Inner
   x = rows_to d a
 
@@ -209,7 +242,8 @@ module _ (d : FlowsData) (a b : ℕ) (r : ℕ) (P : ℕ → Type 0) (all : All P
   alike : ItemsAlike x y (flow_in d r).items
   alike = items-alike x y P told (flow_in d r).items all
 
-  fragments-deeper : ((s : RowLaid) → P s.row → row_fragments d a s ≡ row_fragments d b s) → (l : RowLaid) → l.row ≡ r → row_fragments d (suc a) l ≡ row_fragments d (suc b) l
+  fragments-deeper : ((s : RowLaid) → P s.row → row_fragments d a s ≡ row_fragments d b s) → (l : RowLaid) → l.row ≡ r →
+      row_fragments d (suc a) l ≡ row_fragments d (suc b) l
   unfolding row_fragments
   fragments-deeper same l is = go l.row is l.from l.made_at (columns_wanted x d l) (columns_wanted y d l) (wanted l is)
     where
@@ -219,40 +253,54 @@ module _ (d : FlowsData) (a b : ℕ) (r : ℕ) (P : ℕ → Type 0) (all : All P
           ap (λ n. cond l.filled (row_of d l.row).n n) (subst P (sym is) (left_in-same x y d (flow_in d r) alike l.from))
 
       placed : (h : Option ℕ) (t : Token) → Each (AlikeAt (row_fragments d a) (row_fragments d b))
-          (places_in d (flow_in d r) t (laid_start d (flow_in d r) t ++ laid_to y d (flow_in d r) t h (stop_of y d (flow_in d r) t h) (column_made y d (flow_in d r) h t).end))
+          (places_in d (flow_in d r) t (laid_start d (flow_in d r) t ++ laid_to y d (flow_in d r) t h
+          (stop_of y d (flow_in d r) t h) (column_made y d (flow_in d r) h t).end))
       placed h t =
           let total : ℕ → ℕ = λ s. height_held d b (row_of d s).flow in
-          placed-alike (row_fragments d a) (row_fragments d b) (flow_in d r) (share total) (whole d (flow_in d r) total) (λ l of. same l (rows-at P (flow_in d r).items all of.item l.row of.is)) _
+          placed-alike (row_fragments d a) (row_fragments d b) (flow_in d r) (share total) (whole d (flow_in d r) total)
+          (λ l of. same l (rows-at P (flow_in d r).items all of.item l.row of.is)) _
           (column-placed d (flow_in d r) total y (λ s q. size-held d b s q) t h)
 
       go : (n : ℕ) → n ≡ r → (from : Token) (h : Option ℕ) (most other : ℕ) → most ≡ other →
-          fragments_from (fragment_of (row_fragments d a) x d (row_of d n).flow (flow_in d n) h) from (columns_by (column_made x d (flow_in d n) h) (flow_in d n) most from)
-          ≡ fragments_from (fragment_of (row_fragments d b) y d (row_of d n).flow (flow_in d n) h) from (columns_by (column_made y d (flow_in d n) h) (flow_in d n) other from)
+          fragments_from (fragment_of (row_fragments d a) x d (row_of d n).flow (flow_in d n) h) from
+          (columns_by (column_made x d (flow_in d n) h) (flow_in d n) most from)
+          ≡ fragments_from (fragment_of (row_fragments d b) y d (row_of d n).flow (flow_in d n) h) from
+          (columns_by (column_made y d (flow_in d n) h) (flow_in d n) other from)
       go n is from h most other e =
-          let Q : ℕ → Type 0 = λ n. fragments_from (fragment_of (row_fragments d a) x d (row_of d n).flow (flow_in d n) h) from (columns_by (column_made x d (flow_in d n) h) (flow_in d n) most from)
-          ≡ fragments_from (fragment_of (row_fragments d b) y d (row_of d n).flow (flow_in d n) h) from (columns_by (column_made y d (flow_in d n) h) (flow_in d n) other from) in
+          let Q : ℕ → Type 0 = λ n. fragments_from (fragment_of (row_fragments d a) x d (row_of d n).flow (flow_in d n) h) from
+          (columns_by (column_made x d (flow_in d n) h) (flow_in d n) most from)
+          ≡ fragments_from (fragment_of (row_fragments d b) y d (row_of d n).flow (flow_in d n) h) from
+          (columns_by (column_made y d (flow_in d n) h) (flow_in d n) other from) in
           let f = flow_in d r in
           let number = (row_of d r).flow in
           let here : Q r =
           fragments-same (fragment_of (row_fragments d a) x d number f h) (fragment_of (row_fragments d b) y d number f h)
-          (λ t. fragment-same x y d f alike (row_fragments d a) (row_fragments d b) number h t (placed h t)) from (columns_by (column_made x d f h) f most from)
-          ∙ ap (fragments_from (fragment_of (row_fragments d b) y d number f h) from) (by-same (column_made x d f h) (column_made y d f h) (made-same x y d f alike h) f most from ∙ ap (λ m. columns_by (column_made y d f h) f m from) e) in
+          (λ t. fragment-same x y d f alike (row_fragments d a) (row_fragments d b) number h t (placed h t)) from
+          (columns_by (column_made x d f h) f most from)
+          ∙ ap (fragments_from (fragment_of (row_fragments d b) y d number f h) from)
+          (by-same (column_made x d f h) (column_made y d f h) (made-same x y d f alike h) f most from
+          ∙ ap (λ m. columns_by (column_made y d f h) f m from) e) in
           subst Q (sym is) here
 
-  owned-deeper : ((s : ℕ) (q : Token) (h : ℕ) → P s → (owned_to d a).fill s q h ≡ (owned_to d b).fill s q h) → (q : Token) (h : ℕ) → (owned_to d (suc a)).fill r q h ≡ (owned_to d (suc b)).fill r q h
+  owned-deeper : ((s : ℕ) (q : Token) (h : ℕ) → P s → (owned_to d a).fill s q h ≡ (owned_to d b).fill s q h) →
+      (q : Token) (h : ℕ) → (owned_to d (suc a)).fill r q h ≡ (owned_to d (suc b)).fill r q h
   unfolding owned_to
   owned-deeper same q h =
       let f = flow_in d r in
       owned-same (λ t. column_owned (owned_to d a) x d f t h) (λ t. column_owned (owned_to d b) y d f t h)
-      (λ t. own-same x y d f alike (owned_to d a) (owned_to d b) t h (λ s p room k is. same s p room (rows-at P f.items all k s is))) q (to_overflow (columns x d f (row_of d r).n q h))
-      ∙ ap (λ cs. columns_owned (λ t. column_owned (owned_to d b) y d f t h) q (to_overflow cs)) (columns-same x y d f alike (row_of d r).n q h)
+      (λ t. own-same x y d f alike (owned_to d a) (owned_to d b) t h
+      (λ s p room k is. same s p room (rows-at P f.items all k s is))) q (to_overflow (columns x d f (row_of d r).n q h))
+      ∙ ap (λ cs. columns_owned (λ t. column_owned (owned_to d b) y d f t h) q (to_overflow cs))
+      (columns-same x y d f alike (row_of d r).n q h)
 
 -- ---- content
 
-atoms-alike : (c e : Contents) (r k : ℕ) (q : Token) (P : ℕ → Type 0) → ((s : ℕ) (p : Token) → P s → c.atoms s p ≡ e.atoms s p) → (items : List Item) → All P (flat_map row_in items) →
+atoms-alike : (c e : Contents) (r k : ℕ) (q : Token) (P : ℕ → Type 0) → ((s : ℕ) (p : Token) → P s → c.atoms s p ≡ e.atoms s p) →
+    (items : List Item) → All P (flat_map row_in items) →
     atoms_of_items c r k q items ≡ atoms_of_items e r k q items
 atoms-alike c e r k q P same [] all = refl
-atoms-alike c e r k q P same (Atom height kind ∷ items) all = ap (λ as_. record { row = r; item = k } ∷ as_) (atoms-alike c e r (suc k) row_start P same items all)
+atoms-alike c e r k q P same (Atom height kind ∷ items) all =
+    ap (λ as_. record { row = r; item = k } ∷ as_) (atoms-alike c e r (suc k) row_start P same items all)
 atoms-alike c e r k q P same (Row s ∷ items) all =
     ap (λ as_. as_ ++ atoms_of_items c r (suc k) row_start items) (same s q (all 0 s (omega arith)))
     ∙ ap (λ as_. e.atoms s q ++ as_) (atoms-alike c e r (suc k) row_start P same items (λ j z lt. all (suc j) z (omega arith)))
@@ -265,7 +313,9 @@ all-drop P (suc n) (Row s ∷ items) all = all-drop P n items (λ j z lt. all (s
 
 -- ---- books
 
-entered-same : (first other : List Use → Use → List Use) (us : List Use) → Each (λ u. (book : List Use) → first book u ≡ other book u) us → (book : List Use) → entered_with first book us ≡ entered_with other book us
+entered-same : (first other : List Use → Use → List Use) (us : List Use) →
+    Each (λ u. (book : List Use) → first book u ≡ other book u) us → (book : List Use) →
+    entered_with first book us ≡ entered_with other book us
 entered-same first other [] same book = refl
 entered-same first other (u ∷ us) same book =
     ap (λ b. entered_with first (cond (stands_in book u) book (b ++ u ∷ [])) us) (same.0 book)
@@ -277,30 +327,37 @@ each-use P Q make (u ∷ us) all = (make u all.0, each-use P Q make us all.1)
 
 -- ---- the law
 
-fragments-alike : (d : FlowsData) (n a b : ℕ) (r : RowLaid) → NestsAtMost d n r.row → n ≤ a → n ≤ b → row_fragments d a r ≡ row_fragments d b r
+fragments-alike : (d : FlowsData) (n a b : ℕ) (r : RowLaid) → NestsAtMost d n r.row → n ≤ a → n ≤ b →
+    row_fragments d a r ≡ row_fragments d b r
 fragments-alike d zero a b r nests le ge = absurd nests
 fragments-alike d (suc n) zero b r nests le ge = absurd (omega arith)
 fragments-alike d (suc n) (suc a) zero r nests le ge = absurd (omega arith)
 fragments-alike d (suc n) (suc a) (suc b) r nests le ge =
-    fragments-deeper d a b r.row (NestsAtMost d n) nests (λ s k. told-alike d n s a b k (omega arith) (omega arith)) (λ s k. fragments-alike d n a b s k (omega arith) (omega arith)) r refl
+    fragments-deeper d a b r.row (NestsAtMost d n) nests (λ s k. told-alike d n s a b k (omega arith) (omega arith))
+    (λ s k. fragments-alike d n a b s k (omega arith) (omega arith)) r refl
 
-owned-alike : (d : FlowsData) (n r a b : ℕ) (q : Token) (h : ℕ) → NestsAtMost d n r → n ≤ a → n ≤ b → (owned_to d a).fill r q h ≡ (owned_to d b).fill r q h
+owned-alike : (d : FlowsData) (n r a b : ℕ) (q : Token) (h : ℕ) → NestsAtMost d n r → n ≤ a → n ≤ b →
+    (owned_to d a).fill r q h ≡ (owned_to d b).fill r q h
 owned-alike d zero r a b q h nests le ge = absurd nests
 owned-alike d (suc n) r zero b q h nests le ge = absurd (omega arith)
 owned-alike d (suc n) r (suc a) zero q h nests le ge = absurd (omega arith)
 owned-alike d (suc n) r (suc a) (suc b) q h nests le ge =
-    owned-deeper d a b r (NestsAtMost d n) nests (λ s k. told-alike d n s a b k (omega arith) (omega arith)) (λ s p room k. owned-alike d n s a b p room k (omega arith) (omega arith)) q h
+    owned-deeper d a b r (NestsAtMost d n) nests (λ s k. told-alike d n s a b k (omega arith) (omega arith))
+    (λ s p room k. owned-alike d n s a b p room k (omega arith) (omega arith)) q h
 
-contents-alike : (d : FlowsData) (n r a b : ℕ) (q : Token) → NestsAtMost d n r → n ≤ a → n ≤ b → (contents_to d a).atoms r q ≡ (contents_to d b).atoms r q
+contents-alike : (d : FlowsData) (n r a b : ℕ) (q : Token) → NestsAtMost d n r → n ≤ a → n ≤ b →
+    (contents_to d a).atoms r q ≡ (contents_to d b).atoms r q
 unfolding contents_to
 contents-alike d zero r a b q nests le ge = absurd nests
 contents-alike d (suc n) r zero b q nests le ge = absurd (omega arith)
 contents-alike d (suc n) r (suc a) zero q nests le ge = absurd (omega arith)
 contents-alike d (suc n) r (suc a) (suc b) q nests le ge =
-    atoms-alike (contents_to d a) (contents_to d b) r (item_number q) (within q) (NestsAtMost d n) (λ s p k. contents-alike d n s a b p k (omega arith) (omega arith))
+    atoms-alike (contents_to d a) (contents_to d b) r (item_number q) (within q) (NestsAtMost d n)
+    (λ s p k. contents-alike d n s a b p k (omega arith) (omega arith))
     (drop (item_number q) (flow_in d r).items) (all-drop (NestsAtMost d n) (item_number q) (flow_in d r).items nests)
 
-entered-alike : (d : FlowsData) (n a b : ℕ) (book us : List Use) → Each (λ (u : Use). NestsAtMost d n u.0) us → n ≤ a → n ≤ b → entered d a book us ≡ entered d b book us
+entered-alike : (d : FlowsData) (n a b : ℕ) (book us : List Use) → Each (λ (u : Use). NestsAtMost d n u.0) us → n ≤ a → n ≤ b →
+    entered d a book us ≡ entered d b book us
 unfolding entered
 entered-alike d zero zero zero book us nests le ge = refl
 entered-alike d zero zero (suc b) book [] nests le ge = refl
@@ -313,50 +370,68 @@ entered-alike d (suc n) zero b book us nests le ge = absurd (omega arith)
 entered-alike d (suc n) (suc a) zero book us nests le ge = absurd (omega arith)
 entered-alike d (suc n) (suc a) (suc b) book us nests le ge =
     entered-same (λ k u. entered d a k (size_uses d u)) (λ k u. entered d b k (size_uses d u)) us
-    (each-use (λ u. NestsAtMost d (suc n) u.0) (λ u. (k : List Use) → entered d a k (size_uses d u) ≡ entered d b k (size_uses d u))
+    (each-use (λ u. NestsAtMost d (suc n) u.0) (λ u. (k : List Use) → entered d a k (size_uses d u) ≡ entered d b k
+    (size_uses d u))
     (λ u deep k. entered-alike d n a b k (size_uses d u) (size-nests d n u deep) (omega arith) (omega arith)) us nests) book
 
 pub depths-alike : (d : FlowsData) → DepthsAlike d
-depths-alike d = record { fragments_alike = fragments-alike d; owned_alike = owned-alike d; contents_alike = contents-alike d; entered_alike = λ n a b book us nests. entered-alike d n a b book us (recursion_from_All (λ u. NestsAtMost d n u.0) us nests) }
+depths-alike d = record {
+  fragments_alike = fragments-alike d;
+  owned_alike = owned-alike d;
+  contents_alike = contents-alike d;
+  entered_alike = λ n a b book us nests. entered-alike d n a b book us
+      (recursion_from_All (λ u. NestsAtMost d n u.0) us nests);
+}
 
 -- ---- sound data
 
 module _ (d : FlowsData) (sound : IsSound d) where
   deep : (r : ℕ) → r < length d.rows → NestsAtMost d (length d.rows) r
-  deep r lt = nests-to d (length d.rows - r) (length d.rows) r (omega arith) (nests-by-number d sound (length d.rows - r) r lt (omega arith))
+  deep r lt = nests-to d (length d.rows - r) (length d.rows) r (omega arith)
+      (nests-by-number d sound (length d.rows - r) r lt (omega arith))
 
   size-is : (r : ℕ) (q : Token) → r < length d.rows → (all_rows d).size r q ≡ size_of d r q
   unfolding size_of all_rows rows_to
-  size-is r q lt = (told-alike d (length d.rows) r (length d.rows) (suc (length d.rows)) (deep r lt) (omega arith) (omega arith)).size q
+  size-is r q lt = (told-alike d (length d.rows) r (length d.rows) (suc (length d.rows)) (deep r lt) (omega arith)
+      (omega arith)).size q
 
   fill-is : (r : ℕ) (q : Token) (h : ℕ) → r < length d.rows → (all_rows d).fill r q h ≡ fill_in (all_rows d) d r q h
   unfolding all_rows rows_to
-  fill-is r q h lt = (told-alike d (length d.rows) r (length d.rows) (suc (length d.rows)) (deep r lt) (omega arith) (omega arith)).fill q h
+  fill-is r q h lt = (told-alike d (length d.rows) r (length d.rows) (suc (length d.rows)) (deep r lt) (omega arith)
+      (omega arith)).fill q h
 
   left-is : (r : ℕ) (q : Token) → r < length d.rows → (all_rows d).left r q ≡ left_in (all_rows d) (flow_in d r) q
   unfolding all_rows rows_to
-  left-is r q lt = (told-alike d (length d.rows) r (length d.rows) (suc (length d.rows)) (deep r lt) (omega arith) (omega arith)).left q
+  left-is r q lt = (told-alike d (length d.rows) r (length d.rows) (suc (length d.rows)) (deep r lt) (omega arith)
+      (omega arith)).left q
 
   pub fragments-are : (depth : ℕ) (r : RowLaid) → r.row < length d.rows → length d.rows ≤ depth →
       row_fragments d depth r
-      ≡ fragments_from (fragment_of (row_fragments d (length d.rows)) (all_rows d) d (row_of d r.row).flow (flow_in d r.row) r.made_at) r.from
-      (columns_by (column_made (all_rows d) d (flow_in d r.row) r.made_at) (flow_in d r.row) (columns_wanted (all_rows d) d r) r.from)
+      ≡ fragments_from (fragment_of (row_fragments d (length d.rows)) (all_rows d) d (row_of d r.row).flow
+      (flow_in d r.row) r.made_at) r.from
+      (columns_by (column_made (all_rows d) d (flow_in d r.row) r.made_at) (flow_in d r.row)
+      (columns_wanted (all_rows d) d r) r.from)
   unfolding all_rows row_fragments
   fragments-are depth r lt le = fragments-alike d (length d.rows) depth (suc (length d.rows)) r (deep r.row lt) le (omega arith)
 
   owned-are : (depth r : ℕ) (q : Token) (h : ℕ) → r < length d.rows → length d.rows ≤ depth →
       (owned_to d depth).fill r q h
-      ≡ columns_owned (λ t. column_owned (owned_to d (length d.rows)) (all_rows d) d (flow_in d r) t h) q (to_overflow (columns (all_rows d) d (flow_in d r) (row_of d r).n q h))
+      ≡ columns_owned (λ t. column_owned (owned_to d (length d.rows)) (all_rows d) d (flow_in d r) t h) q
+      (to_overflow (columns (all_rows d) d (flow_in d r) (row_of d r).n q h))
   unfolding all_rows owned_to
   owned-are depth r q h lt le = owned-alike d (length d.rows) r depth (suc (length d.rows)) q h (deep r lt) le (omega arith)
 
-  atoms-are : (depth r : ℕ) (q : Token) → r < length d.rows → length d.rows ≤ depth → (contents_to d depth).atoms r q ≡ atoms_in (contents_to d (length d.rows)) r (flow_in d r) q
+  atoms-are : (depth r : ℕ) (q : Token) → r < length d.rows → length d.rows ≤ depth →
+      (contents_to d depth).atoms r q ≡ atoms_in (contents_to d (length d.rows)) r (flow_in d r) q
   unfolding contents_to
   atoms-are depth r q lt le = contents-alike d (length d.rows) r depth (suc (length d.rows)) q (deep r lt) le (omega arith)
 
-  entered-is : (depth : ℕ) (book us : List Use) → All (λ (u : Use). u.0 < length d.rows) us → length d.rows ≤ depth → entered d depth book us ≡ entered d (length d.rows) book us
+  entered-is : (depth : ℕ) (book us : List Use) → All (λ (u : Use). u.0 < length d.rows) us → length d.rows ≤ depth →
+      entered d depth book us ≡ entered d (length d.rows) book us
   entered-is depth book us known le =
-      entered-alike d (length d.rows) depth (length d.rows) book us (each-use (λ u. u.0 < length d.rows) (λ u. NestsAtMost d (length d.rows) u.0) (λ u lt. deep u.0 lt) us (recursion_from_All (λ u. u.0 < length d.rows) us known)) le (omega arith)
+      entered-alike d (length d.rows) depth (length d.rows) book us
+      (each-use (λ u. u.0 < length d.rows) (λ u. NestsAtMost d (length d.rows) u.0) (λ u lt. deep u.0 lt) us
+      (recursion_from_All (λ u. u.0 < length d.rows) us known)) le (omega arith)
 
 pub rows-are-told : (d : FlowsData) → IsSound d → RowsAreTold d
 rows-are-told d sound = record {

@@ -1,5 +1,5 @@
 -- Breaks stay constant below what a shortage adds to a height.
-use Rattle.std.proofs.Common.{◌≡◌, ℕ, ◌-◌, ◌<◌, ◌≤◌, min, Bool, true, false, cond, not, ◌||◌, ◌&&◌, List, [], ◌∷◌, length, refl, sym, subst, ◌∙◌, ap, arith}
+use Rattle.std.proofs.Common.{◌≡◌, ℕ, ◌<◌, ◌≤◌, min, Bool, true, false, cond, not, ◌||◌, ◌&&◌, List, [], ◌∷◌, length, refl, sym, subst, ◌∙◌, ap, arith}
 use Rattle.std.specs.Prelude.{fold, nat_lt}
 use Rattle.std.specs.List.{list_any}
 use Rattle.flow_data.specs.declared.data.Flow.{Flow}
@@ -38,7 +38,8 @@ each-up-to : (as_ bs : List Column) → ColumnsStay as_ bs → StayUpTo overflow
 each-up-to [] [] all = none
 each-up-to [] (b ∷ bs) all = absurd all
 each-up-to (a ∷ as_) [] all = absurd all
-each-up-to (a ∷ as_) (b ∷ bs) all = cons-stay overflows overflow-kept (λ a k. k) a b as_ bs all.0 (overflows a) refl (λ k. each-up-to as_ bs all.1)
+each-up-to (a ∷ as_) (b ∷ bs) all = cons-stay overflows overflow-kept (λ a k. k) a b as_ bs all.0 (overflows a) refl
+    (λ k. each-up-to as_ bs all.1)
 
 -- those up to the first that breaks a rule end with the first that overflows
 failure-overflow : (cs : List Column) → to_overflow (to_failure cs) ≡ to_failure cs
@@ -49,14 +50,16 @@ failure-overflow (c ∷ cs) = go (fails c) refl (failure-overflow cs)
     one true = refl
     one false = refl
 
-    go : (b : Bool) → fails c ≡ b → to_overflow (to_failure cs) ≡ to_failure cs → to_overflow (c ∷ cond b [] (to_failure cs)) ≡ c ∷ cond b [] (to_failure cs)
+    go : (b : Bool) → fails c ≡ b → to_overflow (to_failure cs) ≡ to_failure cs →
+        to_overflow (c ∷ cond b [] (to_failure cs)) ≡ c ∷ cond b [] (to_failure cs)
     go true e again = one c.overflow
     go false e again = ap (λ o. c ∷ cond o [] (to_overflow (to_failure cs))) (fails-fine c e) ∙ ap (λ us. c ∷ us) again
 
 -- ---- what is told of columns that stay
 
 module _ (f : Flow) (q : Token) where
-  stay-count : {cs ds : List Column} → StayUpTo overflows overflow-kept (λ a k. k) cs ds → list_any overflows cs ≡ false → length ds ≡ length cs
+  stay-count : {cs ds : List Column} → StayUpTo overflows overflow-kept (λ a k. k) cs ds → list_any overflows cs ≡ false →
+      length ds ≡ length cs
   stay-count none n = refl
   stay-count (ends k e) n = let m : true ≡ false = rw k at n in cc
   stay-count (more k e rest) n = let again = stay-count rest (rw k at n) in omega arith
@@ -67,7 +70,8 @@ module _ (f : Flow) (q : Token) where
   stay-unforced (ends k e) n = let m : true ≡ false = rw k at n in cc
   stay-unforced (more k e rest) n = rw (e.end k, stay-unforced rest (rw k at n)) refl
 
-  stay-fails : {cs ds : List Column} → StayUpTo overflows overflow-kept (λ a k. k) cs ds → list_any overflows cs ≡ false → list_any fails ds ≡ list_any fails cs
+  stay-fails : {cs ds : List Column} → StayUpTo overflows overflow-kept (λ a k. k) cs ds → list_any overflows cs ≡ false →
+      list_any fails ds ≡ list_any fails cs
   stay-fails none n = refl
   stay-fails (ends k e) n = let m : true ≡ false = rw k at n in cc
   stay-fails (more k e rest) n = rw (fails-kept _ _ e, stay-fails rest (rw k at n)) refl
@@ -81,7 +85,8 @@ module _ (f : Flow) (q : Token) where
       right true = refl
       right false = refl
 
-      go : (o : Bool) → c.overflow ≡ o → (list_any overflows cs ≡ true → list_any fails cs ≡ true) → (o || list_any overflows cs) ≡ true → ((c.overflow || nat_lt 0 c.level) || list_any fails cs) ≡ true
+      go : (o : Bool) → c.overflow ≡ o → (list_any overflows cs ≡ true → list_any fails cs ≡ true) →
+          (o || list_any overflows cs) ≡ true → ((c.overflow || nat_lt 0 c.level) || list_any fails cs) ≡ true
       go true e again s = rw e refl
       go false e again s = rw (again s, right (c.overflow || nat_lt 0 c.level)) refl
 
@@ -101,7 +106,8 @@ module _ (f : Flow) (q : Token) where
           ap (λ u. is_end f u && not (list_any fails ds)) (end-stays overflows overflow-kept (λ a k. k) same e q)
           ∙ ap (λ b. is_end f (end_of q cs) && not b) (stay-fails same e)
 
-  pub told-stays : (lo h : ℕ) (cs ds : List Column) → StayUpTo overflows overflow-kept (λ a k. k) cs ds → FoldStays (folded_by f q lo cs) (folded_by f q h ds)
+  pub told-stays : (lo h : ℕ) (cs ds : List Column) → StayUpTo overflows overflow-kept (λ a k. k) cs ds →
+      FoldStays (folded_by f q lo cs) (folded_by f q h ds)
   told-stays lo h cs ds same = record {
     lines = lines-stay overflows overflow-kept (λ a k. k) same;
     overflow = any-stays overflows overflow-kept (λ a k. k) same;
@@ -134,6 +140,8 @@ shortages-hold d depth = record {
       let k = short-below lo h (column (rows_to d depth) d f t lo).bounds within in
       column-stays (rows_to d depth) (rows_to-stay d depth) d f t lo h k.0 k.1;
   fold_stays = λ folding f n q lo h within.
-      told-stays f q lo h (columns_made folding (rows_to d depth) d f n q lo) (columns_made folding (rows_to d depth) d f n q h) (made-stay (rows_to d depth) (rows_to-stay d depth) d f n q lo h folding within);
-  fill_stays = λ r q lo h within. let k = short-below lo h ((rows_to d depth).fill r q lo).bounds within in rows_to-stay d depth r q lo h k.0 k.1;
+      told-stays f q lo h (columns_made folding (rows_to d depth) d f n q lo) (columns_made folding (rows_to d depth) d f n q h)
+      (made-stay (rows_to d depth) (rows_to-stay d depth) d f n q lo h folding within);
+  fill_stays = λ r q lo h within. let k = short-below lo h ((rows_to d depth).fill r q lo).bounds within in
+      rows_to-stay d depth r q lo h k.0 k.1;
 }

@@ -4,8 +4,7 @@ use Rattle.std.specs.Prelude.{filter}
 use Rattle.std.specs.List.{flat_map}
 use Rattle.std.proofs.lemmas.List.Sums.{sum_by-append}
 use Rattle.std.proofs.lemmas.List.Filters.{sum_by-filter_both}
-use Rattle.flow_data.specs.declared.data.Seam.{Seam}
-use Rattle.flow_data.specs.declared.data.Flow.{Flow}
+use Rattle.flow_data.specs.Data.{Flow, Seam}
 use Rattle.flow_data.specs.Flows.{started, starts_in, is_among, ends_in, open_at, boxes_in}
 
 pub filter-le : (g : ℕ → ℕ) (p : ℕ → Bool) (xs : List ℕ) → sum_by g (filter p xs) ≤ sum_by g xs

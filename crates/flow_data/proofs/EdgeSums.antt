@@ -2,7 +2,7 @@
 use Rattle.std.proofs.Common.{ℕ, zero, suc, ◌+◌, ◌<◌, ◌≤◌, List, [], ◌∷◌, length, get_or, take, arith, sum_by}
 use Rattle.std.specs.List.{flat_map}
 use Rattle.std.proofs.lemmas.List.Sums.{sum_by-append}
-use Rattle.flow_data.specs.declared.data.Edge.{Edge}
+use Rattle.flow_data.specs.Data.{Edge}
 
 pub sum-part : (g : ℕ → ℕ) (of : Edge → List ℕ) (edges : List Edge) (i : ℕ) (d : Edge) → i < length edges → sum_by g (flat_map of (take i edges)) + sum_by g (of (get_or edges i d)) ≤ sum_by g (flat_map of edges)
 sum-part g of [] i d lt = absurd (omega arith)

@@ -2,11 +2,7 @@
 use Rattle.std.proofs.Common.{◌≡◌, ℕ, zero, suc, ◌-◌, ◌<◌, List, [], ◌∷◌, ◌++◌, All, ◌↔◌, Bool, true, length, get_or, flat_map, refl, sym, ap, subst, arith}
 use Rattle.std.specs.Prelude.{◌≢◌}
 use Rattle.std.proofs.lemmas.List.Elements.{All-append, All-nil, All-cons, All-head, All-tail, All-weaker}
-use Rattle.flow_data.specs.declared.data.Flow.{Flow}
-use Rattle.flow_data.specs.declared.data.Item.{Item}
-use Rattle.flow_data.specs.declared.data.Item.TheVariants.{Row}
-use Rattle.flow_data.specs.declared.data.FlowsData.{FlowsData}
-use Rattle.flow_data.specs.declared.data.Seam.{Seam}
+use Rattle.flow_data.specs.Data.{Flow, FlowsData, Item, Seam, Row}
 use Rattle.flow_data.specs.Flows.{no_item, flow_of, flow_in, row_of, row_in, rows_in, started, starts_in, boxes_in}
 use Rattle.flow_data.specs.Soundness.{NestsAtMost, stack_in, stacks_in, flows_within}
 

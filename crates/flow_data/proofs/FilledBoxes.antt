@@ -7,13 +7,12 @@ use Rattle.std.proofs.lemmas.Bool.{cases_lt}
 use Rattle.std.proofs.lemmas.Grind.{flat_map-append}
 use Rattle.std.proofs.lemmas.List.{append-nil, drop_more, take_more}
 use Rattle.std.proofs.lemmas.List.Sums.{sum_by-append}
-use Rattle.flow_data.specs.declared.data.Seam.{Seam}
-use Rattle.flow_data.specs.declared.data.Flow.{Flow}
-use Rattle.flow_data.specs.declared.data.FlowsData.{FlowsData}
+use Rattle.flow_data.specs.Data.{Flow, FlowsData, Seam}
 use Rattle.flow_data.specs.Flows.{seam_of, no_seam, started, starts_in, ended, is_among, ends_in, open_at, boxes_in}
 use Rattle.flow_data.specs.Soundness.{count_of, AreNested, edges_of, IsSoundItem, IsSoundSeam, IsSoundFlow}
 use Rattle.flow_data.proofs.BoxSums.{filter-le}
-use Rattle.flow_data.proofs.OpenBoxes.{After, Sides, both, count-append, count-among, count-less, count-reverse, count-self, edges-after, first-tail, has-count, once, seams-after, some-index, starts-one}
+use Rattle.flow_data.proofs.OpenBoxes.{After, Sides, both, count-less, edges-after, first-tail, has-count, seams-after, some-index, starts-one}
+use Rattle.flow_data.proofs.Counts.{count-append, count-reverse, count-self, count-among, distinct-count}
 
 -- the boxes that start in the seams before j, and in the later seam k
 starts-apart : (g : ℕ → ℕ) (seams : List Seam) (j k : ℕ) → j ≤ k → k < length seams → sum_by g (starts_in (take j seams)) + sum_by g (flat_map started (get_or seams k no_seam).head) ≤ sum_by g (starts_in seams)
@@ -64,7 +63,7 @@ Stands f b = SomeIndex f.items (λ k. Contains (open_at f k) b)
 module _ (f : Flow) (seam_count : length f.seams ≡ length f.items + 1) (sides : Sides f.seams) (distinct : AllPairs (λ a b. a ≢ b) (boxes_in f)) (nested : AreNested (reverse f.opened) (edges_of f)) where
   -- a box is named once in all
   once-in-all : (b : ℕ) → count_of b f.opened + count_of b (starts_in f.seams) ≤ 1
-  once-in-all b = omega (arith, once b (boxes_in f) distinct, count-append b f.opened (starts_in f.seams))
+  once-in-all b = omega (arith, distinct-count b (boxes_in f) distinct, count-append b f.opened (starts_in f.seams))
 
   -- what ends up to seam k was open before or started before
   ends-before : (b k : ℕ) → k < length f.seams → count_of b (ends_in (take (k + 1) f.seams)) ≤ count_of b f.opened + count_of b (starts_in (take k f.seams))
@@ -141,7 +140,7 @@ module _ (d : FlowsData) (f : Flow) (sound : IsSoundFlow d f) where
             stands,
             opens-within m f i,
             starts-apart (λ x. cond (x == m) 1 0) f.seams (i + 1) (length f.items) (omega arith) within,
-            once m (boxes_in f) sound.distinct,
+            distinct-count m (boxes_in f) sound.distinct,
             count-append m f.opened (starts_in f.seams),
           )
 

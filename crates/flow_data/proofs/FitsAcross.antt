@@ -4,8 +4,7 @@ use Rattle.std.specs.Prelude.{◌≢◌}
 use Rattle.std.proofs.lemmas.List.Elements.{All-append, All-nil, All-cons, All-head, All-tail, All-map}
 use Rattle.std.proofs.lemmas.List.Sums.{sum_by-append, sum_by-cons}
 use Rattle.flow_data.specs.declared.across.Place.{Place}
-use Rattle.flow_data.specs.declared.data.FlowsData.{FlowsData}
-use Rattle.flow_data.specs.declared.data.Item.{Item}
+use Rattle.flow_data.specs.Data.{FlowsData, Item}
 use Rattle.flow_data.specs.Across.{IsBoxInReach, IsItemInReach, place_of}
 use Rattle.flow_data.specs.Flows.{flow_of, stack_of, boxes_in}
 use Rattle.flow_data.specs.Soundness.{FitsAcross, Held, held_in}

@@ -1,9 +1,13 @@
 pub mod BoxSums
+pub mod Counts
+pub mod Dropped
 pub mod EdgeSums
 pub mod Everywhere
 pub mod FilledBoxes
 pub mod FitsAcross
+pub mod FlowBoxes
 pub mod OpenBoxes
+pub mod SeamEdges
 pub mod SoundFlow
 pub mod SoundSeams
 pub mod StandsOnce

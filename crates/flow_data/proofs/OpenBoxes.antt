@@ -1,65 +1,17 @@
 -- The boxes that are open, one seam after another, in a sound flow: how often each is named, and what is summed over them.
-use Rattle.std.proofs.Common.{◌≡◌, ℕ, zero, suc, ◌+◌, ◌*◌, ◌<◌, ◌≤◌, Bool, true, false, cond, not, ◌||◌, List, [], ◌∷◌, ◌++◌, length, take, drop, get_or, refl, sym, ◌∙◌, ap, arith, sum_by, add-one, zero-add, add-zero, append_assoc, All, reverse, ◌≢◌}
-use Rattle.std.specs.Prelude.{filter, ◌==◌, AllPairs, Contains, SomeIndex}
+use Rattle.std.proofs.Common.{◌≡◌, ℕ, zero, suc, ◌+◌, ◌*◌, ◌<◌, ◌≤◌, Bool, true, false, cond, not, List, [], ◌∷◌, ◌++◌, length, take, drop, get_or, refl, sym, ◌∙◌, ap, arith, sum_by, add-one, zero-add, add-zero, append_assoc, All, reverse}
+use Rattle.std.specs.Prelude.{filter, ◌==◌, Contains, SomeIndex}
 use Rattle.std.specs.List.{flat_map}
 use Rattle.std.proofs.lemmas.Bool.Decides.{nat_tests}
 use Rattle.std.proofs.lemmas.List.{append-nil, drop_more, take_more}
 use Rattle.std.proofs.lemmas.List.Elements.{filter_passes}
 use Rattle.std.proofs.lemmas.List.Sums.{sum_by-cons, sum_by-append}
-use Rattle.std.proofs.lemmas.List.Sorted.{IsPermutation-reverse, sum_by-IsPermutation}
-use Rattle.flow_data.specs.declared.data.Edge.{Edge}
-use Rattle.flow_data.specs.declared.data.Edge.TheVariants.{Margin, Solid, Wall, Start, End}
-use Rattle.flow_data.specs.declared.data.Seam.{Seam}
-use Rattle.flow_data.specs.declared.data.Flow.{Flow}
-use Rattle.flow_data.specs.declared.data.FlowsData.{FlowsData}
+use Rattle.flow_data.specs.Data.{Edge, Flow, FlowsData, Seam, Margin, Solid, Wall, Start, End}
 use Rattle.flow_data.specs.Flows.{seam_of, no_seam, started, starts_in, ended, is_among, ends_in, open_at, boxes_in}
 use Rattle.flow_data.specs.Soundness.{count_of, AreNested, IsSoundFlow}
 use Rattle.flow_data.proofs.EdgeSums.{sum-part}
 use Rattle.flow_data.proofs.BoxSums.{starts-take, open_at-le}
-
--- ---- counts
-
-count-cons : (n x : ℕ) (xs : List ℕ) → count_of n (x ∷ xs) ≡ cond (x == n) 1 0 + count_of n xs
-count-cons n x xs = sum_by-cons (λ m. cond (m == n) 1 0) x xs
-
-pub count-append : (n : ℕ) (xs ys : List ℕ) → count_of n (xs ++ ys) ≡ count_of n xs + count_of n ys
-count-append n xs ys = sum_by-append (λ m. cond (m == n) 1 0) xs ys
-
-pub count-reverse : (n : ℕ) (xs : List ℕ) → count_of n (reverse xs) ≡ count_of n xs
-count-reverse n xs = sum_by-IsPermutation (λ m. cond (m == n) 1 0) xs (reverse xs) (IsPermutation-reverse xs)
-
-pub count-self : (n : ℕ) (xs : List ℕ) → count_of n (n ∷ xs) ≡ suc (count_of n xs)
-count-self n xs = count-cons n n xs ∙ grind (arith, nat_tests)
-
-count-yes : (n x : ℕ) (xs : List ℕ) → (x == n) ≡ true → count_of n (x ∷ xs) ≡ suc (count_of n xs)
-count-yes n x xs e = count-cons n x xs ∙ rw e (omega arith)
-
-count-no : (n x : ℕ) (xs : List ℕ) → (x == n) ≡ false → count_of n (x ∷ xs) ≡ count_of n xs
-count-no n x xs e = count-cons n x xs ∙ rw e (zero-add _)
-
--- a number that is among these is counted, and one that isn't is not
-pub count-among : (n : ℕ) (xs : List ℕ) → count_of n xs ≡ 0 → is_among xs n ≡ false
-count-among n [] z = refl
-count-among n (x ∷ xs) z = go (x == n) refl (λ e. count-among n xs e)
-  where
-    go : (b : Bool) → (x == n) ≡ b → (count_of n xs ≡ 0 → is_among xs n ≡ false) → ((x == n) || is_among xs n) ≡ false
-    go true e again = absurd (let c = count-yes n x xs e in omega arith)
-    go false e again = rw e (again (let c = count-no n x xs e in omega arith))
-
-among-count : (n : ℕ) (xs : List ℕ) → is_among xs n ≡ false → count_of n xs ≡ 0
-among-count n [] z = refl
-among-count n (x ∷ xs) z = go (x == n) refl (λ e. among-count n xs e) z
-  where
-    go : (b : Bool) → (x == n) ≡ b → (is_among xs n ≡ false → count_of n xs ≡ 0) → (b || is_among xs n) ≡ false → count_of n (x ∷ xs) ≡ 0
-    go true e again z = cc
-    go false e again z = count-no n x xs e ∙ again z
-
-among-some : (n : ℕ) (xs : List ℕ) → is_among xs n ≡ true → 0 < count_of n xs
-among-some n xs h = go (count_of n xs) refl
-  where
-    go : (c : ℕ) → count_of n xs ≡ c → 0 < c
-    go zero e = let z = count-among n xs e in cc
-    go (suc c) e = omega arith
+use Rattle.flow_data.proofs.Counts.{count-cons, count-append, count-reverse, count-self, count-yes, count-no, count-among, among-count, among-some, distinct-count}
 
 -- all but n of these
 abbrev without : ℕ → List ℕ → List ℕ
@@ -188,26 +140,6 @@ seams-after (s ∷ ss) (suc n) before sides h =
 
 -- ---- no box stands twice
 
-none-count : (n : ℕ) (xs : List ℕ) → ((j : ℕ) → j < length xs → get_or xs j n ≢ n) → count_of n xs ≡ 0
-none-count n [] h = refl
-none-count n (x ∷ xs) h = go (x == n) refl (none-count n xs (λ j lt. h (suc j) (omega arith)))
-  where
-    go : (b : Bool) → (x == n) ≡ b → count_of n xs ≡ 0 → count_of n (x ∷ xs) ≡ 0
-    go true e ih = absurd (h 0 (omega arith) (grind (arith, nat_tests)))
-    go false e ih = count-no n x xs e ∙ ih
-
-pub once : (n : ℕ) (xs : List ℕ) → AllPairs (λ a b. a ≢ b) xs → count_of n xs ≤ 1
-once n [] h = omega arith
-once n (x ∷ xs) h = go (x == n) refl (once n xs (λ i j d lt in_range. h (suc i) (suc j) d (omega arith) (omega arith)))
-  where
-    go : (b : Bool) → (x == n) ≡ b → count_of n xs ≤ 1 → count_of n (x ∷ xs) ≤ 1
-    go true e ih =
-        let same : x ≡ n = grind (arith, nat_tests) in
-        let z : count_of n xs ≡ 0 = none-count n xs (λ j lt is. h 0 (suc j) n (omega arith) (omega arith) (same ∙ sym is)) in
-        let c = count-yes n x xs e in
-        omega arith
-    go false e ih = let c = count-no n x xs e in omega arith
-
 not-true : (b : Bool) → not b ≡ true → b ≡ false
 not-true true e = cc
 not-true false e = refl
@@ -248,7 +180,7 @@ module _ (d : FlowsData) (f : Flow) (sound : IsSoundFlow d f) where
 
   begun-once : (m n : ℕ) → count_of m (f.opened ++ starts_in (take n f.seams)) ≤ 1
   begun-once m n =
-      omega (arith, once m (boxes_in f) sound.distinct, starts-take (λ x. cond (x == m) 1 0) n f.seams, count-append m f.opened (starts_in (take n f.seams)), count-append m f.opened (starts_in f.seams))
+      omega (arith, distinct-count m (boxes_in f) sound.distinct, starts-take (λ x. cond (x == m) 1 0) n f.seams, count-append m f.opened (starts_in (take n f.seams)), count-append m f.opened (starts_in f.seams))
 
   ends-begun : (m n : ℕ) → count_of m (ends_in (take n f.seams)) ≤ count_of m (f.opened ++ starts_in (take n f.seams))
   ends-begun m n = omega (arith, (after n).counts m, count-reverse m f.opened, count-append m f.opened (starts_in (take n f.seams)))

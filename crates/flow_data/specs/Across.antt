@@ -1,8 +1,7 @@
 -- What is looked at while places are measured from the left of stack 0: flows in flows.
 use Rattle.std.specs.Prelude.{ℕ, ◌+◌, ◌^◌, ◌<◌}
 use Rattle.flow_data.specs.declared.across.Place.{Place}
-use Rattle.flow_data.specs.declared.data.FlowsData.{FlowsData}
-use Rattle.flow_data.specs.declared.data.Item.{Item}
+use Rattle.flow_data.specs.Data.{FlowsData, Item}
 use Rattle.flow_data.specs.Flows.{box_of}
 use Rattle.flow_data.specs.Soundness.{Held, item_x}
 

@@ -2,18 +2,7 @@
 use Rattle.std.specs.Prelude.{ℕ, ◌+◌, ◌==◌, Bool, false, not, List, [], ◌∷◌, ◌++◌, filter, flat_map, take, get_or}
 use Rattle.std.specs.List.{list_any}
 use Rattle.mc_base.specs.declared.level.Level.TheVariants.{L0}
-use Rattle.flow_data.specs.declared.data.AtomKind.TheVariants.{Plain}
-use Rattle.flow_data.specs.declared.data.Bound.TheVariants.{Free}
-use Rattle.flow_data.specs.declared.data.BoxInfo.{BoxInfo}
-use Rattle.flow_data.specs.declared.data.Edge.{Edge}
-use Rattle.flow_data.specs.declared.data.Edge.TheVariants.{Margin, Solid, Wall, Start, End}
-use Rattle.flow_data.specs.declared.data.Flow.{Flow}
-use Rattle.flow_data.specs.declared.data.FlowsData.{FlowsData}
-use Rattle.flow_data.specs.declared.data.Item.{Item}
-use Rattle.flow_data.specs.declared.data.Item.TheVariants.{Atom, Row}
-use Rattle.flow_data.specs.declared.data.RowInfo.{RowInfo}
-use Rattle.flow_data.specs.declared.data.Seam.{Seam}
-use Rattle.flow_data.specs.declared.data.Stack.{Stack}
+use Rattle.flow_data.specs.Data.{BoxInfo, Edge, Flow, FlowsData, Item, RowInfo, Seam, Stack, Plain, Free, Margin, Solid, Wall, Start, End, Atom, Row}
 
 abbrev pub no_item : Item
 no_item = Atom 0 Plain

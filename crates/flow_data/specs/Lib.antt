@@ -1,4 +1,5 @@
 pub mod Across
+pub mod Data
 pub mod Flows
 pub mod Sizes
 pub mod Soundness

@@ -1,6 +1,6 @@
 -- Heights of parts.
 use Rattle.std.specs.Prelude.{ℕ, ◌+◌}
-use Rattle.flow_data.specs.declared.data.FlowsData.{FlowsData}
+use Rattle.flow_data.specs.Data.{FlowsData}
 use Rattle.flow_data.specs.Flows.{box_of}
 
 -- the cloned edges of box b together

@@ -1,19 +1,7 @@
 -- Sound data: what is true of the flows that a document or a flow file gives, and of each sealed value.
 -- The limits are this project's own, and so is the order of numbers.
 use Rattle.std.specs.Prelude.{◌≡◌, ℕ, zero, suc, ◌+◌, ◌^◌, ◌<◌, ◌≤◌, ◌==◌, Bool, true, false, if◌then◌else◌, List, [], ◌∷◌, ◌++◌, Some, All, AllPairs, Contains, EachIndex, SomeIndex, ◌≢◌, length, count_by, sum_by, map, reverse, flat_map, slice_get, ◌-◌}
-use Rattle.flow_data.specs.declared.data.AtomKind.{AtomKind}
-use Rattle.flow_data.specs.declared.data.AtomKind.TheVariants.{Plain, Line, Void, Image, Bounded}
-use Rattle.flow_data.specs.declared.data.Bound.TheVariants.{Left}
-use Rattle.flow_data.specs.declared.data.BoxInfo.{BoxInfo}
-use Rattle.flow_data.specs.declared.data.Edge.{Edge}
-use Rattle.flow_data.specs.declared.data.Edge.TheVariants.{Margin, Solid, Wall, Start, End}
-use Rattle.flow_data.specs.declared.data.Flow.{Flow}
-use Rattle.flow_data.specs.declared.data.FlowsData.{FlowsData}
-use Rattle.flow_data.specs.declared.data.Item.{Item}
-use Rattle.flow_data.specs.declared.data.Item.TheVariants.{Atom, Row}
-use Rattle.flow_data.specs.declared.data.RowInfo.{RowInfo}
-use Rattle.flow_data.specs.declared.data.Seam.{Seam}
-use Rattle.flow_data.specs.declared.data.Stack.{Stack}
+use Rattle.flow_data.specs.Data.{AtomKind, BoxInfo, Edge, Flow, FlowsData, Item, RowInfo, Seam, Stack, Plain, Line, Void, Image, Bounded, Left, Margin, Solid, Wall, Start, End, Atom, Row}
 use Rattle.flow_data.specs.Flows.{flow_of, row_of, box_of, stack_of, flow_in, rows_in, atom_height, amount, started, ended, open_at, boxes_in}
 
 -- how often a number stands in a list

@@ -1,17 +1,15 @@
 -- A column ends later than it begins, where what is made of the rows within it does.
-use Rattle.std.proofs.Common.{◌≡◌, ℕ, zero, suc, ◌+◌, ◌-◌, ◌<◌, ◌≤◌, Bool, true, false, cond, not, ◌&&◌, List, [], ◌∷◌, ◌++◌, length, drop, get_or, Option, Some, None, refl, sym, subst, ◌∙◌, ap, arith, append_assoc, ◌⊎◌, inl, inr}
-use Rattle.std.specs.Prelude.{nat_lt, nat_le}
+use Rattle.std.proofs.Common.{◌≡◌, ℕ, zero, suc, ◌+◌, ◌-◌, ◌<◌, ◌≤◌, Bool, true, false, cond, List, [], ◌∷◌, ◌++◌, length, drop, get_or, Option, Some, None, refl, sym, subst, ◌∙◌, ap, arith, append_assoc, ◌⊎◌, inl, inr}
 use Rattle.std.proofs.lemmas.Bool.{cases_lt}
 use Rattle.std.proofs.lemmas.List.{drop-drop, drop_more}
-use Rattle.flow_data.specs.declared.data.Flow.{Flow}
-use Rattle.flow_data.specs.declared.data.FlowsData.{FlowsData}
-use Rattle.flow_data.specs.declared.data.Item.{Item}
-use Rattle.flow_data.specs.declared.data.Item.TheVariants.{Atom, Row}
-use Rattle.flow_data.specs.Flows.{flow_in, item_of, seam_of, no_item}
+use Rattle.std.specs.List.{AllByRecursion as Each}
+use Rattle.flow_list.specs.Data.{Flow, FlowsData, Item, Atom, Row}
+use Rattle.flow_data.specs.Flows.{flow_in, item_of, no_item}
 use Rattle.flow_list.specs.Tokens.{Token, row_start, item_number, within, IsPlaceBefore}
-use Rattle.flow_list.specs.Strip.{Strip, lay_all}
-use Rattle.flow_list.specs.Column.{Filled, Inner, Step, Place, Cut, cut, longer, steps, steps_from, start_strip, strip_behind, is_forced, row_from, fill_in_room, room, seams_before, seams_between, inside, inside_place, alone_place, whole_place, is_cut, best, choose, last_place, no_place, column, column_over, column_up_to, avoids_at, endless_column}
+use Rattle.flow_list.specs.Strip.{Strip}
+use Rattle.flow_list.specs.Column.{Filled, Inner, Step, Place, cut, steps, steps_from, start_strip, row_from, room, seams_before, seams_between, inside_place, last_place, no_place, column, column_over, column_up_to, avoids_at, endless_column}
 use Rattle.flow_list.specs.Rows.{item_left, items_left, left_in}
+use Rattle.flow_list.proofs.ColumnParts.{EachFrom, steps-each, some-steps, through, cut-each, last-each, cut-some, stopped-each}
 use Rattle.flow_laws.specs.Progress.{AtomAt, Contents, item_atoms, atoms_of_items, atoms_in, EndsWith}
 use Rattle.flow_laws.proofs.Places.{in-items, some-left, IsReached, start-reached}
 
@@ -134,32 +132,11 @@ module _ (d : FlowsData) (x : Inner) (c : Contents) where
     RowReached k None = Unit {0}
     RowReached k (Some row) = (item_of f k ≡ Row row.0) × IsReached d (flow_in d row.0) row.1 × Reached k row.1 × RowMoves row.0
 
-    abbrev StepsReached : ℕ → List Step → Type 0
-    StepsReached k [] = Unit {0}
-    StepsReached k (s ∷ ss) = (s.item ≡ k) × (s.item < length f.items) × RowReached s.item s.row × StepsReached (k + 1) ss
+    abbrev StepReached : ℕ → Step → Type 0
+    StepReached k s = (s.item ≡ k) × (s.item < length f.items) × RowReached s.item s.row
 
-    AllLater : List Place → Type 0
-    AllLater [] = Unit {0}
-    AllLater (p ∷ ps) = Later r f t p.end × AllLater ps
-
-    AllLater-append : (ps qs : List Place) → AllLater ps → AllLater qs → AllLater (ps ++ qs)
-    unfolding AllLater
-    AllLater-append [] qs a b = b
-    AllLater-append (p ∷ ps) qs a b = (a.0, AllLater-append ps qs a.1 b)
-
-    best-later : (p : Place) (ps : List Place) → Later r f t p.end → AllLater ps → Later r f t (best p ps).end
-    unfolding AllLater
-    best-later p [] a b = a
-    best-later p (q ∷ qs) a b = best-later (cond (nat_le q.level p.level) q p) qs (go (nat_le q.level p.level)) b.1
-      where
-        go : (b' : Bool) → Later r f t (cond b' q p).end
-        go true = b.0
-        go false = a
-
-    choose-later : (ps : List Place) (o : Place) → AllLater ps → Later r f t o.end → Later r f t (choose ps o).end
-    unfolding AllLater
-    choose-later [] o a b = b
-    choose-later (p ∷ ps) o a b = best-later p ps a.0 a.1
+    abbrev IsLaterPlace : Place → Type 0
+    IsLaterPlace p = Later r f t p.end
 
     inside-later : (avoids : Bool) (s : Step) (a b : ℕ) (row : ℕ × Token) → item_number t ≤ s.item → s.item < length f.items → RowReached s.item (Some row) → Later r f t (inside_place avoids s a (x.fill row.0 row.1 b)).end
     inside-later avoids s a b row le lt reached = go (x.fill row.0 row.1 b).at_end refl
@@ -170,78 +147,38 @@ module _ (d : FlowsData) (x : Inner) (c : Contents) where
             let m = reached.3.fills row.1 b reached.1 in
             later-inside s.item row.0 row.1 (x.fill row.0 row.1 b).end lt reached.0 reached.2 (m.place e) (m.fewer e) (m.rest e)
 
-    seams-later : (need k : ℕ) (ss : List Step) → item_number t < k → StepsReached k ss → AllLater (seams_before need ss)
-    unfolding AllLater
+    seams-later : (need k : ℕ) (ss : List Step) → item_number t < k → EachFrom StepReached k ss → Each IsLaterPlace (seams_before need ss)
     seams-later need k [] lt reached = tt
     seams-later need k (s ∷ ss) lt reached =
-        (later-seam s.item (let e = reached.0 in omega arith) (let e = reached.1 in omega arith), seams-later s.need (k + 1) ss (omega arith) reached.3)
+        (later-seam s.item (let e = reached.0.0 in omega arith) (let e = reached.0.1 in omega arith), seams-later s.need (k + 1) ss (omega arith) reached.1)
 
-    between-later : (k : ℕ) (ss : List Step) → item_number t ≤ k → StepsReached k ss → AllLater (seams_between ss)
-    unfolding AllLater
+    between-later : (k : ℕ) (ss : List Step) → item_number t ≤ k → EachFrom StepReached k ss → Each IsLaterPlace (seams_between ss)
     between-later k [] le reached = tt
-    between-later k (s ∷ ss) le reached = seams-later s.need (k + 1) ss (omega arith) reached.3
+    between-later k (s ∷ ss) le reached = seams-later s.need (k + 1) ss (omega arith) reached.1
 
-    last-later : (p : Place) (k : ℕ) (ss : List Step) → item_number t ≤ k → Later r f t p.end → StepsReached k ss → Later r f t (last_place p ss).end
+    last-later : (p : Place) (k : ℕ) (ss : List Step) → item_number t ≤ k → Later r f t p.end → EachFrom StepReached k ss → Later r f t (last_place p ss).end
     last-later p k [] le a reached = a
     last-later p k (s ∷ ss) le a reached =
         last-later (record { level = 0; end = (s.item + 1) ∷ []; extent = s.need; overflow = false }) (k + 1) ss (omega arith)
-        (later-seam (s.item + 1) (let e = reached.0 in omega arith) (let e = reached.1 in omega arith)) reached.3
+        (later-seam (s.item + 1) (let e = reached.0.0 in omega arith) (let e = reached.0.1 in omega arith)) reached.1
 
-    stop-later : (avoids : Bool) (h : ℕ) (s : Step) (row : Option (ℕ × Token)) → item_number t ≤ s.item → s.item < length f.items → RowReached s.item row →
-        AllLater (inside avoids s h (fill_in_room x row (room s h))) × Later r f t (alone_place avoids s h (fill_in_room x row (room s h))).end
-    unfolding AllLater
-    stop-later avoids h s None le lt reached = (tt, later-seam (s.item + 1) (omega arith) (omega arith))
-    stop-later avoids h s (Some row) le lt reached = (one (is_cut s h && not (x.fill row.0 row.1 (room s h)).overflow), other (nat_lt (room s h) s.height))
-      where
-        in-place : Later r f t (inside_place avoids s (room s h) (x.fill row.0 row.1 (room s h))).end
-        in-place = inside-later avoids s (room s h) (room s h) row le lt reached
-
-        one : (b : Bool) → AllLater (cond b (inside_place avoids s (room s h) (x.fill row.0 row.1 (room s h)) ∷ []) [])
-        one true = (in-place, tt)
-        one false = tt
-
-        other : (b : Bool) → Later r f t (cond b (record { level = (inside_place avoids s (room s h) (x.fill row.0 row.1 (room s h))).level; end = (inside_place avoids s (room s h) (x.fill row.0 row.1 (room s h))).end; extent = (inside_place avoids s (room s h) (x.fill row.0 row.1 (room s h))).extent; overflow = true }) (whole_place s)).end
-        other true = in-place
-        other false = later-seam (s.item + 1) (omega arith) (omega arith)
-
-    abbrev CutReached : ℕ → Cut → Option Step → Type 0
-    CutReached k u None = StepsReached k u.before
-    CutReached k u (Some s) = StepsReached k (u.before ++ s ∷ []) × (k ≤ s.item) × (s.item < length f.items) × RowReached s.item s.row
-
-    cut-reached : (h k : ℕ) (ss : List Step) → StepsReached k ss → CutReached k (cut h ss) (cut h ss).stop
-    cut-reached h k [] reached = tt
-    cut-reached h k (s ∷ ss) reached = go (nat_lt h s.need) (cut-reached h (k + 1) ss reached.3)
-      where
-        more : (o : Option Step) → CutReached (k + 1) (cut h ss) o → CutReached k (longer s (cut h ss)) o
-        more None u = (reached.0, reached.1, reached.2, u)
-        more (Some s') u = ((reached.0, reached.1, reached.2, u.0), (let l = u.1 in omega arith), u.2, u.3)
-
-        go : (b : Bool) → CutReached (k + 1) (cut h ss) (cut h ss).stop → CutReached k (cond b (record { before = []; stop = Some s }) (longer s (cut h ss))) (cond b (record { before = []; stop = Some s }) (longer s (cut h ss))).stop
-        go true u = ((reached.0, reached.1, reached.2, tt), (let e = reached.0 in omega arith), reached.1, reached.2)
-        go false u = more (cut h ss).stop u
-
-    up_to-later : (avoids : ℕ → Bool) (h : ℕ) (u : Cut) (stop : Option Step) → (stop ≡ None → (s : Step) × (ss : List Step) × (u.before ≡ s ∷ ss)) → CutReached (item_number t) u stop → Later r f t (column_up_to x avoids h u.before stop).end
-    up_to-later avoids h u None some reached =
+    up_to-later : (avoids : ℕ → Bool) (h : ℕ) (before : List Step) (stop : Option Step) → (stop ≡ None → (s : Step) × (ss : List Step) × (before ≡ s ∷ ss)) → EachFrom StepReached (item_number t) (through before stop) →
+        Later r f t (column_up_to x avoids h before stop).end
+    up_to-later avoids h before None some reached =
         let n = some refl in
         let P : List Step → Type 0 = λ ss. Later r f t (last_place no_place ss).end in
         let reached' = rw n.2 at reached in
-        subst P (sym n.2) (last-later _ (item_number t + 1) n.1 (omega arith) (later-seam (n.0.item + 1) (let e = reached'.0 in omega arith) (let e = reached'.1 in omega arith)) reached'.3)
-    up_to-later avoids h u (Some s) some reached =
-        let m = stop-later (avoids s.item) h s s.row reached.1 reached.2 reached.3 in
-        choose-later (seams_between (u.before ++ s ∷ []) ++ inside (avoids s.item) s h (fill_in_room x s.row (room s h))) (alone_place (avoids s.item) s h (fill_in_room x s.row (room s h)))
-        (AllLater-append (seams_between (u.before ++ s ∷ [])) _ (between-later (item_number t) (u.before ++ s ∷ []) (omega arith) reached.0) m.0) m.1
+        subst P (sym n.2) (last-later _ (item_number t + 1) n.1 (omega arith) (later-seam (n.0.item + 1) (let e = reached'.0.0 in omega arith) (let e = reached'.0.1 in omega arith)) reached'.1)
+    up_to-later avoids h before (Some s) some reached =
+        let last = last-each StepReached (item_number t) before s reached in
+        let le : item_number t ≤ s.item = let e = last.0 in omega arith in
+        stopped-each IsLaterPlace x (avoids s.item) h s before s.row (between-later (item_number t) (before ++ s ∷ []) (omega arith) reached) (λ which. later-seam (s.item + 1) (omega arith) (let lt = last.1 in omega arith))
+        (λ row over is low. inside-later (avoids s.item) s (room s h) (room s h) row le last.1 (subst (RowReached s.item) is last.2))
 
-    cut-some : (h : ℕ) (s : Step) (ss : List Step) → (cut h (s ∷ ss)).stop ≡ None → (s' : Step) × (ss' : List Step) × ((cut h (s ∷ ss)).before ≡ s' ∷ ss')
-    cut-some h s ss = go (nat_lt h s.need)
-      where
-        go : (b : Bool) → (cond b (record { before = []; stop = Some s }) (longer s (cut h ss))).stop ≡ None → (s' : Step) × (ss' : List Step) × ((cond b (record { before = []; stop = Some s }) (longer s (cut h ss))).before ≡ s' ∷ ss')
-        go true e = cc
-        go false e = (s, (cut h ss).before, refl)
-
-    over-later : (avoids : ℕ → Bool) (h : ℕ) (ss : List Step) → ((s : Step) × (more : List Step) × (ss ≡ s ∷ more)) → StepsReached (item_number t) ss → Later r f t (column_over x avoids h ss).end
+    over-later : (avoids : ℕ → Bool) (h : ℕ) (ss : List Step) → ((s : Step) × (more : List Step) × (ss ≡ s ∷ more)) → EachFrom StepReached (item_number t) ss → Later r f t (column_over x avoids h ss).end
     over-later avoids h ss n reached =
-        let P : List Step → Type 0 = λ ss. StepsReached (item_number t) ss → Later r f t (column_over x avoids h ss).end in
-        let at_cons : P (n.0 ∷ n.1) = λ reached. up_to-later avoids h (cut h (n.0 ∷ n.1)) (cut h (n.0 ∷ n.1)).stop (cut-some h n.0 n.1) (cut-reached h (item_number t) (n.0 ∷ n.1) reached) in
+        let P : List Step → Type 0 = λ ss. EachFrom StepReached (item_number t) ss → Later r f t (column_over x avoids h ss).end in
+        let at_cons : P (n.0 ∷ n.1) = λ reached. up_to-later avoids h (cut h (n.0 ∷ n.1)).before (cut h (n.0 ∷ n.1)).stop (cut-some h n.0 n.1) (cut-each StepReached h (item_number t) (n.0 ∷ n.1) reached) in
         subst P (sym n.2) at_cons reached
 
     -- ---- the items of the column
@@ -257,22 +194,13 @@ module _ (d : FlowsData) (x : Inner) (c : Contents) where
     starts-place : (k : ℕ) → IsPlaceIn k row_start
     starts-place k s is = start-reached d (flow_in d s)
 
-    steps-reached : (s : Strip) (k : ℕ) (q : Token) (n : ℕ) → item_number t ≤ k → k + n ≡ length f.items → Reached k q → IsPlaceIn k q → StepsReached k (steps x d f s k q n)
-    unfolding steps
-    steps-reached s k q zero le e reached place = tt
-    steps-reached s k q (suc n) le e reached place = (
-      refl,
-      omega arith,
-      row-reached k q (item_of f k) refl (item-moves f.items k moves) reached place,
-      go (is_forced (seam_of f (k + 1)).level) (steps-reached (lay_all (strip_behind x f s k q) (seam_of f (k + 1)).head) (k + 1) row_start n (omega arith) (omega arith) (reached-later (k + 1) (omega arith)) (starts-place (k + 1))),
-    )
-      where
-        more : List Step
-        more = steps x d f (lay_all (strip_behind x f s k q) (seam_of f (k + 1)).head) (k + 1) row_start n
+    abbrev IsBefore : Strip → ℕ → Token → ℕ → Type 0
+    IsBefore s k q n = (item_number t ≤ k) × (k + n ≡ length f.items) × Reached k q × IsPlaceIn k q
 
-        go : (b : Bool) → StepsReached (k + 1) more → StepsReached (k + 1) (elim b [ true ↦ [] | false ↦ more ])
-        go true a = tt
-        go false a = a
+    steps-reached : (s : Strip) (k : ℕ) (q : Token) (n : ℕ) → IsBefore s k q n → EachFrom StepReached k (steps x d f s k q n)
+    steps-reached =
+        steps-each x d f IsBefore StepReached (λ s k q n b. let e = b.1 in (refl, omega arith, row-reached k q (item_of f k) refl (item-moves f.items k moves) b.2 b.3))
+        (λ s k q n b. let le = b.0 in let e = b.1 in (omega arith, omega arith, reached-later (k + 1) (omega arith), starts-place (k + 1)))
 
     first-place : (u : Token) → IsPlaceBefore d f u → IsPlaceIn (item_number u) (within u)
     first-place [] h = absurd h
@@ -283,16 +211,11 @@ module _ (d : FlowsData) (x : Inner) (c : Contents) where
         let P : ℕ → Type 0 = λ n. IsPlaceBefore d (flow_in d n) (j ∷ rest) in
         inr (subst P rows h.3)
 
-    some-steps : (s : Strip) (k : ℕ) (q : Token) (n : ℕ) → 0 < n → (first : Step) × (more : List Step) × (steps x d f s k q n ≡ first ∷ more)
-    unfolding steps
-    some-steps s k q zero lt = absurd (omega arith)
-    some-steps s k q (suc n) lt = (_, _, refl)
-
     some-items : (first : Step) × (more : List Step) × (steps_from x d f t ≡ first ∷ more)
-    some-items = some-steps (start_strip d f t) (item_number t) (within t) (length f.items - item_number t) (let lt = starts-in in omega arith)
+    some-items = some-steps x d f (start_strip d f t) (item_number t) (within t) (length f.items - item_number t) (let lt = starts-in in omega arith)
 
-    items-reached : StepsReached (item_number t) (steps_from x d f t)
-    items-reached = steps-reached (start_strip d f t) (item_number t) (within t) (length f.items - item_number t) (omega arith) (let lt = starts-in in omega arith) reached-first (first-place t here)
+    items-reached : EachFrom StepReached (item_number t) (steps_from x d f t)
+    items-reached = steps-reached (start_strip d f t) (item_number t) (within t) (length f.items - item_number t) (omega arith, let lt = starts-in in omega arith, reached-first, first-place t here)
 
     -- a column that begins before the end ends later
     pub column-later : (h : ℕ) → Later r f t (column x d f t h).end
@@ -302,4 +225,4 @@ module _ (d : FlowsData) (x : Inner) (c : Contents) where
     -- so does one without end
     pub endless-later : Later r f t (endless_column x d f t).end
     unfolding endless_column
-    endless-later = up_to-later (avoids_at d f) 0 (record { before = steps_from x d f t; stop = None }) None (λ e. some-items) items-reached
+    endless-later = up_to-later (avoids_at d f) 0 (steps_from x d f t) None (λ e. some-items) items-reached

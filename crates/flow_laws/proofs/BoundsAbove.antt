@@ -2,15 +2,14 @@
 use Rattle.std.proofs.Common.{◌≡◌, ℕ, zero, suc, ◌+◌, ◌<◌, ◌≤◌, Bool, true, false, cond, ◌&&◌, List, [], ◌∷◌, ◌++◌, map, length, Option, Some, None, refl, arith}
 use Rattle.std.specs.Prelude.{nat_lt}
 use Rattle.std.proofs.lemmas.Bool.Decides.{nat_tests}
-use Rattle.flow_data.specs.declared.data.Flow.{Flow}
-use Rattle.flow_data.specs.declared.data.FlowsData.{FlowsData}
+use Rattle.flow_list.specs.Data.{Flow, FlowsData}
 use Rattle.flow_data.specs.Flows.{row_of, flow_in}
 use Rattle.flow_list.specs.Tokens.{Token, is_end}
 use Rattle.flow_list.specs.Column.{Column, Inner, Step, bounds_at, cut, longer, fill_in_room, room, is_cut, column, column_up_to, steps_from, avoids_at}
 use Rattle.flow_list.specs.Rows.{columns, columns_by, fails, most_columns, up_to, fill_in, rows_to, all_rows}
 use Rattle.flow_list.specs.Ranges.{judged, bounds_of}
+use Rattle.flow_list.proofs.ColumnParts.{OfStop}
 use Rattle.flow_laws.specs.Constant.{IsBelowEach}
-use Rattle.flow_laws.proofs.FillEnds.{OfStop}
 use Rattle.flow_laws.proofs.StopStays.{IsBelowEach-append, above-place, cut-from, cut-room}
 
 below-append : (h : ℕ) (xs ys : List ℕ) → IsBelowEach h xs → IsBelowEach h ys → IsBelowEach h (xs ++ ys)

@@ -1,18 +1,16 @@
 -- What is told of a row is the same at every depth that serves.
-use Rattle.std.proofs.Common.{◌≡◌, ℕ, zero, suc, ◌+◌, ◌-◌, ◌<◌, ◌≤◌, Bool, true, false, cond, not, ◌&&◌, List, [], ◌∷◌, length, drop, get_or, Option, Some, None, refl, ◌∙◌, ap, arith}
-use Rattle.std.specs.Prelude.{nat_lt, All}
+use Rattle.std.proofs.Common.{◌≡◌, ℕ, zero, suc, ◌+◌, ◌-◌, ◌<◌, ◌≤◌, Bool, true, false, not, ◌&&◌, List, [], ◌∷◌, length, drop, get_or, Option, Some, None, refl, ◌∙◌, ap, arith}
+use Rattle.std.specs.Prelude.{All}
 use Rattle.std.specs.List.{flat_map, list_any}
-use Rattle.flow_data.specs.declared.data.Flow.{Flow}
-use Rattle.flow_data.specs.declared.data.FlowsData.{FlowsData}
-use Rattle.flow_data.specs.declared.data.Item.{Item}
-use Rattle.flow_data.specs.declared.data.Item.TheVariants.{Atom, Row}
+use Rattle.flow_list.specs.Data.{Flow, FlowsData, Item, Atom, Row}
 use Rattle.flow_data.specs.Flows.{row_of, flow_in, item_of, seam_of, no_item, row_in}
 use Rattle.flow_list.specs.ClonedEdges.{open_across, bottoms}
 use Rattle.flow_data.specs.Soundness.{IsSound, NestsAtMost}
 use Rattle.flow_list.specs.Tokens.{Token, row_start, item_number, within, is_end}
 use Rattle.flow_list.specs.Strip.{Strip, lay_all, put}
-use Rattle.flow_list.specs.Column.{Column, Inner, Step, cut, longer, step_at, steps, steps_from, start_strip, strip_behind, is_forced, height_of, row_from, fill_in_room, room, stopped, column, column_over, column_up_to, avoids_at}
+use Rattle.flow_list.specs.Column.{Column, Inner, Step, cut, step_at, steps, steps_from, start_strip, strip_behind, is_forced, height_of, row_from, fill_in_room, room, stopped, column, column_over, column_up_to, avoids_at}
 use Rattle.flow_list.specs.Rows.{columns, columns_by, end_of, fits, fails, most_columns, least, heights_from, items_left, left_in, reach, size_in, fill_in, filled_by, rows_to, all_rows}
+use Rattle.flow_list.proofs.ColumnParts.{EachFrom, steps-each, OfStop, cut-stop}
 use Rattle.flow_laws.specs.Depth.{ToldAlike, DepthChangesNothing}
 use Rattle.flow_laws.proofs.SoundRows.{nests-by-number}
 
@@ -30,10 +28,6 @@ module _ (x y : Inner) where
   abbrev RowAlike : Option (ℕ × Token) → Type 0
   RowAlike None = Unit {0}
   RowAlike (Some row) = ToldAlike x y row.0
-
-  abbrev StepsAlike : List Step → Type 0
-  StepsAlike [] = Unit {0}
-  StepsAlike (s ∷ ss) = RowAlike s.row × StepsAlike ss
 
   pub item-at : (items : List Item) (k : ℕ) → ItemsAlike items → ItemAlike (get_or items k no_item)
   item-at [] zero same = tt
@@ -84,36 +78,18 @@ module _ (x y : Inner) where
         go true e = refl
         go false e = ap (λ ss. step_at y d f s k q ∷ ss) e
 
-    steps-alike : (s : Strip) (k : ℕ) (q : Token) (n : ℕ) → StepsAlike (steps y d f s k q n)
-    unfolding steps
-    steps-alike s k q zero = tt
-    steps-alike s k q (suc n) =
-        (row-alike (item_of f k) q (item-at f.items k alike), go (is_forced (seam_of f (k + 1)).level) (steps-alike (lay_all (strip_behind y f s k q) (seam_of f (k + 1)).head) (k + 1) row_start n))
-      where
-        more : List Step
-        more = steps y d f (lay_all (strip_behind y f s k q) (seam_of f (k + 1)).head) (k + 1) row_start n
+    abbrev IsAlike : Step → Type 0
+    IsAlike s = RowAlike s.row
 
-        go : (b : Bool) → StepsAlike more → StepsAlike (elim b [ true ↦ [] | false ↦ more ])
-        go true e = tt
-        go false e = e
-
-    abbrev StopAlike : Option Step → Type 0
-    StopAlike None = Unit {0}
-    StopAlike (Some s) = RowAlike s.row
-
-    cut-alike : (h : ℕ) (ss : List Step) → StepsAlike ss → StopAlike (cut h ss).stop
-    cut-alike h [] e = tt
-    cut-alike h (s ∷ ss) e = go (nat_lt h s.need) (cut-alike h ss e.1)
-      where
-        go : (b : Bool) → StopAlike (cut h ss).stop → StopAlike (cond b (record { before = []; stop = Some s }) (longer s (cut h ss))).stop
-        go true k = e.0
-        go false k = k
+    steps-alike : (s : Strip) (k : ℕ) (q : Token) (n : ℕ) → EachFrom (λ m. IsAlike) k (steps y d f s k q n)
+    steps-alike s k q n =
+        steps-each y d f (λ s k q n. Unit {0}) (λ m. IsAlike) (λ s k q n u. row-alike (item_of f k) q (item-at f.items k alike)) (λ s k q n u. tt) s k q n tt
 
     fill-same : (a : ℕ) (row : Option (ℕ × Token)) → RowAlike row → fill_in_room x row a ≡ fill_in_room y row a
     fill-same a None same = refl
     fill-same a (Some row) same = ap Some (same.fill row.1 a)
 
-    up_to-same : (avoids : ℕ → Bool) (h : ℕ) (before : List Step) (stop : Option Step) → StopAlike stop → column_up_to x avoids h before stop ≡ column_up_to y avoids h before stop
+    up_to-same : (avoids : ℕ → Bool) (h : ℕ) (before : List Step) (stop : Option Step) → OfStop IsAlike stop → column_up_to x avoids h before stop ≡ column_up_to y avoids h before stop
     up_to-same avoids h before None same = refl
     up_to-same avoids h before (Some s) same = ap (stopped (avoids s.item) h before s) (fill-same (room s h) s.row same)
 
@@ -122,7 +98,7 @@ module _ (x y : Inner) where
     column-same t h =
         ap (column_over x (avoids_at d f) h) (steps-same (start_strip d f t) (item_number t) (within t) (length f.items - item_number t))
         ∙ up_to-same (avoids_at d f) h (cut h (steps_from y d f t)).before (cut h (steps_from y d f t)).stop
-        (cut-alike h (steps_from y d f t) (steps-alike (start_strip d f t) (item_number t) (within t) (length f.items - item_number t)))
+        (cut-stop IsAlike h (item_number t) (steps_from y d f t) (steps-alike (start_strip d f t) (item_number t) (within t) (length f.items - item_number t)))
 
     pub columns-same : (n : ℕ) (t : Token) (h : ℕ) → columns x d f n t h ≡ columns y d f n t h
     unfolding columns_by
@@ -156,12 +132,14 @@ unfolding fits
 fits-same x y d r q h alike =
     ap (λ cs. is_end (flow_in d r) (end_of q cs) && not (list_any fails cs)) (columns-same x y d (flow_in d r) alike (most_columns (row_of d r).n (flow_in d r) q) q h)
 
-pub size-same : (x y : Inner) (d : FlowsData) (r : ℕ) (q : Token) → ItemsAlike x y (flow_in d r).items → size_in x d r q ≡ size_in y d r q
+pub size-same : (x y : Inner) (d : FlowsData) (r : ℕ) (q : Token) → ItemsAlike x y (flow_in d r).items →
+    size_in x d r q ≡ size_in y d r q
 unfolding size_in
 size-same x y d r q alike =
     ap (λ n. least (fits x d r q) n 0) (reach-same x y d (flow_in d r) alike q) ∙ least-same (fits x d r q) (fits y d r q) (λ h. fits-same x y d r q h alike) (reach y d (flow_in d r) q) 0
 
-pub fill_in-same : (x y : Inner) (d : FlowsData) (r : ℕ) (q : Token) (h : ℕ) → ItemsAlike x y (flow_in d r).items → fill_in x d r q h ≡ fill_in y d r q h
+pub fill_in-same : (x y : Inner) (d : FlowsData) (r : ℕ) (q : Token) (h : ℕ) → ItemsAlike x y (flow_in d r).items →
+    fill_in x d r q h ≡ fill_in y d r q h
 unfolding fill_in
 fill_in-same x y d r q h alike = ap (filled_by (flow_in d r) q) (columns-same x y d (flow_in d r) alike (row_of d r).n q h)
 

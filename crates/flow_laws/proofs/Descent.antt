@@ -4,10 +4,7 @@ use Rattle.std.specs.Prelude.{All}
 use Rattle.std.specs.List.{flat_map}
 use Rattle.std.proofs.Math.Nat.{mul-le-mul}
 use Rattle.std.proofs.lemmas.List.{get_or_append_left, get_or-append-add}
-use Rattle.flow_data.specs.declared.data.AtomKind.TheVariants.{Bounded}
-use Rattle.flow_data.specs.declared.data.FlowsData.{FlowsData}
-use Rattle.flow_data.specs.declared.data.Item.{Item}
-use Rattle.flow_data.specs.declared.data.Item.TheVariants.{Atom, Row}
+use Rattle.flow_list.specs.Data.{FlowsData, Item, Bounded, Atom, Row}
 use Rattle.flow_data.specs.Flows.{row_of, stack_of, flow_of, flow_in, item_of, no_item, no_row, no_flow}
 use Rattle.flow_data.specs.Soundness.{IsSound, IsSoundItem, Held, held_in, item_x, stack_in, FitsAcross}
 use Rattle.flow_laws.proofs.HeldSums.{flows_held, items_held, height_held, flows-le, items-le, heights-le, flows-some, flows-row, flows-stack, items-row, items-inner_row, items-stack}

@@ -1,8 +1,7 @@
 -- A height that fits exists: at the reach only forced breaks remain.
 use Rattle.std.proofs.Common.{ℕ, ◌<◌, ◌≤◌, Bool, List, [], length, None, refl, sym, subst, arith}
 use Rattle.flow_list.specs.Column.{endless_column}
-use Rattle.flow_data.specs.declared.data.Flow.{Flow}
-use Rattle.flow_data.specs.declared.data.FlowsData.{FlowsData}
+use Rattle.flow_list.specs.Data.{Flow, FlowsData}
 use Rattle.flow_list.specs.Tokens.{Token, item_number}
 use Rattle.flow_list.specs.Column.{Column, Inner, Step, Place, steps_from, column, unstopped, column_to, no_place, rows_among}
 use Rattle.flow_list.specs.Rows.{fits, reach, size_in}

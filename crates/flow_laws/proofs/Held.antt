@@ -8,16 +8,11 @@ use Rattle.std.proofs.lemmas.Bool.Decides.{nat_tests}
 use Rattle.std.proofs.lemmas.List.{get_or_default}
 use Rattle.std.proofs.lemmas.List.Elements.{All-map}
 use Rattle.std.proofs.lemmas.List.Sums.{sum_by-cons, sum_by-append, sum_by-le-sum_by}
-use Rattle.flow_data.specs.declared.data.AtomKind.TheVariants.{Plain, Line, Void, Image, Bounded}
-use Rattle.flow_data.specs.declared.data.Flow.{Flow}
-use Rattle.flow_data.specs.declared.data.FlowsData.{FlowsData}
-use Rattle.flow_data.specs.declared.data.Item.{Item}
-use Rattle.flow_data.specs.declared.data.Item.TheVariants.{Atom, Row}
-use Rattle.flow_data.specs.declared.data.RowInfo.{RowInfo}
-use Rattle.flow_data.specs.declared.data.Stack.{Stack}
+use Rattle.flow_list.specs.Data.{Flow, FlowsData, Item, RowInfo, Stack, Plain, Line, Void, Image, Bounded, Atom, Row}
 use Rattle.flow_data.specs.Flows.{item_of, no_item, row_of, stack_of, flow_of, row_in, rows_in, no_flow, no_row, no_stack}
 use Rattle.flow_data.specs.Soundness.{IsSound, IsSoundItem, count_of, flow_owners, stack_in, stacks_in}
-use Rattle.flow_laws.proofs.Totals.{sum-map, sum-flat, up, up-list, up-both, up-below, count-cons, AllIn, AllIn-append, AllIn-all, within-up}
+use Rattle.flow_data.proofs.Counts.{count-cons}
+use Rattle.flow_laws.proofs.Totals.{sum-map, sum-flat, up, up-list, up-both, up-below, AllIn, AllIn-append, AllIn-all, within-up}
 
 module _ (d : FlowsData) (weight : ℕ → ℕ) where
   -- the weight of flow f and of all that it holds, n flows deep

@@ -5,19 +5,15 @@ use Rattle.std.specs.List.{flat_map}
 use Rattle.std.proofs.lemmas.Bool.Decides.{nat_tests}
 use Rattle.std.proofs.lemmas.List.{get_or_default}
 use Rattle.std.proofs.lemmas.List.Sums.{sum_by-cons, sum_by-append, sum_by-le-sum_by, count_by-le-length, get_or-le-sum_by}
-use Rattle.flow_data.specs.declared.data.Flow.{Flow}
-use Rattle.flow_data.specs.declared.data.FlowsData.{FlowsData}
-use Rattle.flow_data.specs.declared.data.Item.{Item}
-use Rattle.flow_data.specs.declared.data.Item.TheVariants.{Atom, Row}
-use Rattle.flow_data.specs.declared.data.RowInfo.{RowInfo}
-use Rattle.flow_data.specs.declared.data.Stack.{Stack}
+use Rattle.flow_list.specs.Data.{Flow, FlowsData, Item, RowInfo, Stack, Atom, Row}
 use Rattle.flow_data.specs.Flows.{item_of, no_item, row_of, stack_of, flow_of, flow_in, row_in, rows_in, no_flow, no_row, no_stack}
 use Rattle.flow_list.specs.Tokens.{Token, row_start, item_number, within}
 use Rattle.flow_list.specs.Column.{Inner}
 use Rattle.flow_list.specs.Rows.{reach, items_left, left_in, rows_to}
 use Rattle.flow_data.specs.Soundness.{IsSound, count_of, flow_owners, is_atom, item_total, flow_height, stack_in, stacks_in}
+use Rattle.flow_data.proofs.Counts.{count-cons}
 use Rattle.flow_list.proofs.Fitting.{size-reach}
-use Rattle.flow_laws.proofs.Totals.{sum-map, up, up-list, count-cons, up-within}
+use Rattle.flow_laws.proofs.Totals.{sum-map, up, up-list, up-within}
 use Rattle.flow_laws.proofs.Held.{held, held-more, held-deeper, held-le, owners-known, held-row, held-stack, in-list, sum-one}
 use Rattle.flow_laws.proofs.SoundRows.{rows-in-range}
 use Rattle.flow_laws.proofs.Small.{reach-total}
@@ -148,7 +144,8 @@ items-total inner total q (Row r ∷ items) all =
     let rest = items-total inner total row_start items (λ k e lt. all (suc k) e (omega arith)) in
     omega (arith, sum_by-cons total r (flat_map row_in items))
 
-pub items-part : (inner : Inner) (total : ℕ → ℕ) (q : Token) (n : ℕ) (items : List Item) → All (λ s. (p : Token) → inner.left s p ≤ total s) (flat_map row_in items) →
+pub items-part : (inner : Inner) (total : ℕ → ℕ) (q : Token) (n : ℕ) (items : List Item) →
+    All (λ s. (p : Token) → inner.left s p ≤ total s) (flat_map row_in items) →
     items_left inner q (drop n items) ≤ length items + sum_by total (flat_map row_in items)
 items-part inner total q zero items all = items-total inner total q items all
 items-part inner total q (suc n) [] all = omega arith

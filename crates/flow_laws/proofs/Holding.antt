@@ -2,12 +2,9 @@
 use Rattle.std.proofs.Common.{◌≡◌, ℕ, suc, ◌-◌, ◌<◌, ◌≤◌, false, List, [], ◌∷◌, ◌++◌, length, take, Option, Some, None, refl, sym, subst, ◌∙◌, ap, arith, inr, length-append}
 use Rattle.std.specs.Prelude.{AllPairs, ◌≢◌, flat_map}
 use Rattle.std.proofs.Math.Seq.{take-append_seam}
-use Rattle.mc_base.specs.PlainTree.{PlainTree, plain_trees}
-use Rattle.flow_data.specs.declared.data.Flow.{Flow}
-use Rattle.flow_data.specs.declared.data.FlowsData.{FlowsData}
-use Rattle.flow_data.specs.declared.data.Item.{Item}
-use Rattle.flow_data.specs.declared.data.Item.TheVariants.{Row}
-use Rattle.flow_data.specs.Flows.{row_of, flow_of, flow_in, item_of, no_row}
+use Rattle.mc_base.specs.PlainTree.{plain_trees, PlainTree}
+use Rattle.flow_list.specs.Data.{Flow, FlowsData, Item, Row}
+use Rattle.flow_data.specs.Flows.{row_of, flow_in, item_of, flow_of, no_row}
 use Rattle.flow_data.specs.Soundness.{IsSound}
 use Rattle.flow_list.specs.Tokens.{Token, row_start, item_number, within, IsPlaceBefore}
 use Rattle.flow_list.specs.Column.{Column, Inner}
@@ -45,47 +42,58 @@ module _ (d : FlowsData) (sound : IsSound d) (f : ℕ) (lt : f < length d.flows)
   trees = row_fragments d (length d.rows)
 
   -- the tree of its column holds the atoms from the column's place to its end, told as those of row r
-  pub flow-atoms : (r : ℕ) (t : Token) (h : Option ℕ) → IsPlaceBefore d here t → atoms_in_tree r (fragment_of trees rows d f here h t) ++ atoms_in held r here (column_within d here h t).end ≡ atoms_in held r here t
+  pub flow-atoms : (r : ℕ) (t : Token) (h : Option ℕ) → IsPlaceBefore d here t →
+      atoms_in_tree r (fragment_of trees rows d f here h t) ++ atoms_in held r here (column_within d here h t).end
+      ≡ atoms_in held r here t
   unfolding all_rows
   flow-atoms r t h place =
-      ap (λ (c : Column). atoms_in_tree r (fragment_of trees rows d f here h t) ++ atoms_in held r here c.end) (sym (made-within d here h t))
+      ap (λ (c : Column). atoms_in_tree r (fragment_of trees rows d f here h t) ++ atoms_in held r here c.end)
+      (sym (made-within d here h t))
       ∙ column-holds d rows held trees r here (flow-holds d sound f lt) t place f h
 
   -- so do those of columns one after another
   pub flow-columns : (r n : ℕ) (t : Token) (h : Option ℕ) → IsReached d here t →
-      atoms_in_trees r (plain_trees (fragments_from (fragment_of trees rows d f here h) t (columns_by (column_made rows d here h) here n t)))
+      atoms_in_trees r (plain_trees (fragments_from (fragment_of trees rows d f here h) t
+      (columns_by (column_made rows d here h) here n t)))
       ++ atoms_in held r here (end_of t (columns_by (column_made rows d here h) here n t)) ≡ atoms_in held r here t
   flow-columns r n t h at = columns-hold d rows held trees r here (flow-holds d sound f lt) h f n t at
 
   -- and all columns hold all atoms
   pub flow-all : (r : ℕ) (t : Token) (h : Option ℕ) → IsReached d here t →
-      atoms_in_trees r (plain_trees (fragments_from (fragment_of trees rows d f here h) t (columns_by (column_made rows d here h) here (left_in rows here t) t))) ≡ atoms_in held r here t
+      atoms_in_trees r (plain_trees (fragments_from (fragment_of trees rows d f here h) t
+      (columns_by (column_made rows d here h) here (left_in rows here t) t))) ≡ atoms_in held r here t
   flow-all r t h at = all-hold d rows held trees r here (flow-holds d sound f lt) h f t at
 
   -- a place that a row leaves in a column is one
-  leaves : (t : Token) → IsPlaceBefore d here t → (s : ℕ) (q : Token) (a k : ℕ) → item_number t ≤ k → item_of here k ≡ Row s → q ≡ taken rows here t k → (rows.fill s q a).at_end ≡ false → (j : ℕ) × (rest : Token) × ((rows.fill s q a).end ≡ j ∷ rest)
+  leaves : (t : Token) → IsPlaceBefore d here t → (s : ℕ) (q : Token) (a k : ℕ) → item_number t ≤ k → item_of here k ≡ Row s →
+      q ≡ taken rows here t k → (rows.fill s q a).at_end ≡ false → (j : ℕ) × (rest : Token) × ((rows.fill s q a).end ≡ j ∷ rest)
   leaves t place s q a k le is from e =
       let at = place-at d rows held trees 0 here (flow-holds d sound f lt) t place k s is le in
       go (rows.fill s q a).end (holds.place q a (subst (IsReached d (flow_in d s)) (sym from) at) e)
     where
       holds : RowHolds d rows held trees s
-      holds = let P : Item → Type 0 = λ item. ItemHolds d rows held trees item in subst P is (holds-at d rows held trees here.items k (flow-holds d sound f lt))
+      holds = let P : Item → Type 0 = λ item. ItemHolds d rows held trees item in
+          subst P is (holds-at d rows held trees here.items k (flow-holds d sound f lt))
 
       go : (u : Token) → IsPlaceBefore d (flow_in d s) u → (j : ℕ) × (rest : Token) × (u ≡ j ∷ rest)
       go [] inner = absurd inner
       go (j ∷ rest) inner = (j, rest, refl)
 
   -- the items in the tree of its column are those from the column's place to its end
-  pub flow-parts : (t : Token) (h : Option ℕ) → IsPlaceBefore d here t → parts_in_tree (fragment_of trees rows d f here h t) ≡ parts_between here t (column_within d here h t).end
+  pub flow-parts : (t : Token) (h : Option ℕ) → IsPlaceBefore d here t →
+      parts_in_tree (fragment_of trees rows d f here h t) ≡ parts_between here t (column_within d here h t).end
   unfolding all_rows
   flow-parts t h place =
-      column-parts d rows trees here t (in-items d here t place) (leaves t place) f h ∙ ap (λ (c : Column). parts_between here t c.end) (made-within d here h t)
+      column-parts d rows trees here t (in-items d here t place) (leaves t place) f h
+      ∙ ap (λ (c : Column). parts_between here t c.end) (made-within d here h t)
 
   -- and no row is there twice
-  pub flow-rows-once : (t : Token) (h : Option ℕ) → IsPlaceBefore d here t → AllPairs (λ a b. a ≢ b) (flat_map row_of_part (parts_in_tree (fragment_of trees rows d f here h t)))
+  pub flow-rows-once : (t : Token) (h : Option ℕ) → IsPlaceBefore d here t →
+      AllPairs (λ a b. a ≢ b) (flat_map row_of_part (parts_in_tree (fragment_of trees rows d f here h t)))
   flow-rows-once t h place =
       let P : List Part → Type 0 = λ parts. AllPairs (λ a b. a ≢ b) (flat_map row_of_part parts) in
-      subst P (sym (flow-parts t h place)) (rows-apart d sound f lt (item_number t) (item_number t) (items_before (column_within d here h t).end - item_number t) (within t))
+      subst P (sym (flow-parts t h place)) (rows-apart d sound f lt (item_number t) (item_number t)
+      (items_before (column_within d here h t).end - item_number t) (within t))
 
 -- ---- a row's flow
 

@@ -5,10 +5,7 @@ use Rattle.std.proofs.lemmas.Bool.Decides.{nat_tests}
 use Rattle.std.proofs.lemmas.List.{append-nil, length-drop, drop-drop, drop_all, drop_more}
 use Rattle.std.specs.List.{AllByRecursion as Each}
 use Rattle.mc_base.specs.PlainTree.{PlainTree, plain_trees}
-use Rattle.flow_data.specs.declared.data.Flow.{Flow}
-use Rattle.flow_data.specs.declared.data.FlowsData.{FlowsData}
-use Rattle.flow_data.specs.declared.data.Item.{Item}
-use Rattle.flow_data.specs.declared.data.Item.TheVariants.{Atom, Row}
+use Rattle.flow_list.specs.Data.{Flow, FlowsData, Item, Atom, Row}
 use Rattle.flow_data.specs.Flows.{flow_in, item_of, no_item}
 use Rattle.flow_list.specs.Tokens.{Token, row_start, item_number, within, is_end, IsPlaceBefore}
 use Rattle.flow_list.specs.Column.{Inner, Step, room}
@@ -33,10 +30,14 @@ module _ (d : FlowsData) (x : Inner) (c : Contents) (columns : RowLaid → List 
   -- A row within holds its atoms: whole, all from a place on; filled, those before the place that it leaves. That place is a later one.
   pub record RowHolds (s : ℕ) : Type 0 where
     pub whole : (q : Token) (a : ℕ) → IsReached d (flow_in d s) q → piece_of s q a false ≡ c.atoms s q
-    pub part : (q : Token) (a : ℕ) → IsReached d (flow_in d s) q → piece_of s q a true ++ c.atoms s (x.fill s q a).end ≡ c.atoms s q
-    pub none : (q : Token) (a : ℕ) → IsReached d (flow_in d s) q → (x.fill s q a).at_end ≡ true → c.atoms s (x.fill s q a).end ≡ []
-    pub place : (q : Token) (a : ℕ) → IsReached d (flow_in d s) q → (x.fill s q a).at_end ≡ false → IsPlaceBefore d (flow_in d s) (x.fill s q a).end
-    pub fewer : (q : Token) (a : ℕ) → IsReached d (flow_in d s) q → (x.fill s q a).at_end ≡ false → x.left s (x.fill s q a).end < x.left s q
+    pub part : (q : Token) (a : ℕ) → IsReached d (flow_in d s) q →
+        piece_of s q a true ++ c.atoms s (x.fill s q a).end ≡ c.atoms s q
+    pub none : (q : Token) (a : ℕ) → IsReached d (flow_in d s) q → (x.fill s q a).at_end ≡ true →
+        c.atoms s (x.fill s q a).end ≡ []
+    pub place : (q : Token) (a : ℕ) → IsReached d (flow_in d s) q → (x.fill s q a).at_end ≡ false →
+        IsPlaceBefore d (flow_in d s) (x.fill s q a).end
+    pub fewer : (q : Token) (a : ℕ) → IsReached d (flow_in d s) q → (x.fill s q a).at_end ≡ false →
+        x.left s (x.fill s q a).end < x.left s q
 
   abbrev pub ItemHolds : Item → Type 0
   ItemHolds (Atom height kind) = Unit {0}

@@ -5,11 +5,7 @@ use Rattle.std.proofs.lemmas.Bool.Decides.{nat_tests}
 use Rattle.std.proofs.lemmas.List.{append-nil, drop_more}
 use Rattle.std.proofs.lemmas.List.Concat.{flat_map-append}
 use Rattle.std.specs.List.{flat_map}
-use Rattle.flow_data.specs.declared.data.Edge.{Edge}
-use Rattle.flow_data.specs.declared.data.Flow.{Flow}
-use Rattle.flow_data.specs.declared.data.FlowsData.{FlowsData}
-use Rattle.flow_data.specs.declared.data.Item.{Item}
-use Rattle.flow_data.specs.declared.data.Item.TheVariants.{Atom, Row}
+use Rattle.flow_list.specs.Data.{Edge, Flow, FlowsData, Item, Atom, Row}
 use Rattle.flow_data.specs.Flows.{item_of, seam_of, no_item}
 use Rattle.flow_list.specs.Tokens.{Token, row_start, item_number, within}
 use Rattle.flow_list.specs.Strip.{Strip, put, lay_all}

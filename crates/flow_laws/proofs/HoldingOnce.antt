@@ -7,20 +7,17 @@ use Rattle.std.proofs.lemmas.Bool.Decides.{nat_tests}
 use Rattle.std.proofs.lemmas.List.Elements.{All-from_recursion}
 use Rattle.std.proofs.lemmas.List.Kept.{AllPairs-cons}
 use Rattle.std.proofs.lemmas.List.Sums.{sum_by-cons, sum_by-append, get_or-le-sum_by}
-use Rattle.flow_data.specs.declared.data.FlowsData.{FlowsData}
-use Rattle.flow_data.specs.declared.data.Item.{Item}
-use Rattle.flow_data.specs.declared.data.Item.TheVariants.{Atom, Row}
-use Rattle.flow_data.specs.declared.data.RowInfo.{RowInfo}
-use Rattle.flow_data.specs.declared.data.Stack.{Stack}
+use Rattle.flow_list.specs.Data.{FlowsData, Item, RowInfo, Stack, Atom, Row}
 use Rattle.flow_data.specs.Flows.{row_of, flow_in, row_in, rows_in, no_row, no_flow}
 use Rattle.flow_data.specs.Soundness.{IsSound, count_of}
 use Rattle.flow_data.proofs.OpenBoxes.{some-index}
+use Rattle.flow_data.proofs.Counts.{count-cons, count-self}
 use Rattle.flow_list.specs.Tokens.{Token, row_start, item_number, within}
 use Rattle.flow_list.proofs.PlaceBounds.{Each-append}
 use Rattle.flow_laws.specs.Progress.{AtomAt, atoms_of_items, contents_to, atoms_from}
-use Rattle.flow_laws.proofs.Totals.{sum-flat, sum-map, count-cons}
+use Rattle.flow_laws.proofs.Totals.{sum-flat, sum-map}
 use Rattle.flow_laws.proofs.HoldingRows.{IsWithin, rows-within}
-use Rattle.flow_laws.proofs.HoldingParts.{count-own, split-count, once-in-flow}
+use Rattle.flow_laws.proofs.HoldingParts.{split-count, once-in-flow}
 
 -- ---- lists
 
@@ -189,7 +186,7 @@ module _ (d : FlowsData) (sound : IsSound d) where
         (each-with (IsOf (suc k) items) (IsOf k (Row u ∷ items)) _ (of-more k items (Row u) more) (atoms-of (suc k) row_start items once.1))
       where
         own : 1 ≤ RowsOf (Row u ∷ items) u
-        own = let one : RowsOf (Row u ∷ items) u ≡ 1 + RowsOf items u = count-own u (flat_map row_in items) in omega arith
+        own = let one : RowsOf (Row u ∷ items) u ≡ suc (RowsOf items u) = count-self u (flat_map row_in items) in omega arith
 
         more : (v : ℕ) → RowsOf items v ≤ RowsOf (Row u ∷ items) v
         more v = let e : RowsOf (Row u ∷ items) v ≡ cond (u == v) 1 0 + RowsOf items v = count-cons v u (flat_map row_in items) in omega arith
@@ -223,8 +220,8 @@ module _ (d : FlowsData) (sound : IsSound d) where
         counts : (v : ℕ) → RowsOf (Row u ∷ items) v ≡ cond (u == v) 1 0 + RowsOf items v
         counts v = count-cons v u (flat_map row_in items)
 
-        own : RowsOf (Row u ∷ items) u ≡ 1 + RowsOf items u
-        own = count-own u (flat_map row_in items)
+        own : RowsOf (Row u ∷ items) u ≡ suc (RowsOf items u)
+        own = count-self u (flat_map row_in items)
 
         child : IsChild s u
         child = fine.child u (let e = own in omega arith)
@@ -266,7 +263,8 @@ module _ (d : FlowsData) (sound : IsSound d) where
 
     fine-drop : (i : ℕ) → Fine (drop i (flow_in d s).items)
     fine-drop i = record {
-      few = λ u known. let a = split-count u i (flow_in d s).items in let b = once-in-flow d sound (row_of d s).flow (sound.rows s no_row lt).flow u known in omega arith;
+      few = λ u known. let a = split-count u i (flow_in d s).items in let b =
+          once-in-flow d sound (row_of d s).flow (sound.rows s no_row lt).flow u known in omega arith;
       child = λ u some. let a = split-count u i (flow_in d s).items in omega arith;
     }
 

@@ -1,27 +1,23 @@
 -- The items in the tree of a column are those from its place to its end, and no row stands there twice.
 use Rattle.std.proofs.Common.{◌≡◌, ℕ, zero, suc, ◌+◌, ◌-◌, ◌<◌, ◌≤◌, ◌==◌, Bool, true, false, cond, List, [], ◌∷◌, ◌++◌, length, take, drop, get_or, Option, Some, None, refl, sym, subst, ◌∙◌, ap, arith, sum_by, inl, inr}
-use Rattle.std.specs.Prelude.{All, AllPairs, ◌≢◌}
+use Rattle.std.specs.Prelude.{AllPairs, ◌≢◌}
 use Rattle.std.specs.List.{flat_map}
-use Rattle.std.proofs.lemmas.Bool.Decides.{nat_tests}
 use Rattle.std.proofs.lemmas.List.{length-drop, get_or-drop, take-append-drop}
 use Rattle.std.proofs.lemmas.List.Elements.{All-take, All-drop}
-use Rattle.std.proofs.lemmas.List.Kept.{AllPairs-cons}
 use Rattle.std.proofs.lemmas.List.Concat.{flat_map-append}
 use Rattle.std.proofs.lemmas.List.Sums.{sum_by-append, get_or-le-sum_by}
 use Rattle.mc_base.specs.PlainTree.{PlainTree}
-use Rattle.flow_data.specs.declared.data.Flow.{Flow}
-use Rattle.flow_data.specs.declared.data.FlowsData.{FlowsData}
-use Rattle.flow_data.specs.declared.data.Item.{Item}
-use Rattle.flow_data.specs.declared.data.Item.TheVariants.{Atom, Row}
-use Rattle.flow_data.specs.Flows.{flow_of, item_of, no_item, no_flow, row_in, rows_in}
+use Rattle.flow_list.specs.Data.{Flow, FlowsData, Item, Atom, Row}
+use Rattle.flow_data.specs.Flows.{row_of, flow_in, item_of, no_item, no_row, no_flow, row_in, rows_in, flow_of}
 use Rattle.flow_data.specs.Soundness.{IsSound, IsSoundFlow, IsSoundItem, count_of}
+use Rattle.flow_data.proofs.Counts.{distinct-once}
 use Rattle.flow_list.specs.Tokens.{Token, row_start, item_number, within}
 use Rattle.flow_list.specs.Column.{Inner, Step, room}
 use Rattle.flow_list.specs.Placing.{RowLaid}
 use Rattle.flow_list.specs.Fragments.{continuing, laid_start, laid_to, stop_of, column_made, fragment_of}
 use Rattle.flow_laws.specs.Holding.{Part, atom_part, row_part, parts_in_tree, parts_in_trees, part_of, parts_of, items_before, parts_between, row_of_part}
 use Rattle.flow_laws.proofs.SoundRows.{rows-in-range}
-use Rattle.flow_laws.proofs.Totals.{sum-flat, count-cons}
+use Rattle.flow_laws.proofs.Totals.{sum-flat}
 use Rattle.flow_laws.proofs.HoldingTrees.{Reads, column-reads}
 use Rattle.flow_laws.proofs.HoldingEnds.{taken_at, taken-start, taken, EndsAtSeam, EndsInRow, EndsFor, column-ends}
 use Rattle.flow_laws.proofs.HoldingLaid.{of_items, counted, items_to, seam-laid, row-laid}
@@ -123,30 +119,6 @@ rows-are k q [] = refl
 rows-are k q (Atom height kind ∷ items) = rows-are (suc k) row_start items
 rows-are k q (Row r ∷ items) = ap (λ rs. r ∷ rs) (rows-are (suc k) row_start items)
 
--- numbers that stand in a list once at most differ
-none-of : (n : ℕ) (xs : List ℕ) → count_of n xs ≡ 0 → All (λ m. n ≢ m) xs
-none-of n [] none = λ k e lt. absurd (omega arith)
-none-of n (m ∷ xs) none = both (differs (m == n) refl) (none-of n xs (omega (arith, count-cons n m xs)))
-  where
-    differs : (b : Bool) → (m == n) ≡ b → n ≡ m → ⊥
-    differs true e same = let one : count_of n (m ∷ xs) ≡ 1 + count_of n xs = count-cons n m xs ∙ ap (λ b. cond b 1 0 + count_of n xs) e in omega arith
-    differs false e same = grind (arith, nat_tests)
-
-    both : n ≢ m → All (λ m. n ≢ m) xs → All (λ m. n ≢ m) (m ∷ xs)
-    both first rest zero e lt = first
-    both first rest (suc k) e lt = rest k e (omega arith)
-
-pub count-own : (n : ℕ) (xs : List ℕ) → count_of n (n ∷ xs) ≡ 1 + count_of n xs
-count-own n xs = let yes : (n == n) ≡ true = grind (arith, nat_tests) in count-cons n n xs ∙ ap (λ b. cond b 1 0 + count_of n xs) yes
-
-distinct-once : (high : ℕ) (xs : List ℕ) → All (λ n. n < high) xs → ((n : ℕ) → n < high → count_of n xs ≤ 1) → AllPairs (λ a b. a ≢ b) xs
-distinct-once high [] known few = λ i j e lt in_list. absurd (omega arith)
-distinct-once high (x ∷ xs) known few =
-    let x_known : x < high = known 0 x (omega arith) in
-    let one = count-own x xs in
-    let at_most = few x x_known in
-    AllPairs-cons (λ a b. a ≢ b) x xs (none-of x xs (omega arith)) (distinct-once high xs (λ k e lt. known (suc k) e (omega arith)) (λ n lt. let a = few n lt in let b = count-cons n x xs in omega arith))
-
 -- items of a list have no more rows than all
 pub split-count : (m n : ℕ) (items : List Item) → count_of m (flat_map row_in (take n items)) + count_of m (flat_map row_in (drop n items)) ≡ count_of m (flat_map row_in items)
 split-count m n items =
@@ -154,19 +126,24 @@ split-count m n items =
     ∙ ap (count_of m) (sym (flat_map-append row_in (take n items) (drop n items))) ∙ ap (λ xs. count_of m (flat_map row_in xs)) (take-append-drop n items)
 
 -- in sound data a row stands once at most in a flow
-pub once-in-flow : (d : FlowsData) → IsSound d → (f : ℕ) → f < length d.flows → (m : ℕ) → m < length d.rows → count_of m (rows_in (flow_of d f)) ≤ 1
+pub once-in-flow : (d : FlowsData) → IsSound d → (f : ℕ) → f < length d.flows → (m : ℕ) → m < length d.rows →
+    count_of m (rows_in (flow_of d f)) ≤ 1
 once-in-flow d sound f lt m known =
     let belongs = sound.row_belongs m known in
-    let in_all : count_of m (rows_in (flow_of d f)) ≤ sum_by (λ f. count_of m (rows_in f)) d.flows = get_or-le-sum_by (λ f. count_of m (rows_in f)) d.flows f no_flow lt in
+    let in_all : count_of m (rows_in (flow_of d f)) ≤ sum_by (λ f. count_of m (rows_in f)) d.flows =
+    get_or-le-sum_by (λ f. count_of m (rows_in f)) d.flows f no_flow lt in
     let all = sum-flat (λ k. cond (k == m) 1 0) rows_in d.flows in
     omega arith
 
 -- In sound data no row is twice among items of a flow.
-pub rows-apart : (d : FlowsData) → IsSound d → (f : ℕ) → f < length d.flows → (k i n : ℕ) (q : Token) → AllPairs (λ a b. a ≢ b) (flat_map row_of_part (parts_of k q (take n (drop i (flow_of d f).items))))
+pub rows-apart : (d : FlowsData) → IsSound d → (f : ℕ) → f < length d.flows → (k i n : ℕ) (q : Token) →
+    AllPairs (λ a b. a ≢ b) (flat_map row_of_part (parts_of k q (take n (drop i (flow_of d f).items))))
 rows-apart d sound f lt k i n q =
     subst (AllPairs (λ a b. a ≢ b)) (sym (rows-are k q (take n (drop i (flow_of d f).items))))
     (distinct-once (length d.rows) (flat_map row_in (take n (drop i (flow_of d f).items)))
-    (rows-in-range d (take n (drop i (flow_of d f).items)) (All-take (IsSoundItem d) n (drop i (flow_of d f).items) (All-drop (IsSoundItem d) i (flow_of d f).items flow.items))) once)
+    (rows-in-range d (take n (drop i (flow_of d f).items))
+    (All-take (IsSoundItem d) n (drop i (flow_of d f).items)
+    (All-drop (IsSoundItem d) i (flow_of d f).items flow.items))) once)
   where
     flow : IsSoundFlow d (flow_of d f)
     flow = sound.flows f no_flow lt

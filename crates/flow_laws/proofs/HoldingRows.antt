@@ -4,11 +4,8 @@ use Rattle.std.specs.Prelude.{All}
 use Rattle.std.specs.List.{AllByRecursion as Each, flat_map}
 use Rattle.std.proofs.lemmas.List.{append-nil, drop_more}
 use Rattle.mc_base.specs.PlainTree.{PlainTree, plain_trees}
-use Rattle.flow_data.specs.declared.data.Flow.{Flow}
-use Rattle.flow_data.specs.declared.data.FlowsData.{FlowsData}
-use Rattle.flow_data.specs.declared.data.Item.{Item}
-use Rattle.flow_data.specs.declared.data.Item.TheVariants.{Atom, Row}
-use Rattle.flow_data.specs.Flows.{row_of, flow_of, flow_in, row_in, rows_in, no_item, no_row}
+use Rattle.flow_list.specs.Data.{Flow, FlowsData, Item, Atom, Row}
+use Rattle.flow_data.specs.Flows.{row_of, flow_in, row_in, rows_in, no_item, no_row, flow_of}
 use Rattle.flow_data.specs.Soundness.{IsSound}
 use Rattle.flow_list.specs.Tokens.{Token, item_number, within, is_end, IsPlaceBefore}
 use Rattle.flow_list.specs.Column.{Column, Inner}
@@ -76,7 +73,8 @@ module _ (d : FlowsData) (x : Inner) (c : Contents) (columns : RowLaid → List 
           let more = again (next t) (column-reached d x c columns r f holds t place h) in
           omega arith
 
-  place-fewer : (n : ℕ) (t : Token) → 0 < n → IsPlaceBefore d f t → is_end f t ≡ false → left_in x f (end_of t (columns_from n t)) < left_in x f t
+  place-fewer : (n : ℕ) (t : Token) → 0 < n → IsPlaceBefore d f t → is_end f t ≡ false →
+      left_in x f (end_of t (columns_from n t)) < left_in x f t
   unfolding columns_by
   place-fewer zero t some place inner = absurd (omega arith)
   place-fewer (suc n) t some place inner = go (is_end f t) inner
@@ -88,8 +86,10 @@ module _ (d : FlowsData) (x : Inner) (c : Contents) (columns : RowLaid → List 
           let more = columns-fewer n (next t) (column-reached d x c columns r f holds t place h) in
           omega arith
 
-  pub some-fewer : (n : ℕ) (t : Token) → 0 < n → IsReached d f t → is_end f (end_of t (columns_from n t)) ≡ false → left_in x f (end_of t (columns_from n t)) < left_in x f t
-  some-fewer n t some (inl e) inner = let stays : is_end f (end_of t (columns_from n t)) ≡ true = rw (columns_by-past (column_made x d f h) f n t e) e in cc
+  pub some-fewer : (n : ℕ) (t : Token) → 0 < n → IsReached d f t → is_end f (end_of t (columns_from n t)) ≡ false →
+      left_in x f (end_of t (columns_from n t)) < left_in x f t
+  some-fewer n t some (inl e) inner = let stays : is_end f (end_of t (columns_from n t)) ≡ true =
+      rw (columns_by-past (column_made x d f h) f n t e) e in cc
   some-fewer n t some (inr place) inner = place-fewer n t some place (before-end d f t place)
 
   left-some : (t : Token) → IsPlaceBefore d f t → 0 < left_in x f t
@@ -126,14 +126,23 @@ module _ (d : FlowsData) (x : Inner) (c : Contents) (columns : RowLaid → List 
 abbrev pub RowsHold : FlowsData → ℕ → Flow → Type 0
 RowsHold d m f = Each (ItemHolds d (rows_to d m) (contents_to d m) (row_fragments d m)) f.items
 
-row-holds : (d : FlowsData) (m s : ℕ) → 0 < (row_of d s).n → RowsHold d m (flow_in d s) → RowHolds d (rows_to d (suc m)) (contents_to d (suc m)) (row_fragments d (suc m)) s
+row-holds : (d : FlowsData) (m s : ℕ) → 0 < (row_of d s).n → RowsHold d m (flow_in d s) →
+    RowHolds d (rows_to d (suc m)) (contents_to d (suc m)) (row_fragments d (suc m)) s
 unfolding rows_to contents_to row_fragments fill_in
 row-holds d m s columns holds = record {
-  whole = λ q a at. all-hold d (rows_to d m) (contents_to d m) (row_fragments d m) s (flow_in d s) holds (Some a) (row_of d s).flow q at;
-  part = λ q a at. columns-hold d (rows_to d m) (contents_to d m) (row_fragments d m) s (flow_in d s) holds (Some a) (row_of d s).flow (row_of d s).n q at;
-  none = λ q a at e. none-left (contents_to d m) s (flow_in d s) (end_of q (columns_from d (rows_to d m) (contents_to d m) (row_fragments d m) s (flow_in d s) holds (Some a) (row_of d s).n q)) e;
-  place = λ q a at e. before d (flow_in d s) (end_of q (columns_from d (rows_to d m) (contents_to d m) (row_fragments d m) s (flow_in d s) holds (Some a) (row_of d s).n q)) (columns-reached d (rows_to d m) (contents_to d m) (row_fragments d m) s (flow_in d s) holds (Some a) (row_of d s).n q at) e;
-  fewer = λ q a at e. some-fewer d (rows_to d m) (contents_to d m) (row_fragments d m) s (flow_in d s) holds (Some a) (row_of d s).n q columns at e;
+  whole = λ q a at. all-hold d (rows_to d m) (contents_to d m) (row_fragments d m) s (flow_in d s) holds (Some a)
+      (row_of d s).flow q at;
+  part = λ q a at. columns-hold d (rows_to d m) (contents_to d m) (row_fragments d m) s (flow_in d s) holds (Some a)
+      (row_of d s).flow (row_of d s).n q at;
+  none = λ q a at e. none-left (contents_to d m) s (flow_in d s)
+      (end_of q (columns_from d (rows_to d m) (contents_to d m) (row_fragments d m) s (flow_in d s) holds (Some a)
+      (row_of d s).n q)) e;
+  place = λ q a at e. before d (flow_in d s) (end_of q
+      (columns_from d (rows_to d m) (contents_to d m) (row_fragments d m) s (flow_in d s) holds (Some a) (row_of d s).n q))
+      (columns-reached d (rows_to d m) (contents_to d m) (row_fragments d m) s (flow_in d s) holds (Some a)
+      (row_of d s).n q at) e;
+  fewer = λ q a at e. some-fewer d (rows_to d m) (contents_to d m) (row_fragments d m) s (flow_in d s) holds (Some a)
+      (row_of d s).n q columns at e;
 }
 
 items-hold : (d : FlowsData) (m : ℕ) (P : ℕ → Type 0) → ((s : ℕ) → P s → RowHolds d (rows_to d m) (contents_to d m) (row_fragments d m) s) → (items : List Item) → All P (flat_map row_in items) →
@@ -155,15 +164,19 @@ module _ (d : FlowsData) (sound : IsSound d) where
       λ k e in_rows. record { known = (good k e in_rows).0; some = (good k e in_rows).1; later = (sound.inner_rows r lt k e in_rows).later }
 
   -- a row of the data, where it has no more rows behind it
-  known-holds : (m s : ℕ) → s < length d.rows → length d.rows ≤ s + m → RowHolds d (rows_to d m) (contents_to d m) (row_fragments d m) s
+  known-holds : (m s : ℕ) → s < length d.rows → length d.rows ≤ s + m →
+      RowHolds d (rows_to d m) (contents_to d m) (row_fragments d m) s
   known-holds zero s lt le = absurd (omega arith)
   known-holds (suc m) s lt le =
       row-holds d m s (sound.rows s no_row lt).some_column
-      (items-hold d m (IsWithin s) (λ u w. let later = w.later in known-holds m u w.known (omega arith)) (flow_in d s).items (rows-within s lt))
+      (items-hold d m (IsWithin s) (λ u w. let later = w.later in known-holds m u w.known (omega arith)) (flow_in d s).items
+      (rows-within s lt))
 
   pub rows-hold : (m r : ℕ) → r < length d.rows → length d.rows ≤ suc (r + m) → RowsHold d m (flow_in d r)
-  rows-hold m r lt le = items-hold d m (IsWithin r) (λ s w. let later = w.later in known-holds m s w.known (omega arith)) (flow_in d r).items (rows-within r lt)
+  rows-hold m r lt le = items-hold d m (IsWithin r) (λ s w. let later = w.later in known-holds m s w.known (omega arith))
+      (flow_in d r).items (rows-within r lt)
 
   -- so in any flow of the data
   pub flow-holds : (f : ℕ) → f < length d.flows → RowsHold d (length d.rows) (flow_of d f)
-  flow-holds f lt = items-hold d (length d.rows) (λ s. s < length d.rows) (λ s known. known-holds (length d.rows) s known (omega arith)) (flow_of d f).items (rows-of-data d sound f lt)
+  flow-holds f lt = items-hold d (length d.rows) (λ s. s < length d.rows)
+      (λ s known. known-holds (length d.rows) s known (omega arith)) (flow_of d f).items (rows-of-data d sound f lt)

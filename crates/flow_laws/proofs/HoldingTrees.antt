@@ -4,9 +4,7 @@ use Rattle.std.proofs.lemmas.List.{append-nil}
 use Rattle.std.proofs.lemmas.List.Concat.{flat_map-append}
 use Rattle.std.specs.List.{flat_map}
 use Rattle.mc_base.specs.PlainTree.{PlainTree, PlainTrees, no_trees, more_trees, plain_trees, atom as atom_tree, piece, row_piece}
-use Rattle.flow_data.specs.declared.data.Edge.{Edge}
-use Rattle.flow_data.specs.declared.data.Edge.TheVariants.{Margin, Solid, Wall, Start, End}
-use Rattle.flow_data.specs.declared.data.FlowsData.{FlowsData}
+use Rattle.flow_list.specs.Data.{Edge, FlowsData, Margin, Solid, Wall, Start, End}
 use Rattle.flow_data.specs.Flows.{box_of}
 use Rattle.flow_list.specs.ClonedEdges.{tops}
 use Rattle.flow_list.specs.Strip.{Strip, lay}

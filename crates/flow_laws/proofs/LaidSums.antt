@@ -7,12 +7,7 @@ use Rattle.std.proofs.lemmas.Bool.Decides.{nat_tests}
 use Rattle.std.proofs.lemmas.List.{get_or_past}
 use Rattle.std.proofs.lemmas.List.Sums.{sum_by-cons, sum_by-append}
 use Rattle.std.specs.List.{AllByRecursion as Each}
-use Rattle.flow_data.specs.declared.data.Edge.{Edge}
-use Rattle.flow_data.specs.declared.data.Edge.TheVariants.{Margin, Solid, Wall, Start, End}
-use Rattle.flow_data.specs.declared.data.Flow.{Flow}
-use Rattle.flow_data.specs.declared.data.FlowsData.{FlowsData}
-use Rattle.flow_data.specs.declared.data.Item.{Item}
-use Rattle.flow_data.specs.declared.data.Item.TheVariants.{Atom, Row}
+use Rattle.flow_list.specs.Data.{Edge, Flow, FlowsData, Item, Margin, Solid, Wall, Start, End, Atom, Row}
 use Rattle.flow_data.specs.Flows.{item_of, seam_of, no_item, rows_in, amount, boxes_in}
 use Rattle.flow_list.specs.ClonedEdges.{tops, bottoms}
 use Rattle.flow_list.specs.Tokens.{Token, row_start, item_number, within}
@@ -24,7 +19,8 @@ use Rattle.flow_list.specs.Placing.{RowLaid, Laid, margin, solid, wall, opens, c
 use Rattle.flow_list.specs.Fragments.{laid_item, laid_items, fills_item, filled_row, laid_filled, strip_after, strip_filled, laid_before, laid_to}
 use Rattle.flow_list.proofs.Fitting.{first-amounts, amounts-drop, first-height, heights-drop}
 use Rattle.flow_list.proofs.PlaceBounds.{Each-append, HasShare}
-use Rattle.flow_laws.proofs.FillEnds.{IsFilledAt, IsEndFor, IsStepFrom, OfStop}
+use Rattle.flow_list.proofs.ColumnParts.{OfStop}
+use Rattle.flow_laws.proofs.FillEnds.{IsFilledAt, IsEndFor, IsStepFrom}
 use Rattle.flow_laws.proofs.Small.{reach-total}
 
 -- a row that is laid is an item of the flow

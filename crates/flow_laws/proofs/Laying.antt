@@ -5,8 +5,7 @@ use Rattle.std.specs.List.{flat_map}
 use Rattle.std.proofs.lemmas.Bool.Decides.{nat_tests}
 use Rattle.std.proofs.lemmas.Bool.{cases_lt}
 use Rattle.std.proofs.lemmas.List.Sums.{sum_by-cons}
-use Rattle.flow_data.specs.declared.data.Edge.{Edge}
-use Rattle.flow_data.specs.declared.data.Edge.TheVariants.{Margin, Solid, Wall, Start, End}
+use Rattle.flow_list.specs.Data.{Edge, Margin, Solid, Wall, Start, End}
 use Rattle.flow_data.specs.Flows.{started, ended}
 use Rattle.flow_list.specs.Strip.{Strip, strip_at, put, lay, lay_all}
 

@@ -3,11 +3,7 @@
 use Rattle.std.proofs.Common.{◌≡◌, ℕ, zero, suc, ◌+◌, ◌-◌, ◌<◌, ◌≤◌, ◌==◌, ◌||◌, Bool, true, false, not, List, [], ◌∷◌, length, Some, None, refl, subst, arith, sum_by, add-one}
 use Rattle.std.specs.Prelude.{slice_get}
 use Rattle.std.specs.List.{flat_map}
-use Rattle.flow_data.specs.declared.data.Flow.{Flow}
-use Rattle.flow_data.specs.declared.data.FlowsData.{FlowsData}
-use Rattle.flow_data.specs.declared.data.Item.{Item}
-use Rattle.flow_data.specs.declared.data.Item.TheVariants.{Atom, Row}
-use Rattle.flow_data.specs.declared.data.Edge.TheVariants.{End, Solid}
+use Rattle.flow_list.specs.Data.{Flow, FlowsData, Item, Solid, End, Atom, Row}
 use Rattle.flow_list.specs.Atoms.{IsAtom}
 use Rattle.flow_data.specs.Flows.{box_of, item_of, seam_of, no_seam, atom_height, started, open_at}
 use Rattle.flow_list.specs.ClonedEdges.{open_across, tops, bottoms}
@@ -67,10 +63,6 @@ module _ (inner : Inner) (d : FlowsData) (f : Flow) (sound : IsSoundFlow d f) wh
 
   behind-rises : (s : Strip) (k : ℕ) (q : Token) → s.y + height_of inner (item_of f k) q ≤ (strip_behind inner f s k q).y
   behind-rises s k q = let a = put-rises s (height_of inner (item_of f k) q) in let b = lay_all-rises (put s (height_of inner (item_of f k) q)) (seam_of f (k + 1)).tail in omega arith
-
-  -- an atom needs no less than its own height
-  pub atom-loose : (k : ℕ) → atom_height (item_of f k) ≤ loose_need inner d f k
-  atom-loose k = let a = behind-rises (unforced_start d f k) k row_start in let b = atom-height-le inner (item_of f k) row_start in omega arith
 
   behind-tops : (s : Strip) (k : ℕ) (q : Token) → k + 1 < length f.seams → HasTops k s → tops d (open_across f (k + 1)) ≤ (strip_behind inner f s k q).y
   behind-tops s k q lt has =

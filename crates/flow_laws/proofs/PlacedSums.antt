@@ -3,11 +3,7 @@
 use Rattle.std.proofs.Common.{◌≡◌, ℕ, zero, suc, ◌+◌, ◌≤◌, ◌==◌, false, not, ◌||◌, List, [], ◌∷◌, ◌++◌, length, Option, Some, None, refl, subst, arith, sum_by, add-one}
 use Rattle.std.proofs.lemmas.List.Sums.{sum_by-cons, sum_by-append}
 use Rattle.std.specs.List.{AllByRecursion as Each}
-use Rattle.flow_data.specs.declared.data.Bound.{Bound}
-use Rattle.flow_data.specs.declared.data.Flow.{Flow}
-use Rattle.flow_data.specs.declared.data.FlowsData.{FlowsData}
-use Rattle.flow_data.specs.declared.data.Item.{Item}
-use Rattle.flow_data.specs.declared.data.Item.TheVariants.{Atom, Row}
+use Rattle.flow_list.specs.Data.{Bound, Flow, FlowsData, Item, Atom, Row}
 use Rattle.flow_data.specs.Flows.{item_of, seam_of, box_of, rows_in, amount, boxes_in}
 use Rattle.flow_list.specs.ClonedEdges.{open_across, tops, bottoms}
 use Rattle.flow_list.specs.Tokens.{Token, item_number}
@@ -22,7 +18,8 @@ use Rattle.flow_list.proofs.StripBounds.{put_le, lay_all_le}
 use Rattle.flow_data.proofs.BoxSums.{open_at-le}
 use Rattle.flow_list.proofs.Fitting.{open_across-le}
 use Rattle.flow_list.proofs.PlaceBounds.{Each-append, HasShare, IsNoLower, places-le}
-use Rattle.flow_laws.proofs.FillEnds.{IsEndFor, column-right, IsStepFrom, OfStop, stop-from}
+use Rattle.flow_list.proofs.ColumnParts.{OfStop}
+use Rattle.flow_laws.proofs.FillEnds.{IsEndFor, column-right, IsStepFrom, stop-from}
 use Rattle.flow_laws.proofs.LaidSums.{IsRowOf, item-known, share, item_share, edges-have, edges-le, ahead, ahead-first, whole-le, to-lay}
 
 module _ (d : FlowsData) (f : Flow) (total : ℕ → ℕ) where

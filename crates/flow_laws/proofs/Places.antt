@@ -2,10 +2,8 @@
 use Rattle.std.proofs.Common.{◌≡◌, ℕ, zero, suc, ◌<◌, ◌≤◌, true, false, List, [], ◌∷◌, length, drop, sym, subst, arith, ◌⊎◌, inl, inr}
 use Rattle.std.proofs.lemmas.Bool.{cases_lt}
 use Rattle.std.proofs.lemmas.Bool.Decides.{nat_tests}
-use Rattle.flow_data.specs.declared.data.Flow.{Flow}
-use Rattle.flow_data.specs.declared.data.FlowsData.{FlowsData}
-use Rattle.flow_data.specs.declared.data.Item.{Item}
-use Rattle.flow_list.specs.Tokens.{Token, row_start, item_number, is_end, IsPlaceBefore}
+use Rattle.flow_list.specs.Data.{Flow, FlowsData, Item}
+use Rattle.flow_list.specs.Tokens.{Token, item_number, is_end, IsPlaceBefore, row_start}
 
 pub in-items : (d : FlowsData) (f : Flow) (t : Token) → IsPlaceBefore d f t → item_number t < length f.items
 in-items d f [] place = absurd place

@@ -6,11 +6,8 @@ use Rattle.std.proofs.lemmas.Bool.Decides.{nat_tests}
 use Rattle.std.proofs.lemmas.List.{append-nil, drop_all}
 use Rattle.std.proofs.Math.Seq.{take-append_seam}
 use Rattle.flow_list.proofs.Fitting.{columns_by-step, columns_by-past}
-use Rattle.flow_data.specs.declared.data.Flow.{Flow}
-use Rattle.flow_data.specs.declared.data.FlowsData.{FlowsData}
-use Rattle.flow_data.specs.declared.data.Item.{Item}
-use Rattle.flow_data.specs.declared.data.Item.TheVariants.{Atom, Row}
-use Rattle.flow_data.specs.Flows.{row_of, flow_of, flow_in, row_in, no_row}
+use Rattle.flow_list.specs.Data.{Flow, FlowsData, Item, Atom, Row}
+use Rattle.flow_data.specs.Flows.{row_of, flow_in, row_in, flow_of, no_row}
 use Rattle.flow_list.specs.Tokens.{Token, item_number, within, is_end, IsPlaceBefore}
 use Rattle.flow_list.specs.Column.{Column, Filled, Inner, column}
 use Rattle.flow_list.specs.Rows.{columns, columns_by, end_of, left_in, items_left, fill_in, filled_by, rows_to, all_rows}
@@ -87,38 +84,49 @@ filled-moves d m r k q a moves place =
     which u e (inl x) = let y = at-end (flow_in d r) u x in cc
     which u e (inr x) = x
 
-fill-moves : (d : FlowsData) (m r : ℕ) (q : Token) (a : ℕ) → 0 < (row_of d r).n → ItemsMove d (rows_to d m) (contents_to d m) (flow_in d r).items → IsReached d (flow_in d r) q →
+fill-moves : (d : FlowsData) (m r : ℕ) (q : Token) (a : ℕ) → 0 < (row_of d r).n →
+    ItemsMove d (rows_to d m) (contents_to d m) (flow_in d r).items → IsReached d (flow_in d r) q →
     FillMoves d (rows_to d (suc m)) (contents_to d (suc m)) r q (fill_in (rows_to d m) d r q a)
 unfolding fill_in
 fill-moves d m r q a some moves (inl e) =
-    let stays : is_end (flow_in d r) (end_of q (columns (rows_to d m) d (flow_in d r) (row_of d r).n q a)) ≡ true = rw (columns_by-past (λ t. column (rows_to d m) d (flow_in d r) t a) (flow_in d r) (row_of d r).n q e) e in
+    let stays : is_end (flow_in d r) (end_of q (columns (rows_to d m) d (flow_in d r) (row_of d r).n q a)) ≡ true =
+    rw (columns_by-past (λ t. column (rows_to d m) d (flow_in d r) t a) (flow_in d r) (row_of d r).n q e) e in
     record { place = λ no. cc; fewer = λ no. cc; rest = λ no. cc }
 fill-moves d m r q a some moves (inr place) =
     let n : suc ((row_of d r).n - 1) ≡ (row_of d r).n = omega arith in
     let P : ℕ → Type 0 = λ n. FillMoves d (rows_to d (suc m)) (contents_to d (suc m)) r q (filled_by (flow_in d r) q (columns (rows_to d m) d (flow_in d r) n q a)) in
     subst P n (filled-moves d m r ((row_of d r).n - 1) q a moves place)
 
-row-moves : (d : FlowsData) → IsSound d → (n r m : ℕ) → NestsAtMost d n r → n ≤ m → r < length d.rows → RowMoves d (rows_to d m) (contents_to d m) r
+row-moves : (d : FlowsData) → IsSound d → (n r m : ℕ) → NestsAtMost d n r → n ≤ m → r < length d.rows →
+    RowMoves d (rows_to d m) (contents_to d m) r
 unfolding rows_to
 row-moves d sound zero r m nests le lt = absurd nests
 row-moves d sound (suc n) r zero nests le lt = absurd (omega arith)
 row-moves d sound (suc n) r (suc m) nests le lt =
     let inner = rows-of-data d sound (row_of d r).flow (sound.rows r no_row lt).flow in
-    let moves = items-move d (rows_to d m) (contents_to d m) (λ s. NestsAtMost d n s × (s < length d.rows)) (λ s both. row-moves d sound n s m both.0 (omega arith) both.1) (flow_in d r).items (λ k e in_rows. (nests k e in_rows, inner k e in_rows)) in
+    let moves = items-move d (rows_to d m) (contents_to d m) (λ s. NestsAtMost d n s × (s < length d.rows))
+    (λ s both. row-moves d sound n s m both.0 (omega arith) both.1) (flow_in d r).items
+    (λ k e in_rows. (nests k e in_rows, inner k e in_rows)) in
     record { fills = λ q a at. fill-moves d m r q a (some-column d sound r lt) moves at }
 
 -- so do the rows in any flow of the data
-pub flow-moves : (d : FlowsData) → IsSound d → (f : ℕ) → f < length d.flows → ItemsMove d (rows_to d (length d.rows)) (contents_to d (length d.rows)) (flow_of d f).items
+pub flow-moves : (d : FlowsData) → IsSound d → (f : ℕ) → f < length d.flows →
+    ItemsMove d (rows_to d (length d.rows)) (contents_to d (length d.rows)) (flow_of d f).items
 flow-moves d sound f lt =
     items-move d (rows_to d (length d.rows)) (contents_to d (length d.rows)) (λ s. s < length d.rows)
-    (λ s known. row-moves d sound (length d.rows - s) s (length d.rows) (nests-by-number d sound (length d.rows - s) s known (omega arith)) (omega arith) known) (flow_of d f).items (rows-of-data d sound f lt)
+    (λ s known. row-moves d sound (length d.rows - s) s (length d.rows)
+    (nests-by-number d sound (length d.rows - s) s known (omega arith)) (omega arith) known) (flow_of d f).items
+    (rows-of-data d sound f lt)
 
 -- a column of a flow, at a height or without end, ends later than it begins, by what row r counts of the flow's own atoms
-pub flow-advances : (d : FlowsData) → IsSound d → (f : ℕ) → f < length d.flows → (r : ℕ) (h : Option ℕ) (t : Token) → IsPlaceBefore d (flow_of d f) t →
+pub flow-advances : (d : FlowsData) → IsSound d → (f : ℕ) → f < length d.flows → (r : ℕ) (h : Option ℕ) (t : Token) →
+    IsPlaceBefore d (flow_of d f) t →
     Later d (rows_to d (length d.rows)) (contents_to d (length d.rows)) r (flow_of d f) t (column_within d (flow_of d f) h t).end
 unfolding all_rows
-flow-advances d sound f lt r None t place = endless-later d (rows_to d (length d.rows)) (contents_to d (length d.rows)) r (flow_of d f) (flow-moves d sound f lt) t place
-flow-advances d sound f lt r (Some h) t place = column-later d (rows_to d (length d.rows)) (contents_to d (length d.rows)) r (flow_of d f) (flow-moves d sound f lt) t place h
+flow-advances d sound f lt r None t place = endless-later d (rows_to d (length d.rows)) (contents_to d (length d.rows)) r
+    (flow_of d f) (flow-moves d sound f lt) t place
+flow-advances d sound f lt r (Some h) t place = column-later d (rows_to d (length d.rows)) (contents_to d (length d.rows)) r
+    (flow_of d f) (flow-moves d sound f lt) t place h
 
 -- ---- the law
 
@@ -144,7 +152,8 @@ module _ (d : FlowsData) (sound : IsSound d) (r : ℕ) (lt : r < length d.rows) 
       let P : Filled → Type 0 = λ filled. IsLater d r t filled.end in
       subst P (sym ((sound-alike d sound r (length d.rows) (suc (length d.rows)) lt (omega arith) (omega arith)).fill t h)) (filled-is-later (row_of d r).n (some-column d sound r lt) t h place)
 
-  pub columns-reach : (n : ℕ) (t : Token) (h : Option ℕ) → IsPlaceBefore d (flow_in d r) t → left_in (all_rows d) (flow_in d r) t ≤ n → is_end (flow_in d r) (end_of t (first_columns d r n t h)) ≡ true
+  pub columns-reach : (n : ℕ) (t : Token) (h : Option ℕ) → IsPlaceBefore d (flow_in d r) t →
+      left_in (all_rows d) (flow_in d r) t ≤ n → is_end (flow_in d r) (end_of t (first_columns d r n t h)) ≡ true
   unfolding all_rows
   columns-reach n t h place le = columns-end d (rows_to d (length d.rows)) (contents_to d (length d.rows)) r (flow_in d r) (column_within d (flow_in d r) h) (all-move h) n t place le
 

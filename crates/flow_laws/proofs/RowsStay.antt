@@ -2,8 +2,7 @@
 use Rattle.std.proofs.Common.{◌≡◌, ℕ, zero, suc, ◌≤◌, max, Bool, true, false, not, ◌&&◌, ◌||◌, List, [], ◌∷◌, refl, ap}
 use Rattle.std.specs.Prelude.{fold, nat_lt}
 use Rattle.std.specs.List.{list_any, flat_map}
-use Rattle.flow_data.specs.declared.data.Flow.{Flow}
-use Rattle.flow_data.specs.declared.data.FlowsData.{FlowsData}
+use Rattle.flow_list.specs.Data.{Flow, FlowsData}
 use Rattle.flow_data.specs.Flows.{row_of, flow_in}
 use Rattle.flow_list.specs.Tokens.{Token, is_end}
 use Rattle.flow_list.specs.Column.{Column, Inner, column, steps_from, avoids_at}
@@ -33,11 +32,13 @@ module _ (stops : Column → Bool) (kept : (a b : Column) → ColumnStays a b �
   rest-below : (h : ℕ) (c : Column) (cs : List Column) → stops c ≡ false → IsBelowEach h (bounds_of (up_to stops (c ∷ cs))) → IsBelowEach h (bounds_of (up_to stops cs))
   rest-below h c cs n b = rw n at ((IsBelowEach-append h c.bounds _ b).1)
 
-  pub cons-stay : (c c' : Column) (cs cs' : List Column) → ColumnStays c c' → (o : Bool) → stops c ≡ o → (o ≡ false → StayUpTo cs cs') → StayUpTo (c ∷ cs) (c' ∷ cs')
+  pub cons-stay : (c c' : Column) (cs cs' : List Column) → ColumnStays c c' → (o : Bool) → stops c ≡ o →
+      (o ≡ false → StayUpTo cs cs') → StayUpTo (c ∷ cs) (c' ∷ cs')
   cons-stay c c' cs cs' e true k rest = ends k e
   cons-stay c c' cs cs' e false k rest = more k e (rest refl)
 
-  pub columns-stay : (inner : Inner) (law : FillsStay inner) (d : FlowsData) (f : Flow) (n : ℕ) (t : Token) (lo h : ℕ) → lo ≤ h → IsBelowEach h (bounds_of (up_to stops (columns inner d f n t lo))) →
+  pub columns-stay : (inner : Inner) (law : FillsStay inner) (d : FlowsData) (f : Flow) (n : ℕ) (t : Token) (lo h : ℕ) → lo ≤ h →
+      IsBelowEach h (bounds_of (up_to stops (columns inner d f n t lo))) →
       StayUpTo (columns inner d f n t lo) (columns inner d f n t h)
   unfolding columns_by
   columns-stay inner law d f zero t lo h le b = none
@@ -54,7 +55,8 @@ module _ (stops : Column → Bool) (kept : (a b : Column) → ColumnStays a b �
           cons-stay (column inner d f t lo) (column inner d f t h) _ _ e (stops (column inner d f t lo)) refl
           (λ k. rw (e.end (fine _ k)) (again (column inner d f t lo).end (rest-below h (column inner d f t lo) _ k b)))
 
-  pub lines-stay : {cs ds : List Column} → StayUpTo cs ds → flat_map (λ (c : Column). c.lines) (up_to stops ds) ≡ flat_map (λ (c : Column). c.lines) (up_to stops cs)
+  pub lines-stay : {cs ds : List Column} → StayUpTo cs ds →
+      flat_map (λ (c : Column). c.lines) (up_to stops ds) ≡ flat_map (λ (c : Column). c.lines) (up_to stops cs)
   lines-stay none = refl
   lines-stay (ends k e) = rw (kept _ _ e, k, e.lines) refl
   lines-stay (more k e rest) = rw (kept _ _ e, k, e.lines, lines-stay rest) refl
@@ -69,7 +71,8 @@ module _ (stops : Column → Bool) (kept : (a b : Column) → ColumnStays a b �
   end-stays (ends k e) n q = let m : true ≡ false = rw k at n in cc
   end-stays (more k e rest) n q = rw (e.end (fine _ k)) (end-stays rest (rw k at n) _)
 
-  pub level-stays : {cs ds : List Column} → StayUpTo cs ds → list_any stops cs ≡ false → (l : ℕ) → fold (λ l (c : Column). max l c.level) l ds ≡ fold (λ l (c : Column). max l c.level) l cs
+  pub level-stays : {cs ds : List Column} → StayUpTo cs ds → list_any stops cs ≡ false → (l : ℕ) →
+      fold (λ l (c : Column). max l c.level) l ds ≡ fold (λ l (c : Column). max l c.level) l cs
   level-stays none n l = refl
   level-stays (ends k e) n l = let m : true ≡ false = rw k at n in cc
   level-stays (more k e rest) n l = rw (e.level (fine _ k)) (level-stays rest (rw k at n) _)
@@ -87,7 +90,8 @@ overflows c = c.overflow
 pub overflow-kept : (a b : Column) → ColumnStays a b → overflows b ≡ overflows a
 overflow-kept a b e = e.overflow
 
-pub fold-stays : (inner : Inner) (law : FillsStay inner) (d : FlowsData) (f : Flow) (n : ℕ) (q : Token) (lo h : ℕ) → lo ≤ h → IsBelowEach h (filled_by f q (columns inner d f n q lo)).bounds →
+pub fold-stays : (inner : Inner) (law : FillsStay inner) (d : FlowsData) (f : Flow) (n : ℕ) (q : Token) (lo h : ℕ) → lo ≤ h →
+    IsBelowEach h (filled_by f q (columns inner d f n q lo)).bounds →
     FillStays (filled_by f q (columns inner d f n q lo)) (filled_by f q (columns inner d f n q h))
 fold-stays inner law d f n q lo h le b =
     let same = columns-stay overflows overflow-kept (λ a k. k) inner law d f n q lo h le b in

@@ -1,28 +1,25 @@
 -- Sizes, needs and extents are no more than all that stands in a row.
-use Rattle.std.proofs.Common.{◌≡◌, ℕ, zero, suc, ◌+◌, ◌-◌, ◌<◌, ◌≤◌, ◌^◌, Bool, true, false, cond, not, ◌&&◌, List, [], ◌∷◌, ◌++◌, length, drop, get_or, Option, Some, None, refl, arith, sum_by}
+use Rattle.std.proofs.Common.{ℕ, zero, suc, ◌+◌, ◌-◌, ◌<◌, ◌≤◌, ◌^◌, Bool, true, false, cond, List, [], ◌∷◌, ◌++◌, length, drop, get_or, Option, Some, None, arith, sum_by, ◌≡◌, not, ◌&&◌, refl}
 use Rattle.std.specs.Prelude.{All, nat_lt, nat_le}
 use Rattle.std.specs.List.{flat_map, AllByRecursion as Each}
 use Rattle.std.proofs.lemmas.Bool.Decides.{nat_tests}
 use Rattle.std.proofs.lemmas.List.Sums.{sum_by-cons}
-use Rattle.flow_data.specs.declared.data.Flow.{Flow}
-use Rattle.flow_data.specs.declared.data.FlowsData.{FlowsData}
-use Rattle.flow_data.specs.declared.data.Item.{Item}
-use Rattle.flow_data.specs.declared.data.Item.TheVariants.{Atom, Row}
+use Rattle.flow_list.specs.Data.{Flow, FlowsData, Item, Atom, Row}
 use Rattle.flow_data.specs.Flows.{box_of, row_of, flow_of, flow_in, item_of, seam_of, row_in, rows_in, no_row, no_flow, atom_height, boxes_in, open_at}
 use Rattle.flow_list.specs.ClonedEdges.{open_across, bottoms}
 use Rattle.flow_data.specs.Soundness.{IsSound, IsSoundFlow, flow_height}
 use Rattle.flow_list.specs.Tokens.{Token, row_start, item_number, within}
 use Rattle.flow_list.specs.Strip.{Strip, strip_at, put, lay_all}
-use Rattle.flow_list.specs.Column.{Filled, Inner, Step, Place, Cut, cut, longer, height_of, strip_behind, steps, steps_from, start_strip, is_forced, tail_from, inside, inside_place, alone_place, whole_place, is_cut, room, best, choose, seams_before, seams_between, last_place, no_place, fill_in_room, column, endless_column, column_up_to, avoids_at, unforced_start, loose_need}
+use Rattle.flow_list.specs.Column.{Filled, Inner, Step, Place, cut, height_of, strip_behind, steps, steps_from, start_strip, tail_from, inside_place, room, seams_before, seams_between, last_place, no_place, column, endless_column, column_up_to, avoids_at, unforced_start, loose_need, step_at}
 use Rattle.flow_list.specs.Rows.{heights_from, amounts_in, reach, rows_to, all_rows}
 use Rattle.flow_list.specs.RowHeights.{size_of, column_within}
 use Rattle.flow_laws.specs.Bounds.{NeedsRise, NeedsAreSmall, NeedsAndBounds}
 use Rattle.flow_list.proofs.StripBounds.{put_le, lay_all_le}
 use Rattle.flow_data.proofs.BoxSums.{open_at-le}
 use Rattle.flow_list.proofs.Fitting.{open_across-le, first-amounts, amounts-drop, first-height, head-start, strip-start, size-reach}
+use Rattle.flow_list.proofs.ColumnParts.{EachFrom, steps-each, through, cut-each, last-each, stopped-each}
 use Rattle.flow_laws.proofs.Needs.{AreGoodSteps, column-steps}
 use Rattle.flow_laws.proofs.Places.{in-items}
-use Rattle.flow_laws.proofs.StopStays.{cut-room}
 use Rattle.flow_laws.proofs.SoundRows.{nests-by-number}
 use Rattle.flow_laws.proofs.Totals.{sum-both, total_within, row_total, height_in, total-more, total-same, total-le}
 
@@ -61,14 +58,16 @@ module _ (d : FlowsData) where
   size-total zero r q = omega arith
   size-total (suc m) r q =
       let a = size-reach (rows_to d m) d r q in
-      let b = reach-total (rows_to d m) d (flow_in d r) (row_total d (height_in d) m) q (λ k e lt p. size-total m (get_or (rows_in (flow_in d r)) k e) p) in
+      let b = reach-total (rows_to d m) d (flow_in d r) (row_total d (height_in d) m) q
+      (λ k e lt p. size-total m (get_or (rows_in (flow_in d r)) k e) p) in
       let c = total-more d (height_in d) m (row_of d r).flow in
       omega arith
 
   -- and what a column of a flow may reach no more than all that stands in the flow
   pub all-total : (m f : ℕ) (t : Token) → reach (rows_to d m) d (flow_of d f) t ≤ total_within d (height_in d) (suc m) f
   all-total m f t =
-      let b = reach-total (rows_to d m) d (flow_of d f) (row_total d (height_in d) m) t (λ k e lt p. size-total m (get_or (rows_in (flow_of d f)) k e) p) in
+      let b = reach-total (rows_to d m) d (flow_of d f) (row_total d (height_in d) m) t
+      (λ k e lt p. size-total m (get_or (rows_in (flow_of d f)) k e) p) in
       let c = total-more d (height_in d) m f in
       omega arith
 
@@ -78,7 +77,8 @@ module _ (d : FlowsData) (sound : IsSound d) (r : ℕ) (lt : r < length d.rows) 
   reach-small t =
       let nests = nests-by-number d sound (length d.rows - r) r lt (omega arith) in
       let reached = all-total d (length d.rows) (row_of d r).flow t in
-      let same = total-same d sound (height_in d) (length d.rows - r) r (suc (length d.rows)) (length d.rows) nests (omega arith) (omega arith) in
+      let same = total-same d sound (height_in d) (length d.rows - r) r (suc (length d.rows)) (length d.rows) nests (omega arith)
+      (omega arith) in
       let whole = total-le d sound r lt in
       let small = sound.heights in
       omega arith
@@ -97,93 +97,78 @@ module _ (inner : Inner) (d : FlowsData) (f : Flow) (top : ℕ) where
     pub cut : s.y + s.height + s.bottoms ≤ top
     pub behind : (a : ℕ) → a ≤ s.height → tail_from (s.y + a) s.tail + s.bottoms_after ≤ top
 
-  pub AllWithinTop : List Step → Type 0
-  AllWithinTop [] = Unit {0}
-  AllWithinTop (s ∷ ss) = IsWithinTop s × AllWithinTop ss
+  abbrev pub AllWithinTop : ℕ → List Step → Type 0
+  AllWithinTop k ss = EachFrom (λ n. IsWithinTop) k ss
 
-  pub steps-within : (s : Strip) (k : ℕ) (q : Token) (n : ℕ) → k + n ≤ length f.items → s.y + s.pending + heights_from inner q (drop k f.items) + amounts_in (drop (k + 1) f.seams) + bottoms d (boxes_in f) ≤ top → AllWithinTop (steps inner d f s k q n)
-  unfolding steps AllWithinTop
-  steps-within s k q zero le b = tt
-  steps-within s k q (suc n) le b =
-      let in_items : k < length f.items = omega arith in
-      let here = first-height inner q f.items k in
-      let seam = first-amounts f.seams (k + 1) in
-      let a = put_le s (height_of inner (item_of f k) q) in
-      let c = lay_all_le (put s (height_of inner (item_of f k) q)) (seam_of f (k + 1)).tail in
-      let m = lay_all_le (strip_behind inner f s k q) (seam_of f (k + 1)).head in
-      let below : bottoms d (open_across f (k + 1)) ≤ bottoms d (boxes_in f) = open_across-le _ f (k + 1) in
-      let at : bottoms d (open_at f k) ≤ bottoms d (boxes_in f) = open_at-le _ f k in (
-        record {
-          need = omega arith;
-          place = omega arith;
-          cut = omega arith;
-          behind = λ h low. let t = lay_all_le (strip_at (s.y + s.pending + h) false) (seam_of f (k + 1)).tail in omega arith;
-        },
-        go (is_forced (seam_of f (k + 1)).level) (steps-within (lay_all (strip_behind inner f s k q) (seam_of f (k + 1)).head) (k + 1) row_start n (omega arith) (omega arith)),
-      )
+  -- what stands in this strip and from item k on has room, of which n items are left
+  abbrev HasRoom : Strip → ℕ → Token → ℕ → Type 0
+  HasRoom s k q n = (k + n ≤ length f.items) × (s.y + s.pending + heights_from inner q (drop k f.items) + amounts_in (drop (k + 1) f.seams) + bottoms d (boxes_in f) ≤ top)
+
+  steps-within : (s : Strip) (k : ℕ) (q : Token) (n : ℕ) → HasRoom s k q n → AllWithinTop k (steps inner d f s k q n)
+  steps-within = steps-each inner d f HasRoom (λ n. IsWithinTop) here next
     where
-      more : List Step
-      more = steps inner d f (lay_all (strip_behind inner f s k q) (seam_of f (k + 1)).head) (k + 1) row_start n
+      here : (s : Strip) (k : ℕ) (q : Token) (n : ℕ) → HasRoom s k q (suc n) → IsWithinTop (step_at inner d f s k q)
+      here s k q n b =
+          let le = b.0 in
+          let all = b.1 in
+          let in_items : k < length f.items = omega arith in
+          let high = first-height inner q f.items k in
+          let seam = first-amounts f.seams (k + 1) in
+          let a = put_le s (height_of inner (item_of f k) q) in
+          let c = lay_all_le (put s (height_of inner (item_of f k) q)) (seam_of f (k + 1)).tail in
+          let below : bottoms d (open_across f (k + 1)) ≤ bottoms d (boxes_in f) = open_across-le _ f (k + 1) in
+          let at : bottoms d (open_at f k) ≤ bottoms d (boxes_in f) = open_at-le _ f k in
+          record {
+            need = omega arith;
+            place = omega arith;
+            cut = omega arith;
+            behind = λ h low. let t = lay_all_le (strip_at (s.y + s.pending + h) false) (seam_of f (k + 1)).tail in omega arith;
+          }
 
-      go : (x : Bool) → AllWithinTop more → AllWithinTop (elim x [ true ↦ [] | false ↦ more ])
-      go true r = tt
-      go false r = r
+      next : (s : Strip) (k : ℕ) (q : Token) (n : ℕ) → HasRoom s k q (suc n) → HasRoom (lay_all (strip_behind inner f s k q) (seam_of f (k + 1)).head) (k + 1) row_start n
+      next s k q n b =
+          let le = b.0 in
+          let all = b.1 in
+          let in_items : k < length f.items = omega arith in
+          let high = first-height inner q f.items k in
+          let seam = first-amounts f.seams (k + 1) in
+          let a = put_le s (height_of inner (item_of f k) q) in
+          let c = lay_all_le (put s (height_of inner (item_of f k) q)) (seam_of f (k + 1)).tail in
+          let m = lay_all_le (strip_behind inner f s k q) (seam_of f (k + 1)).head in
+          (omega arith, omega arith)
 
-  pub within-reach : (t : Token) → item_number t < length f.items → reach inner d f t ≤ top → AllWithinTop (steps_from inner d f t)
+  pub within-reach : (t : Token) → item_number t < length f.items → reach inner d f t ≤ top → AllWithinTop (item_number t) (steps_from inner d f t)
   within-reach t lt b =
       let a = strip-start d f t in
       let e = first-amounts f.seams (item_number t) in
       let l = amounts-drop f.seams (item_number t) in
-      steps-within (start_strip d f t) (item_number t) (within t) (length f.items - item_number t) (omega arith) (omega arith)
+      steps-within (start_strip d f t) (item_number t) (within t) (length f.items - item_number t) (omega arith, omega arith)
 
   -- an item alone after an unforced break is within it too
   pub loose-reach : (k : ℕ) → k < length f.items → reach inner d f (k ∷ []) ≤ top → loose_need inner d f k ≤ top
-  unfolding steps AllWithinTop
+  unfolding steps
   loose-reach k lt b =
       let a = head-start d f true k in
       let e = first-amounts f.seams k in
       let l = amounts-drop f.seams k in
-      (steps-within (unforced_start d f k) k row_start 1 (omega arith) (omega arith)).0.need
+      (steps-within (unforced_start d f k) k row_start 1 (omega arith, omega arith)).0.need
 
   -- ---- places
 
-  AllReach : List Place → Type 0
-  AllReach [] = Unit {0}
-  AllReach (p ∷ ps) = (p.extent ≤ top) × AllReach ps
+  abbrev IsReach : Place → Type 0
+  IsReach p = p.extent ≤ top
 
-  AllReach-append : (ps qs : List Place) → AllReach ps → AllReach qs → AllReach (ps ++ qs)
-  unfolding AllReach
-  AllReach-append [] qs a b = b
-  AllReach-append (p ∷ ps) qs a b = (a.0, AllReach-append ps qs a.1 b)
+  seams-reach : (need k : ℕ) (ss : List Step) → need ≤ top → AllWithinTop k ss → Each IsReach (seams_before need ss)
+  seams-reach need k [] le all = tt
+  seams-reach need k (s ∷ ss) le all = (le, seams-reach s.need (k + 1) ss all.0.need all.1)
 
-  best-reach : (p : Place) (ps : List Place) → p.extent ≤ top → AllReach ps → (best p ps).extent ≤ top
-  unfolding AllReach
-  best-reach p [] a b = a
-  best-reach p (q ∷ qs) a b = best-reach (cond (nat_le q.level p.level) q p) qs (go (nat_le q.level p.level)) b.1
-    where
-      go : (x : Bool) → (cond x q p).extent ≤ top
-      go true = b.0
-      go false = a
+  between-reach : (k : ℕ) (ss : List Step) → AllWithinTop k ss → Each IsReach (seams_between ss)
+  between-reach k [] all = tt
+  between-reach k (s ∷ ss) all = seams-reach s.need (k + 1) ss all.0.need all.1
 
-  choose-reach : (ps : List Place) (o : Place) → AllReach ps → o.extent ≤ top → (choose ps o).extent ≤ top
-  unfolding AllReach
-  choose-reach [] o a b = b
-  choose-reach (p ∷ ps) o a b = best-reach p ps a.0 a.1
-
-  seams-reach : (need : ℕ) (ss : List Step) → need ≤ top → AllWithinTop ss → AllReach (seams_before need ss)
-  unfolding AllReach AllWithinTop
-  seams-reach need [] le all = tt
-  seams-reach need (s ∷ ss) le all = (le, seams-reach s.need ss all.0.need all.1)
-
-  between-reach : (ss : List Step) → AllWithinTop ss → AllReach (seams_between ss)
-  unfolding AllReach AllWithinTop
-  between-reach [] all = tt
-  between-reach (s ∷ ss) all = seams-reach s.need ss all.0.need all.1
-
-  last-reach : (p : Place) (ss : List Step) → p.extent ≤ top → AllWithinTop ss → (last_place p ss).extent ≤ top
-  unfolding AllWithinTop
-  last-reach p [] le all = le
-  last-reach p (s ∷ ss) le all = last-reach (record { level = 0; end = (s.item + 1) ∷ []; extent = s.need; overflow = false }) ss all.0.need all.1
+  last-reach : (p : Place) (k : ℕ) (ss : List Step) → p.extent ≤ top → AllWithinTop k ss → (last_place p ss).extent ≤ top
+  last-reach p k [] le all = le
+  last-reach p k (s ∷ ss) le all = last-reach (record { level = 0; end = (s.item + 1) ∷ []; extent = s.need; overflow = false }) (k + 1) ss all.0.need all.1
 
   inside-reach : (avoids : Bool) (s : Step) (a : ℕ) (filled : Filled) → IsWithinTop s → a ≤ s.height → (inside_place avoids s a filled).extent ≤ top
   inside-reach avoids s a filled w le = go filled.at_end
@@ -192,67 +177,36 @@ module _ (inner : Inner) (d : FlowsData) (f : Flow) (top : ℕ) where
       go true = w.behind a le
       go false = let c = w.cut in omega arith
 
-  stop-reach : (avoids : Bool) (h : ℕ) (s : Step) (row : Option (ℕ × Token)) → IsWithinTop s → AllReach (inside avoids s h (fill_in_room inner row (room s h))) × ((alone_place avoids s h (fill_in_room inner row (room s h))).extent ≤ top)
-  unfolding AllReach
-  stop-reach avoids h s None w = (tt, w.need)
-  stop-reach avoids h s (Some row) w = (one (is_cut s h && not (inner.fill row.0 row.1 (room s h)).overflow) refl, other (nat_lt (room s h) s.height) refl)
-    where
-      cut-of : (a b : Bool) → (a && b) ≡ true → a ≡ true
-      cut-of true b e = refl
-      cut-of false b e = cc
-
-      one : (b : Bool) → (is_cut s h && not (inner.fill row.0 row.1 (room s h)).overflow) ≡ b → AllReach (cond b (inside_place avoids s (room s h) (inner.fill row.0 row.1 (room s h)) ∷ []) [])
-      one true e = let c = cut-room s h (cut-of (is_cut s h) _ e) in (inside-reach avoids s (room s h) (inner.fill row.0 row.1 (room s h)) w (omega arith), tt)
-      one false e = tt
-
-      other : (b : Bool) → nat_lt (room s h) s.height ≡ b →
-          (cond b (record { level = (inside_place avoids s (room s h) (inner.fill row.0 row.1 (room s h))).level; end = (inside_place avoids s (room s h) (inner.fill row.0 row.1 (room s h))).end; extent = (inside_place avoids s (room s h) (inner.fill row.0 row.1 (room s h))).extent; overflow = true }) (whole_place s)).extent ≤ top
-      other true e = inside-reach avoids s (room s h) (inner.fill row.0 row.1 (room s h)) w (grind (arith, nat_tests))
-      other false e = w.need
-
-  abbrev CutWithin : Cut → Option Step → Type 0
-  CutWithin u None = AllWithinTop u.before
-  CutWithin u (Some s) = AllWithinTop (u.before ++ s ∷ []) × IsWithinTop s
-
-  cut-within : (h : ℕ) (ss : List Step) → AllWithinTop ss → CutWithin (cut h ss) (cut h ss).stop
-  unfolding AllWithinTop
-  cut-within h [] all = tt
-  cut-within h (s ∷ ss) all = go (nat_lt h s.need) (cut-within h ss all.1)
-    where
-      more : (o : Option Step) → CutWithin (cut h ss) o → CutWithin (longer s (cut h ss)) o
-      more None u = (all.0, u)
-      more (Some s') u = ((all.0, u.0), u.1)
-
-      go : (b : Bool) → CutWithin (cut h ss) (cut h ss).stop → CutWithin (cond b (record { before = []; stop = Some s }) (longer s (cut h ss))) (cond b (record { before = []; stop = Some s }) (longer s (cut h ss))).stop
-      go true u = ((all.0, tt), all.0)
-      go false u = more (cut h ss).stop u
-
-  up_to-reach : (avoids : ℕ → Bool) (h : ℕ) (u : Cut) (stop : Option Step) → CutWithin u stop → (column_up_to inner avoids h u.before stop).extent ≤ top
-  up_to-reach avoids h u None w = last-reach no_place u.before (omega arith) w
-  up_to-reach avoids h u (Some s) w =
-      let m = stop-reach (avoids s.item) h s s.row w.1 in
-      choose-reach (seams_between (u.before ++ s ∷ []) ++ inside (avoids s.item) s h (fill_in_room inner s.row (room s h))) (alone_place (avoids s.item) s h (fill_in_room inner s.row (room s h)))
-      (AllReach-append (seams_between (u.before ++ s ∷ [])) _ (between-reach (u.before ++ s ∷ []) w.0) m.0) m.1
+  up_to-reach : (avoids : ℕ → Bool) (h k : ℕ) (before : List Step) (stop : Option Step) → AllWithinTop k (through before stop) → (column_up_to inner avoids h before stop).extent ≤ top
+  up_to-reach avoids h k before None all = last-reach no_place k before (omega arith) all
+  up_to-reach avoids h k before (Some s) all =
+      let last = last-each (λ n. IsWithinTop) k before s all in
+      stopped-each IsReach inner (avoids s.item) h s before s.row (between-reach k (before ++ s ∷ []) all) (λ which. last.need)
+      (λ row over is low. inside-reach (avoids s.item) s (room s h) (inner.fill row.0 row.1 (room s h)) last (omega arith))
 
   pub column-reach : (t : Token) (h : ℕ) → item_number t < length f.items → reach inner d f t ≤ top → (column inner d f t h).extent ≤ top
   unfolding column
-  column-reach t h lt le = up_to-reach (avoids_at d f) h (cut h (steps_from inner d f t)) (cut h (steps_from inner d f t)).stop (cut-within h (steps_from inner d f t) (within-reach t lt le))
+  column-reach t h lt le =
+      up_to-reach (avoids_at d f) h (item_number t) (cut h (steps_from inner d f t)).before (cut h (steps_from inner d f t)).stop
+      (cut-each (λ n. IsWithinTop) h (item_number t) (steps_from inner d f t) (within-reach t lt le))
 
   pub endless-reach : (t : Token) → item_number t < length f.items → reach inner d f t ≤ top → (endless_column inner d f t).extent ≤ top
   unfolding endless_column
-  endless-reach t lt le = last-reach no_place (steps_from inner d f t) (omega arith) (within-reach t lt le)
+  endless-reach t lt le = last-reach no_place (item_number t) (steps_from inner d f t) (omega arith) (within-reach t lt le)
 
-  pub needs-small : (ss : List Step) → top < 2 ^ 60 → AllWithinTop ss → NeedsAreSmall ss
-  unfolding AllWithinTop
-  needs-small [] small all = tt
-  needs-small (s ∷ ss) small all = let a = all.0.need in let b = all.0.place in (omega arith, omega arith, needs-small ss small all.1)
+  pub needs-small : (k : ℕ) (ss : List Step) → top < 2 ^ 60 → AllWithinTop k ss → NeedsAreSmall ss
+  needs-small k [] small all = tt
+  needs-small k (s ∷ ss) small all = let a = all.0.need in let b = all.0.place in (omega arith, omega arith, needs-small (k + 1) ss small all.1)
 
   -- where a row is cut, and the tail of the seam behind it
-  pub cuts-small : (ss : List Step) → top < 2 ^ 60 → AllWithinTop ss →
-      Each (λ (s : Step). (a : ℕ) → a ≤ s.height → (s.y + a + s.bottoms < 2 ^ 60) × (tail_from (s.y + a) s.tail + s.bottoms_after < 2 ^ 60)) ss
-  unfolding AllWithinTop
-  cuts-small [] small all = tt
-  cuts-small (s ∷ ss) small all = (λ a le. ((let c = all.0.cut in omega arith), (let b = all.0.behind a le in omega arith)), cuts-small ss small all.1)
+  pub cuts-small : (k : ℕ) (ss : List Step) → top < 2 ^ 60 → AllWithinTop k ss →
+      Each (λ (s : Step). (a : ℕ) → a ≤ s.height → (s.y + a + s.bottoms < 2 ^ 60)
+      × (tail_from (s.y + a) s.tail + s.bottoms_after < 2 ^ 60)) ss
+  cuts-small k [] small all = tt
+  cuts-small k (s ∷ ss) small all = (
+    λ a le. ((let c = all.0.cut in omega arith), (let b = all.0.behind a le in omega arith)),
+    cuts-small (k + 1) ss small all.1,
+  )
 
 -- at a height or without end
 pub extent-le : (d : FlowsData) (f : Flow) (top : ℕ) (h : Option ℕ) (t : Token) → item_number t < length f.items → reach (all_rows d) d f t ≤ top → (column_within d f h t).extent ≤ top
@@ -261,7 +215,8 @@ extent-le d f top (Some h) t lt le = column-reach (all_rows d) d f top t h lt le
 
 -- ---- the law
 
-pub needs-rise : (inner : Inner) (d : FlowsData) (f : Flow) (sound : IsSoundFlow d f) (k base prev : ℕ) (ss : List Step) → AreGoodSteps inner d f sound k base prev ss → NeedsRise prev ss
+pub needs-rise : (inner : Inner) (d : FlowsData) (f : Flow) (sound : IsSoundFlow d f) (k base prev : ℕ) (ss : List Step) →
+    AreGoodSteps inner d f sound k base prev ss → NeedsRise prev ss
 needs-rise inner d f sound k base prev [] good = tt
 needs-rise inner d f sound k base prev (s ∷ ss) good = (good.0.rises, needs-rise inner d f sound (k + 1) (base + atom_height (item_of f k)) s.need ss good.1)
 
@@ -270,7 +225,7 @@ needs-and-bounds d sound r lt =
     let flow = let row = sound.rows r no_row lt in sound.flows (row_of d r).flow no_flow row.flow in
     record {
       needs_never_fall = λ t place. needs-rise (all_rows d) d (flow_in d r) flow (item_number t) 0 0 (steps_from (all_rows d) d (flow_in d r) t) (column-steps (all_rows d) d (flow_in d r) flow t place);
-      needs_are_small = λ t place. needs-small (all_rows d) d (flow_in d r) (reach (all_rows d) d (flow_in d r) t) (steps_from (all_rows d) d (flow_in d r) t) (reach-small d sound r lt t)
+      needs_are_small = λ t place. needs-small (all_rows d) d (flow_in d r) (reach (all_rows d) d (flow_in d r) t) (item_number t) (steps_from (all_rows d) d (flow_in d r) t) (reach-small d sound r lt t)
           (within-reach (all_rows d) d (flow_in d r) (reach (all_rows d) d (flow_in d r) t) t (in-items d (flow_in d r) t place) (omega arith));
       loose_needs_are_small = λ k known.
           let a = loose-reach (all_rows d) d (flow_in d r) (reach (all_rows d) d (flow_in d r) (k ∷ [])) k known (omega arith) in

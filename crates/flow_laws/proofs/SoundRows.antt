@@ -2,10 +2,8 @@
 use Rattle.std.proofs.Common.{ℕ, zero, suc, ◌+◌, ◌<◌, ◌≤◌, List, [], ◌∷◌, length, arith}
 use Rattle.std.specs.Prelude.{All}
 use Rattle.std.specs.List.{flat_map}
-use Rattle.flow_data.specs.declared.data.FlowsData.{FlowsData}
-use Rattle.flow_data.specs.declared.data.Item.{Item}
-use Rattle.flow_data.specs.declared.data.Item.TheVariants.{Atom, Row}
-use Rattle.flow_data.specs.Flows.{row_of, flow_of, flow_in, row_in, rows_in, no_flow, no_row}
+use Rattle.flow_list.specs.Data.{FlowsData, Item, Atom, Row}
+use Rattle.flow_data.specs.Flows.{row_of, flow_in, row_in, rows_in, no_flow, no_row, flow_of}
 use Rattle.flow_data.specs.Soundness.{IsSound, IsSoundItem, NestsAtMost}
 
 -- the rows in row r are rows of the data, and have items
@@ -22,7 +20,8 @@ rows-in-range d (Row r ∷ items) all = both (all 0 (Row r) (omega arith)) (rows
     both first rest (suc k) e lt = rest k e (omega arith)
 
 -- so are those in any flow
-pub rows-of-data : (d : FlowsData) → IsSound d → (f : ℕ) → f < length d.flows → All (λ r. r < length d.rows) (rows_in (flow_of d f))
+pub rows-of-data : (d : FlowsData) → IsSound d → (f : ℕ) → f < length d.flows →
+    All (λ r. r < length d.rows) (rows_in (flow_of d f))
 rows-of-data d sound f lt = rows-in-range d (flow_of d f).items (sound.flows f no_flow lt).items
 
 pub good-rows : (d : FlowsData) → IsSound d → (r : ℕ) → r < length d.rows → All (IsGoodRow d) (rows_in (flow_in d r))

@@ -1,24 +1,22 @@
 -- No height fits that is below what an atom needs, nor one at which the columns can't hold the atoms.
 use Rattle.std.proofs.Common.{◌≡◌, ℕ, zero, suc, ◌+◌, ◌-◌, ◌*◌, ◌<◌, ◌≤◌, Bool, true, false, cond, not, ◌&&◌, List, [], ◌∷◌, ◌++◌, length, take, drop, get_or, Option, Some, None, refl, sym, subst, ◌∙◌, ap, arith, sum_by, ◌⊎◌, inl, inr}
-use Rattle.std.specs.Prelude.{nat_lt, nat_le}
-use Rattle.std.specs.List.{list_any}
+use Rattle.std.specs.Prelude.{nat_lt}
+use Rattle.std.specs.List.{list_any, AllByRecursion as Each}
 use Rattle.std.proofs.lemmas.Bool.Decides.{nat_tests}
 use Rattle.std.proofs.lemmas.Bool.{cases_lt, cases_order}
 use Rattle.std.proofs.lemmas.List.{drop_more, drop-drop, drop_all, get_or-drop}
 use Rattle.std.proofs.lemmas.List.Sums.{sum_by-cons, sum_by-take-drop}
 use Rattle.std.proofs.Math.Nat.{suc-mul}
 use Rattle.flow_list.proofs.Fitting.{columns_by-step}
-use Rattle.flow_data.specs.declared.data.Flow.{Flow}
-use Rattle.flow_data.specs.declared.data.FlowsData.{FlowsData}
-use Rattle.flow_data.specs.declared.data.Item.{Item}
-use Rattle.flow_data.specs.declared.data.Item.TheVariants.{Atom, Row}
+use Rattle.flow_list.specs.Data.{Flow, FlowsData, Item, Atom, Row}
 use Rattle.flow_list.specs.Atoms.{IsAtom}
 use Rattle.flow_data.specs.Flows.{row_of, flow_in, item_of, seam_of, no_item, no_flow, no_row, atom_height}
 use Rattle.flow_data.specs.Soundness.{IsSound, IsSoundFlow}
 use Rattle.flow_list.specs.Strip.{Strip, lay_all}
-use Rattle.flow_list.specs.Tokens.{Token, row_start, item_number, within, is_end, IsPlace, IsPlaceBefore}
-use Rattle.flow_list.specs.Column.{Column, Inner, Step, Place, Cut, cut, longer, step_at, steps, strip_behind, is_forced, start_strip, steps_from, seams_before, seams_between, inside, inside_place, alone_place, whole_place, is_cut, room, best, choose, last_place, no_place, fill_in_room, column, column_over, column_up_to, avoids_at, loose_need}
+use Rattle.flow_list.specs.Tokens.{Token, row_start, item_number, within, is_end, IsPlaceBefore, IsPlace}
+use Rattle.flow_list.specs.Column.{Column, Inner, Step, Place, Cut, cut, longer, step_at, steps, strip_behind, is_forced, start_strip, steps_from, seams_before, seams_between, inside_place, room, last_place, no_place, column, column_over, column_up_to, avoids_at, loose_need, Filled, inside, alone_place, whole_place, is_cut, best, choose, fill_in_room}
 use Rattle.flow_list.specs.Rows.{columns, end_of, fits, fails, most_columns, all_rows}
+use Rattle.flow_list.proofs.ColumnParts.{stopped-each}
 use Rattle.flow_laws.specs.TallAndArea.{TallAndAreaReject}
 use Rattle.flow_laws.proofs.Needs.{IsGoodStep, AreGoodSteps, column-steps}
 use Rattle.flow_laws.proofs.Places.{in-items, before-end, at-end}
@@ -120,64 +118,22 @@ module _ (inner : Inner) (d : FlowsData) (f : Flow) (sound : IsSoundFlow d f) (h
   abbrev PlaceEndsBy : ℕ → ℕ → Place → Type 0
   PlaceEndsBy i n p = p.overflow ≡ false → EndsBy i n p.end
 
-  AllEndBy : ℕ → ℕ → List Place → Type 0
-  AllEndBy i n [] = Unit {0}
-  AllEndBy i n (p ∷ ps) = PlaceEndsBy i n p × AllEndBy i n ps
-
-  AllEndBy-append : (i n : ℕ) (ps qs : List Place) → AllEndBy i n ps → AllEndBy i n qs → AllEndBy i n (ps ++ qs)
-  unfolding AllEndBy
-  AllEndBy-append i n [] qs a b = b
-  AllEndBy-append i n (p ∷ ps) qs a b = (a.0, AllEndBy-append i n ps qs a.1 b)
-
-  best-ends : (i n : ℕ) (p : Place) (ps : List Place) → PlaceEndsBy i n p → AllEndBy i n ps → PlaceEndsBy i n (best p ps)
-  unfolding AllEndBy
-  best-ends i n p [] a b = a
-  best-ends i n p (q ∷ qs) a b = best-ends i n (cond (nat_le q.level p.level) q p) qs (go (nat_le q.level p.level)) b.1
-    where
-      go : (x : Bool) → PlaceEndsBy i n (cond x q p)
-      go true = b.0
-      go false = a
-
-  choose-ends : (i n : ℕ) (ps : List Place) (o : Place) → AllEndBy i n ps → PlaceEndsBy i n o → PlaceEndsBy i n (choose ps o)
-  unfolding AllEndBy
-  choose-ends i n [] o a b = b
-  choose-ends i n (p ∷ ps) o a b = best-ends i n p ps a.0 a.1
-
   -- the numbers of the items of good steps follow one another
-  seams-end : (i n need k base prev : ℕ) (ss : List Step) → AreGoodSteps inner d f sound k base prev ss → k + length ss ≤ i + n + 1 → AllEndBy i n (seams_before need ss)
-  unfolding AllEndBy
+  seams-end : (i n need k base prev : ℕ) (ss : List Step) → AreGoodSteps inner d f sound k base prev ss → k + length ss ≤ i + n + 1 → Each (PlaceEndsBy i n) (seams_before need ss)
   seams-end i n need k base prev [] good le = tt
   seams-end i n need k base prev (s ∷ ss) good le =
       (λ fine. inl (let e = good.0.item in omega arith), seams-end i n s.need (k + 1) (base + atom_height (item_of f k)) s.need ss good.1 (omega arith))
 
-  between-end : (n k base prev : ℕ) (ss : List Step) → AreGoodSteps inner d f sound k base prev ss → k + length ss ≤ k + n + 1 → AllEndBy k n (seams_between ss)
-  unfolding AllEndBy
+  between-end : (n k base prev : ℕ) (ss : List Step) → AreGoodSteps inner d f sound k base prev ss → k + length ss ≤ k + n + 1 → Each (PlaceEndsBy k n) (seams_between ss)
   between-end n k base prev [] good le = tt
   between-end n k base prev (s ∷ ss) good le = seams-end k n s.need (k + 1) (base + atom_height (item_of f k)) s.need ss good.1 (omega arith)
 
-  stop-ends : (i n : ℕ) (avoids : Bool) (s : Step) (row : Option (ℕ × Token)) → s.item ≡ i + n → (IsAtom (item_of f s.item) → row ≡ None) →
-      AllEndBy i n (inside avoids s h (fill_in_room inner row (room s h))) × PlaceEndsBy i n (alone_place avoids s h (fill_in_room inner row (room s h)))
-  unfolding AllEndBy
-  stop-ends i n avoids s None is no_row = (tt, λ fine. cc)
-  stop-ends i n avoids s (Some row) is no_row = (one (is_cut s h && not (inner.fill row.0 row.1 (room s h)).overflow), other (nat_lt (room s h) s.height))
+  inside-ends : (i n : ℕ) (avoids : Bool) (s : Step) (filled : Filled) → s.item ≡ i + n → (IsAtom (item_of f (i + n)) → ⊥) → EndsBy i n (inside_place avoids s (room s h) filled).end
+  inside-ends i n avoids s filled is no_atom = go filled.at_end
     where
-      no_atom : IsAtom (item_of f (i + n)) → ⊥
-      no_atom atom = let here : IsAtom (item_of f s.item) = rw is atom in let e = no_row here in cc
-
-      in_place : EndsBy i n (inside_place avoids s (room s h) (inner.fill row.0 row.1 (room s h))).end
-      in_place = go (inner.fill row.0 row.1 (room s h)).at_end
-        where
-          go : (b : Bool) → EndsBy i n (cond b ((s.item + 1) ∷ []) (s.item ∷ (inner.fill row.0 row.1 (room s h)).end))
-          go true = inr (omega arith, no_atom)
-          go false = inl (omega arith)
-
-      one : (b : Bool) → AllEndBy i n (cond b (inside_place avoids s (room s h) (inner.fill row.0 row.1 (room s h)) ∷ []) [])
-      one true = (λ fine. in_place, tt)
-      one false = tt
-
-      other : (b : Bool) → PlaceEndsBy i n (cond b (record { level = (inside_place avoids s (room s h) (inner.fill row.0 row.1 (room s h))).level; end = (inside_place avoids s (room s h) (inner.fill row.0 row.1 (room s h))).end; extent = (inside_place avoids s (room s h) (inner.fill row.0 row.1 (room s h))).extent; overflow = true }) (whole_place s))
-      other true = λ fine. cc
-      other false = λ fine. cc
+      go : (b : Bool) → EndsBy i n (cond b ((s.item + 1) ∷ []) (s.item ∷ filled.end))
+      go true = inr (omega arith, no_atom)
+      go false = inl (omega arith)
 
   -- the stop is the item behind those before it
   abbrev CutGood : ℕ → ℕ → ℕ → Cut → Option Step → Type 0
@@ -204,9 +160,9 @@ module _ (inner : Inner) (d : FlowsData) (f : Flow) (sound : IsSoundFlow d f) (h
   up_to-ends : (avoids : ℕ → Bool) (i : ℕ) (u : Cut) (stop : Option Step) → CutGood i 0 0 u stop → (column_up_to inner avoids h u.before stop).overflow ≡ false → EndsBy i (length u.before) (column_up_to inner avoids h u.before stop).end
   up_to-ends avoids i u None good fine = inl (last-ends no_place i 0 0 i (length u.before) u.before good (omega arith) (omega arith))
   up_to-ends avoids i u (Some s) good fine =
-      let m = stop-ends i (length u.before) (avoids s.item) s s.row good.1 good.2 in
-      choose-ends i (length u.before) (seams_between (u.before ++ s ∷ []) ++ inside (avoids s.item) s h (fill_in_room inner s.row (room s h))) (alone_place (avoids s.item) s h (fill_in_room inner s.row (room s h)))
-      (AllEndBy-append i (length u.before) (seams_between (u.before ++ s ∷ [])) _ (between-end (length u.before) i 0 0 (u.before ++ s ∷ []) good.0 (one-more u.before s)) m.0) m.1 fine
+      stopped-each (PlaceEndsBy i (length u.before)) inner (avoids s.item) h s u.before s.row (between-end (length u.before) i 0 0 (u.before ++ s ∷ []) good.0 (one-more u.before s)) (λ which whole. cc)
+      (λ row over is low whole. inside-ends i (length u.before) (avoids s.item) s (inner.fill row.0 row.1 (room s h)) good.1
+      (λ atom. let here : IsAtom (item_of f s.item) = rw good.1 atom in let none = good.2 here in cc)) fine
     where
       one-more : (xs : List Step) (s : Step) → i + length (xs ++ s ∷ []) ≤ i + length xs + 1
       one-more [] s = omega arith

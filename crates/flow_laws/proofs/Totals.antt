@@ -1,18 +1,16 @@
 -- All that stands in a row, with what stands in the rows within it, is no higher than all flows together: each flow belongs to one row
 -- or stack, and each row to one item.
-use Rattle.std.proofs.Common.{◌≡◌, ℕ, zero, suc, ◌+◌, ◌-◌, ◌<◌, ◌≤◌, ◌==◌, ◌≢◌, Bool, true, false, cond, List, [], ◌∷◌, ◌++◌, map, length, get_or, refl, subst, ◌∙◌, ap, arith, sum_by, ◌⊎◌, inl, inr, zero-add}
+use Rattle.std.proofs.Common.{◌≡◌, ℕ, zero, suc, ◌+◌, ◌-◌, ◌<◌, ◌≤◌, ◌==◌, ◌≢◌, Bool, true, false, cond, List, [], ◌∷◌, ◌++◌, map, length, get_or, refl, subst, ◌∙◌, ap, arith, sum_by, ◌⊎◌, inl, inr}
 use Rattle.std.specs.Prelude.{All}
 use Rattle.std.specs.List.{flat_map}
 use Rattle.std.proofs.lemmas.Bool.Decides.{nat_tests}
 use Rattle.std.proofs.lemmas.Bool.{cases_lt}
 use Rattle.std.proofs.lemmas.List.Sums.{sum_by-cons, sum_by-append, sum_by-le-sum_by}
-use Rattle.flow_data.specs.declared.data.Flow.{Flow}
-use Rattle.flow_data.specs.declared.data.FlowsData.{FlowsData}
-use Rattle.flow_data.specs.declared.data.RowInfo.{RowInfo}
-use Rattle.flow_data.specs.declared.data.Stack.{Stack}
+use Rattle.flow_list.specs.Data.{Flow, FlowsData, RowInfo, Stack}
 use Rattle.flow_data.specs.Flows.{row_of, flow_of, flow_in, rows_in, no_flow, no_row}
 use Rattle.flow_data.specs.Soundness.{IsSound, NestsAtMost, count_of, flow_owners, flow_height}
 use Rattle.flow_data.proofs.OpenBoxes.{sum-less}
+use Rattle.flow_data.proofs.Counts.{count-cons, count-yes, count-no}
 use Rattle.flow_laws.proofs.SoundRows.{good-rows, nests-by-number}
 
 -- ---- sums
@@ -71,15 +69,6 @@ up-list g h d k (x ∷ xs) same =
     let rest = up-list g h d (suc k) xs (λ i lt. let e : suc k + i ≡ k + suc i = omega arith in rw e (same (suc i) (omega arith))) in
     omega (arith, sum_by-cons g k (count_up (suc k) (length xs)), sum_by-cons h x xs)
 
-pub count-cons : (n x : ℕ) (xs : List ℕ) → count_of n (x ∷ xs) ≡ cond (x == n) 1 0 + count_of n xs
-count-cons n x xs = sum_by-cons (λ m. cond (m == n) 1 0) x xs
-
-pub count-other : (n x : ℕ) (xs : List ℕ) → (x == n) ≡ false → count_of n (x ∷ xs) ≡ count_of n xs
-count-other n x xs e = count-cons n x xs ∙ ap (λ b. cond b 1 0 + count_of n xs) e ∙ zero-add _
-
-count-this : (n x : ℕ) (xs : List ℕ) → (x == n) ≡ true → count_of n (x ∷ xs) ≡ 1 + count_of n xs
-count-this n x xs e = count-cons n x xs ∙ ap (λ b. cond b 1 0 + count_of n xs) e
-
 count-up-low : (n k m : ℕ) → n < k → count_of n (count_up k m) ≡ 0
 unfolding count_up
 count-up-low n k zero lt = refl
@@ -91,8 +80,8 @@ count-up-once n k zero = omega arith
 count-up-once n k (suc m) = go (k == n) refl (count-up-once n (suc k) m)
   where
     go : (b : Bool) → (k == n) ≡ b → count_of n (count_up (suc k) m) ≤ 1 → count_of n (k ∷ count_up (suc k) m) ≤ 1
-    go true e rest = let same : k ≡ n = grind (arith, nat_tests) in let z = count-up-low n (suc k) m (omega arith) in let c = count-this n k (count_up (suc k) m) e in omega arith
-    go false e rest = let c = count-other n k (count_up (suc k) m) e in omega arith
+    go true e rest = let same : k ≡ n = grind (arith, nat_tests) in let z = count-up-low n (suc k) m (omega arith) in let c = count-yes n k (count_up (suc k) m) e in omega arith
+    go false e rest = let c = count-no n k (count_up (suc k) m) e in omega arith
 
 count-up-in : (n k m : ℕ) → k ≤ n → n < k + m → count_of n (count_up k m) ≡ 1
 unfolding count_up
@@ -100,8 +89,8 @@ count-up-in n k zero le lt = absurd (omega arith)
 count-up-in n k (suc m) le lt = go (k == n) refl (λ a b. count-up-in n (suc k) m a b)
   where
     go : (b : Bool) → (k == n) ≡ b → (suc k ≤ n → n < suc k + m → count_of n (count_up (suc k) m) ≡ 1) → count_of n (k ∷ count_up (suc k) m) ≡ 1
-    go true e rest = let same : k ≡ n = grind (arith, nat_tests) in let z = count-up-low n (suc k) m (omega arith) in let c = count-this n k (count_up (suc k) m) e in omega arith
-    go false e rest = let other : k ≢ n = grind (arith, nat_tests) in let r = rest (omega arith) (omega arith) in let c = count-other n k (count_up (suc k) m) e in omega arith
+    go true e rest = let same : k ≡ n = grind (arith, nat_tests) in let z = count-up-low n (suc k) m (omega arith) in let c = count-yes n k (count_up (suc k) m) e in omega arith
+    go false e rest = let other : k ≢ n = grind (arith, nat_tests) in let r = rest (omega arith) (omega arith) in let c = count-no n k (count_up (suc k) m) e in omega arith
 
 -- each of these numbers is at least low and below high
 unfoldable pub AllIn : ℕ → ℕ → List ℕ → Type 0
@@ -127,7 +116,7 @@ count-none n low high (x ∷ xs) all out =
     let b = all.1 in
     let other : x ≢ n = λ e. which e out in
     let no_same : (x == n) ≡ false = grind (arith, nat_tests) in
-    let c = count-other n x xs no_same in
+    let c = count-no n x xs no_same in
     omega arith
   where
     which : x ≡ n → ((n < low) ⊎ (high ≤ n)) → ⊥
@@ -254,18 +243,28 @@ module _ (d : FlowsData) (sound : IsSound d) where
     total-same (suc n) r (suc a) zero nests le ge = absurd (omega arith)
     total-same (suc n) r (suc a) (suc b) nests le ge =
         ap (λ m. weight (row_of d r).flow + m)
-        (sum-same (row_total d weight a) (row_total d weight b) (rows_in (flow_in d r)) (λ k e lt. total-same n (get_or (rows_in (flow_in d r)) k e) a b (nests k e lt) (omega arith) (omega arith)))
+        (sum-same (row_total d weight a) (row_total d weight b) (rows_in (flow_in d r))
+        (λ k e lt. total-same n (get_or (rows_in (flow_in d r)) k e) a b (nests k e lt) (omega arith) (omega arith)))
 
-    total-row : (r : ℕ) → r < length d.rows → row_total d weight (length d.rows) r ≡ weight (row_of d r).flow + sum_by (row_total d weight (length d.rows)) (rows_in (flow_in d r))
+    total-row : (r : ℕ) → r < length d.rows → row_total d weight (length d.rows) r
+        ≡ weight (row_of d r).flow + sum_by (row_total d weight (length d.rows)) (rows_in (flow_in d r))
     total-row r lt =
         let fuel : suc (length d.rows - 1) ≡ length d.rows = omega arith in
         let good = good-rows d sound r lt in
-        let P : ℕ → Type 0 = λ n. row_total d weight n r ≡ weight (row_of d r).flow + sum_by (row_total d weight (length d.rows - 1)) (rows_in (flow_in d r)) in
-        let one : row_total d weight (length d.rows) r ≡ weight (row_of d r).flow + sum_by (row_total d weight (length d.rows - 1)) (rows_in (flow_in d r)) = subst P fuel (total-more d weight (length d.rows - 1) (row_of d r).flow) in
-        one ∙ ap (λ m. weight (row_of d r).flow + m) (sum-same (row_total d weight (length d.rows - 1)) (row_total d weight (length d.rows)) (rows_in (flow_in d r))
-        (λ k e l. let g = (good k e l).0 in let later = (sound.inner_rows r lt k e l).later in total-same (length d.rows - get_or (rows_in (flow_in d r)) k e) (get_or (rows_in (flow_in d r)) k e) (length d.rows - 1) (length d.rows) (nests-by-number d sound (length d.rows - get_or (rows_in (flow_in d r)) k e) (get_or (rows_in (flow_in d r)) k e) g (omega arith)) (omega arith) (omega arith)))
+        let P : ℕ → Type 0 = λ n. row_total d weight n r
+        ≡ weight (row_of d r).flow + sum_by (row_total d weight (length d.rows - 1)) (rows_in (flow_in d r)) in
+        let one : row_total d weight (length d.rows) r
+        ≡ weight (row_of d r).flow + sum_by (row_total d weight (length d.rows - 1)) (rows_in (flow_in d r)) =
+        subst P fuel (total-more d weight (length d.rows - 1) (row_of d r).flow) in
+        one ∙ ap (λ m. weight (row_of d r).flow + m)
+        (sum-same (row_total d weight (length d.rows - 1)) (row_total d weight (length d.rows)) (rows_in (flow_in d r))
+        (λ k e l. let g = (good k e l).0 in let later = (sound.inner_rows r lt k e l).later in
+        total-same (length d.rows - get_or (rows_in (flow_in d r)) k e) (get_or (rows_in (flow_in d r)) k e)
+        (length d.rows - 1) (length d.rows) (nests-by-number d sound (length d.rows - get_or (rows_in (flow_in d r)) k e)
+        (get_or (rows_in (flow_in d r)) k e) g (omega arith)) (omega arith) (omega arith)))
 
-    totals-split : (k m : ℕ) → k + m ≤ length d.rows → up (row_total d weight (length d.rows)) k m ≡ up (λ i. weight (row_of d i).flow) k m + sum_by (row_total d weight (length d.rows)) (children k m)
+    totals-split : (k m : ℕ) → k + m ≤ length d.rows → up (row_total d weight (length d.rows)) k m
+        ≡ up (λ i. weight (row_of d i).flow) k m + sum_by (row_total d weight (length d.rows)) (children k m)
     unfolding up children count_up
     totals-split k zero le = refl
     totals-split k (suc m) le =
@@ -275,7 +274,8 @@ module _ (d : FlowsData) (sound : IsSound d) where
           total-row k (omega arith),
           sum_by-cons (row_total d weight (length d.rows)) k (count_up (suc k) m),
           sum_by-cons (λ i. weight (row_of d i).flow) k (count_up (suc k) m),
-          sum_by-append (row_total d weight (length d.rows)) (rows_in (flow_in d k)) (flat_map (λ i. rows_in (flow_in d i)) (count_up (suc k) m)),
+          sum_by-append (row_total d weight (length d.rows)) (rows_in (flow_in d k))
+              (flat_map (λ i. rows_in (flow_in d i)) (count_up (suc k) m)),
         )
 
     -- what stands in a row weighs no more than all flows together
@@ -286,8 +286,11 @@ module _ (d : FlowsData) (sound : IsSound d) where
         let split = totals-split r (suc (length d.rows - r - 1)) (omega arith) in
         let first = up-more (row_total d weight (length d.rows)) r (length d.rows - r - 1) in
         let range : suc r + (length d.rows - r - 1) ≡ length d.rows = omega arith in
-        let inside : AllIn (suc r) (suc r + (length d.rows - r - 1)) (children r (suc (length d.rows - r - 1))) = rw range (children-in r r (suc (length d.rows - r - 1)) (omega arith) (omega arith)) in
-        let below = within-up (row_total d weight (length d.rows)) (suc r) (length d.rows - r - 1) (children r (suc (length d.rows - r - 1))) inside (λ n l. children-once r (suc (length d.rows - r - 1)) n whole (omega arith)) in
+        let inside : AllIn (suc r) (suc r + (length d.rows - r - 1)) (children r (suc (length d.rows - r - 1))) =
+        rw range (children-in r r (suc (length d.rows - r - 1)) (omega arith) (omega arith)) in
+        let below = within-up (row_total d weight (length d.rows)) (suc r) (length d.rows - r - 1)
+        (children r (suc (length d.rows - r - 1))) inside
+        (λ n l. children-once r (suc (length d.rows - r - 1)) n whole (omega arith)) in
         let by_flows = rows-by-flows weight r (suc (length d.rows - r - 1)) whole in
         omega arith
 
@@ -295,5 +298,6 @@ module _ (d : FlowsData) (sound : IsSound d) where
   pub total-le : (r : ℕ) → r < length d.rows → row_total d (height_in d) (length d.rows) r ≤ sum_by (flow_height d) d.flows
   total-le r lt =
       let whole = total-up (height_in d) r lt in
-      let listed = up-list (height_in d) (flow_height d) no_flow 0 d.flows (λ i l. let z : 0 + i ≡ i = omega arith in rw z refl) in
+      let listed = up-list (height_in d) (flow_height d) no_flow 0 d.flows
+      (λ i l. let z : 0 + i ≡ i = omega arith in rw z refl) in
       omega arith

@@ -7,14 +7,7 @@ use Rattle.std.proofs.lemmas.Bool.Decides.{nat_tests}
 use Rattle.std.proofs.lemmas.List.{get_or_past}
 use Rattle.std.proofs.lemmas.List.Elements.{All-from_recursion}
 use Rattle.mc_base.specs.PlainTree.{PlainTree, plain_trees}
-use Rattle.flow_data.specs.declared.data.AtomKind.{AtomKind}
-use Rattle.flow_data.specs.declared.data.AtomKind.TheVariants.{Plain, Line, Void, Image, Bounded}
-use Rattle.flow_data.specs.declared.data.Bound.{Bound}
-use Rattle.flow_data.specs.declared.data.Bound.TheVariants.{Left}
-use Rattle.flow_data.specs.declared.data.BoxInfo.{BoxInfo}
-use Rattle.flow_data.specs.declared.data.FlowsData.{FlowsData}
-use Rattle.flow_data.specs.declared.data.Item.{Item}
-use Rattle.flow_data.specs.declared.data.Item.TheVariants.{Atom, Row}
+use Rattle.flow_list.specs.Data.{AtomKind, Bound, BoxInfo, FlowsData, Item, Plain, Line, Void, Image, Bounded, Left, Atom, Row}
 use Rattle.flow_data.specs.Flows.{seam_of, box_of, row_of, stack_of, flow_of, flow_in, item_of, no_box, no_item, no_row, no_flow}
 use Rattle.flow_list.specs.Tokens.{Token, item_number, is_end}
 use Rattle.flow_list.specs.ClonedEdges.{tops}
@@ -365,17 +358,10 @@ module _ (d : FlowsData) (sound : IsSound d) where
   unfolding stack_height
   first-high some = stack-extent-small d sound 0 some
 
-no-lines : (d : FlowsData) → Each EndsBelow (lines_of_stack d 0 0 0 0 0)
-unfolding lines_of_stack
-no-lines d = tt
-
 pub rectangles-bounded : (d : FlowsData) → IsSound d → RectanglesAreBounded d
 unfolding tree_of StacksSmall
 rectangles-bounded d sound = record {
-  lines_end_below = All-from_recursion EndsBelow (lines_of_stack d (length d.stacks) 0 0 0 0) (go (cases_lt 0 (length d.stacks)));
+  lines_end_below = All-from_recursion EndsBelow (lines_of_stack d (length d.stacks) 0 0 0 0)
+      (stacks-small d sound (length d.stacks) 0 0 0 0 sound.some_stack (first-stands d sound sound.some_stack) (first-high d sound sound.some_stack));
   stacks_are_small = stack-extent-small d sound;
 }
-  where
-    go : (0 < length d.stacks) ⊎ (length d.stacks ≤ 0) → Each EndsBelow (lines_of_stack d (length d.stacks) 0 0 0 0)
-    go (inl some) = stacks-small d sound (length d.stacks) 0 0 0 0 some (first-stands d sound some) (first-high d sound some)
-    go (inr none) = let z : length d.stacks ≡ 0 = omega arith in let P : ℕ → Type 0 = λ n. Each EndsBelow (lines_of_stack d n 0 0 0 0) in subst P (sym z) (no-lines d)

@@ -1,7 +1,7 @@
 -- Needs never fall from item to item, and all that is computed on a sound flow stays small (this project's own: the data is below 2^60
 -- in all).
 use Rattle.std.specs.Prelude.{ℕ, ◌+◌, ◌<◌, ◌≤◌, ◌^◌, List, [], ◌∷◌, length, Option}
-use Rattle.flow_data.specs.declared.data.FlowsData.{FlowsData}
+use Rattle.flow_list.specs.Data.{FlowsData}
 use Rattle.flow_data.specs.Flows.{flow_in}
 use Rattle.flow_list.specs.Tokens.{Token, IsPlaceBefore}
 use Rattle.flow_list.specs.Column.{Step, steps_from, loose_need}

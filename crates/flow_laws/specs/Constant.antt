@@ -1,8 +1,7 @@
 -- Breaks are constant over a range of heights (this project's own): up to the least height at which something may change,
 -- columns end where they end at the lower height, and that range is never empty.
 use Rattle.std.specs.Prelude.{◌≡◌, ℕ, ◌<◌, ◌≤◌, false, List, [], ◌∷◌}
-use Rattle.flow_data.specs.declared.data.Flow.{Flow}
-use Rattle.flow_data.specs.declared.data.FlowsData.{FlowsData}
+use Rattle.flow_list.specs.Data.{Flow, FlowsData}
 use Rattle.flow_list.specs.Tokens.{Token}
 use Rattle.flow_list.specs.Column.{Column, Filled, Inner, column}
 use Rattle.flow_list.specs.Rows.{columns, fits, filled_by, rows_to}

@@ -1,7 +1,7 @@
 -- How many rows stand one inside another doesn't matter, once it is counted deep enough (this project's own: what is told of rows
 -- is defined by recursion on a depth).
 use Rattle.std.specs.Prelude.{◌≡◌, ℕ, ◌<◌, ◌≤◌, length}
-use Rattle.flow_data.specs.declared.data.FlowsData.{FlowsData}
+use Rattle.flow_list.specs.Data.{FlowsData}
 use Rattle.flow_list.specs.Tokens.{Token}
 use Rattle.flow_list.specs.Column.{Inner}
 use Rattle.flow_list.specs.Rows.{rows_to, all_rows, size_in, fill_in}

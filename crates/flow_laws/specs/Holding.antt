@@ -2,10 +2,7 @@
 -- order (CSS Fragmentation 3, section 2: the fragments of a box hold its content, and content doesn't stand in two of them).
 use Rattle.std.specs.Prelude.{◌≡◌, ℕ, suc, ◌+◌, ◌-◌, Option, false, List, [], ◌∷◌, ◌++◌, length, take, drop, flat_map, AllPairs, ◌≢◌}
 use Rattle.mc_base.specs.PlainTree.{PlainTree, PlainTrees, no_trees, more_trees, plain_trees, atom, piece, row_piece, column}
-use Rattle.flow_data.specs.declared.data.Flow.{Flow}
-use Rattle.flow_data.specs.declared.data.FlowsData.{FlowsData}
-use Rattle.flow_data.specs.declared.data.Item.{Item}
-use Rattle.flow_data.specs.declared.data.Item.TheVariants.{Atom, Row}
+use Rattle.flow_list.specs.Data.{Flow, FlowsData, Item, Atom, Row}
 use Rattle.flow_data.specs.Flows.{flow_of, flow_in, stack_of}
 use Rattle.flow_list.specs.Tokens.{Token, row_start, item_number, within, IsPlaceBefore}
 use Rattle.flow_list.specs.Rows.{end_of}

@@ -1,8 +1,7 @@
 -- The size of a row is the least height that fits it (this project's own; CSS Multi-column 1, section 7.1, leaves the height
 -- of balanced columns open).
 use Rattle.std.specs.Prelude.{◌≡◌, ℕ, ◌<◌, ◌≤◌, Bool, true, false, [], ◌∷◌, length, ◌⊎◌}
-use Rattle.flow_data.specs.declared.data.Flow.{Flow}
-use Rattle.flow_data.specs.declared.data.FlowsData.{FlowsData}
+use Rattle.flow_list.specs.Data.{Flow, FlowsData}
 use Rattle.flow_data.specs.Flows.{flow_in, seam_of}
 use Rattle.flow_list.specs.Tokens.{Token, item_number}
 use Rattle.flow_list.specs.Column.{Column, Inner, is_forced, column}

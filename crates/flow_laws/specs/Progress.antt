@@ -1,10 +1,7 @@
 -- Columns advance: each ends later than it begins, so they hold the content once as far as they go (CSS Fragmentation 3, section 4.5,
 -- asks for progress).
 use Rattle.std.specs.Prelude.{◌≡◌, ℕ, zero, suc, ◌-◌, ◌<◌, ◌≤◌, true, List, [], ◌∷◌, ◌++◌, length, take, drop, Option}
-use Rattle.flow_data.specs.declared.data.Flow.{Flow}
-use Rattle.flow_data.specs.declared.data.FlowsData.{FlowsData}
-use Rattle.flow_data.specs.declared.data.Item.{Item}
-use Rattle.flow_data.specs.declared.data.Item.TheVariants.{Atom, Row}
+use Rattle.flow_list.specs.Data.{Flow, FlowsData, Item, Atom, Row}
 use Rattle.flow_data.specs.Flows.{flow_in}
 use Rattle.flow_list.specs.Tokens.{Token, row_start, item_number, within, is_end, IsPlace, IsPlaceBefore}
 use Rattle.flow_list.specs.Column.{Column}

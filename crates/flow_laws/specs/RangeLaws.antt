@@ -1,7 +1,7 @@
 -- No height of a range fits whose reason holds, and the ranges that are given for a row are such ranges, one after another up to its size
 -- (this project's own: CSS Multi-column 1, section 7.1, leaves the height of balanced columns open).
 use Rattle.std.specs.Prelude.{◌≡◌, ℕ, ◌+◌, ◌<◌, ◌≤◌, min, false, List, [], ◌∷◌, Option, Some, None, All}
-use Rattle.flow_data.specs.declared.data.FlowsData.{FlowsData}
+use Rattle.flow_list.specs.Data.{FlowsData}
 use Rattle.flow_list.specs.Tokens.{Token}
 use Rattle.flow_list.specs.Column.{Column}
 use Rattle.flow_list.specs.Ranges.{Range, Reason, tall, area, left, bad, over, RangeRejects, judged, lines_of, ranges}

@@ -1,7 +1,7 @@
 -- The rectangles of a whole tree stay below 2^63, so that places and sizes fit 64 bits with a sign, and each stack reaches less than 2^60
 -- (this project's own: in sound data each flow stands in one place, and all heights together are below 2^60).
 use Rattle.std.specs.Prelude.{ℕ, ◌+◌, ◌<◌, ◌^◌, length, All}
-use Rattle.flow_data.specs.declared.data.FlowsData.{FlowsData}
+use Rattle.flow_list.specs.Data.{FlowsData}
 use Rattle.flow_data.specs.Flows.{stack_of, flow_of}
 use Rattle.flow_list.specs.Stacks.{stack_extent}
 use Rattle.flow_list.specs.Tree.{TreeLine, tree_of}

@@ -1,7 +1,7 @@
 -- Two reasons for which no height of a range fits (this project's own): an atom is too high after an unforced break, or there is too
 -- much for the columns to hold.
 use Rattle.std.specs.Prelude.{◌≡◌, ℕ, ◌*◌, ◌<◌, ◌≤◌, false, length, drop, sum_by}
-use Rattle.flow_data.specs.declared.data.FlowsData.{FlowsData}
+use Rattle.flow_list.specs.Data.{FlowsData}
 use Rattle.flow_data.specs.Flows.{row_of, flow_in, item_of, atom_height}
 use Rattle.flow_list.specs.Atoms.{IsAtom}
 use Rattle.flow_list.specs.Tokens.{Token, item_number}

@@ -11,17 +11,7 @@ use Rattle.flow_text.specs.declared.line.Form.TheVariants as forms
 use Rattle.flow_text.specs.Grammar.{Rest, no_more, edge, place, atom, row, line, lines_of, boxes_behind, IsRest, FlowFile, content_lines, IsContent, IsFlowFile}
 use Rattle.flow_list.specs.declared.build.OpenRow.{OpenRow}
 use Rattle.flow_list.specs.declared.build.Parts.{Parts}
-use Rattle.flow_data.specs.declared.data.AtomKind.TheVariants.{Plain}
-use Rattle.flow_data.specs.declared.data.BoxInfo.{BoxInfo}
-use Rattle.flow_data.specs.declared.data.Edge.{Edge}
-use Rattle.flow_data.specs.declared.data.Edge.TheVariants.{Start}
-use Rattle.flow_data.specs.declared.data.Flow.{Flow}
-use Rattle.flow_data.specs.declared.data.FlowsData.{FlowsData}
-use Rattle.flow_data.specs.declared.data.Item.{Item}
-use Rattle.flow_data.specs.declared.data.Item.TheVariants.{Atom, Row}
-use Rattle.flow_data.specs.declared.data.RowInfo.{RowInfo}
-use Rattle.flow_data.specs.declared.data.Seam.{Seam}
-use Rattle.flow_data.specs.declared.data.Stack.{Stack}
+use Rattle.flow_list.specs.Data.{BoxInfo, Edge, Flow, FlowsData, Item, RowInfo, Seam, Stack, Plain, Start, Atom, Row}
 use Rattle.flow_list.specs.Building.{begun, open_row, edge_in, with_edge, with_item, with_place, closed, in_row, first, inner_row, nearest, farther, step, run, parts_of}
 use Rattle.flow_list.specs.FileFlows.{line_edges, edges_before, edges_behind, next_level, seam_behind, seams_behind, items_from, row_count, row_flow, rows_from, flows_from, line_boxes, boxes_from, outer_flow, first_row, first_stack, content_flows, content_rows, content_boxes, flows_of}
 use Rattle.flow_data.specs.Flows.{no_flow}
@@ -258,30 +248,14 @@ built lines f h = ap (λ (ls : List Line). parts_of (run begun ls)) h.whole ∙ 
 -- ---- a line adds a row at most
 
 rows_grow : (form : Form) (s : Parts) → length (step s form).rows ≤ length s.rows + 1
-rows_grow forms.Flow s = omega arith
 rows_grow (forms.First n w st available auto) s = let more = length-append s.rows (record { flow = 1; n = n; w = w; step = st; x = 0; auto = auto } ∷ []) in omega (arith, more)
-rows_grow (forms.Margin u) s = omega arith
-rows_grow (forms.Solid u) s = omega arith
-rows_grow forms.Wall s = omega arith
-rows_grow (forms.Start number x w avoid top bottom) s = omega arith
-rows_grow (forms.End number) s = omega arith
-rows_grow (forms.Atom u) s = omega arith
 rows_grow (forms.Row n w st x) s = let more = length-append s.rows (record { flow = length s.flows; n = n; w = w; step = st; x = x; auto = false } ∷ []) in omega (arith, more)
-rows_grow (forms.Break level) s = omega arith
-rows_grow forms.Close s = omega arith
+rows_grow _ s = omega arith
 
 flows_grow : (form : Form) (s : Parts) → length (step s form).flows ≤ length s.flows + 1
-flows_grow forms.Flow s = omega arith
-flows_grow (forms.First n w st available auto) s = omega arith
-flows_grow (forms.Margin u) s = omega arith
-flows_grow (forms.Solid u) s = omega arith
-flows_grow forms.Wall s = omega arith
-flows_grow (forms.Start number x w avoid top bottom) s = omega arith
-flows_grow (forms.End number) s = omega arith
-flows_grow (forms.Atom u) s = omega arith
 flows_grow (forms.Row n w st x) s = let more = length-append s.flows (no_flow ∷ []) in omega (arith, more)
-flows_grow (forms.Break level) s = omega arith
 flows_grow forms.Close s = let same = length-set s.flows s.row.flow (closed s.row) in omega (arith, same)
+flows_grow _ s = omega arith
 
 -- So far the parts are those of the lines before i.
 abbrev pub AreBuilt : List Line → ℕ → Parts → Type 0

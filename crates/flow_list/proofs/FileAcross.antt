@@ -5,13 +5,7 @@ use Rattle.std.proofs.lemmas.Bool.{cases_lt}
 use Rattle.std.proofs.lemmas.List.{get_or_past}
 use Rattle.std.proofs.lemmas.List.Elements.{All-nil, All-cons, All-append, All-get_or, All-head, All-tail}
 use Rattle.flow_text.specs.Grammar.{Rest, no_more, edge, place, atom, row}
-use Rattle.flow_data.specs.declared.data.AtomKind.{AtomKind}
-use Rattle.flow_data.specs.declared.data.AtomKind.TheVariants.{Plain, Line, Void, Image, Bounded}
-use Rattle.flow_data.specs.declared.data.Flow.{Flow}
-use Rattle.flow_data.specs.declared.data.FlowsData.{FlowsData}
-use Rattle.flow_data.specs.declared.data.Item.{Item}
-use Rattle.flow_data.specs.declared.data.Item.TheVariants.{Atom, Row}
-use Rattle.flow_data.specs.declared.data.RowInfo.{RowInfo}
+use Rattle.flow_list.specs.Data.{AtomKind, Flow, FlowsData, Item, RowInfo, Plain, Line, Void, Image, Bounded, Atom, Row}
 use Rattle.flow_data.specs.Flows.{no_flow, no_row, flow_of, row_of, boxes_in}
 use Rattle.flow_list.specs.FileFlows.{outer_flow, row_count, items_from, row_flow, rows_from, flows_from}
 use Rattle.flow_data.specs.Soundness.{IsSoundRow, stack_in, stacks_in, item_x, Held, held_in, FitsAcross}

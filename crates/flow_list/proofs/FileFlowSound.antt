@@ -7,10 +7,7 @@ use Rattle.flow_text.specs.declared.line.Line.{Line}
 use Rattle.flow_text.specs.declared.line.Form.TheVariants as forms
 use Rattle.flow_text.specs.Grammar.{Rest, no_more, edge, place, atom, row, line, lines_of, IsRest, solid_of, FlowFile, IsFlowFile, content_lines, IsContent, Numbered, StartsCloned, EndsCloned}
 use Rattle.flow_text.specs.TreeLimits.{own_items, all_items, of_content, file_items}
-use Rattle.flow_data.specs.declared.data.AtomKind.TheVariants.{Plain}
-use Rattle.flow_data.specs.declared.data.BoxInfo.{BoxInfo}
-use Rattle.flow_data.specs.declared.data.Flow.{Flow}
-use Rattle.flow_data.specs.declared.data.FlowsData.{FlowsData}
+use Rattle.flow_list.specs.Data.{BoxInfo, Flow, FlowsData, Plain}
 use Rattle.flow_list.specs.FileFlows.{seams_behind, first_seam, row_count, items_from, row_flow, flows_from, boxes_from, content_flows, empty_flow, flows_of}
 use Rattle.flow_data.specs.Soundness.{IsSoundAtom, IsSoundItem, IsSoundSeam, IsSoundFlow}
 use Rattle.flow_list.proofs.FileKnown.{boxes_of_lines, boxes_after, Known, past_line, past_row, boxes_of_rest}

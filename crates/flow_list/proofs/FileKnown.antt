@@ -7,8 +7,7 @@ use Rattle.flow_text.specs.declared.line.Line.{Line}
 use Rattle.flow_text.specs.declared.line.Form.{Form}
 use Rattle.flow_text.specs.declared.line.Form.TheVariants as forms
 use Rattle.flow_text.specs.Grammar.{Rest, no_more, edge, place, atom, row, line, lines_of, Numbered, StartsCloned, solid_of, EndsCloned}
-use Rattle.flow_data.specs.declared.data.BoxInfo.{BoxInfo}
-use Rattle.flow_data.specs.declared.data.FlowsData.{FlowsData}
+use Rattle.flow_list.specs.Data.{BoxInfo, FlowsData}
 use Rattle.flow_data.specs.Flows.{box_of, no_box}
 use Rattle.flow_list.specs.FileFlows.{line_boxes, boxes_from}
 
@@ -32,11 +31,6 @@ pub record Known (d : FlowsData) (boxes : List BoxInfo) (before : Option ℕ) (l
 
 -- the same from behind a line on
 pub past_line : (d : FlowsData) (boxes : List BoxInfo) (before : Option ℕ) (a : ℕ) (f : Form) (lines : List Line) → Known d boxes before (line a f ∷ lines) → Known d (boxes_after boxes f) (solid_of f) lines
-past_line d boxes before a forms.Flow lines h = record { whole = h.whole; numbered = h.numbered.1; starts = h.starts.1; ends = h.ends.1 }
-past_line d boxes before a (forms.First n w step available auto) lines h = record { whole = h.whole; numbered = h.numbered.1; starts = h.starts.1; ends = h.ends.1 }
-past_line d boxes before a (forms.Margin u) lines h = record { whole = h.whole; numbered = h.numbered.1; starts = h.starts.1; ends = h.ends.1 }
-past_line d boxes before a (forms.Solid u) lines h = record { whole = h.whole; numbered = h.numbered.1; starts = h.starts.1; ends = h.ends.1 }
-past_line d boxes before a forms.Wall lines h = record { whole = h.whole; numbered = h.numbered.1; starts = h.starts.1; ends = h.ends.1 }
 past_line d boxes before a (forms.Start number x w avoid top bottom) lines h =
     let box : BoxInfo = record { x = x; w = w; avoid = avoid; top = top; bottom = bottom } in
     let more : suc (length boxes) ≡ length (boxes ++ box ∷ []) = sym (length_push boxes box ∙ add-one (length boxes)) in
@@ -46,24 +40,11 @@ past_line d boxes before a (forms.Start number x w avoid top bottom) lines h =
       starts = h.starts.1;
       ends = subst (λ (bottoms : List ℕ). EndsCloned bottoms None lines) (sym (map_push box_bottom boxes box)) h.ends.1;
     }
-past_line d boxes before a (forms.End number) lines h = record { whole = h.whole; numbered = h.numbered.1; starts = h.starts.1; ends = h.ends.1 }
-past_line d boxes before a (forms.Atom u) lines h = record { whole = h.whole; numbered = h.numbered.1; starts = h.starts.1; ends = h.ends.1 }
-past_line d boxes before a (forms.Row n w step x) lines h = record { whole = h.whole; numbered = h.numbered.1; starts = h.starts.1; ends = h.ends.1 }
-past_line d boxes before a (forms.Break level) lines h = record { whole = h.whole; numbered = h.numbered.1; starts = h.starts.1; ends = h.ends.1 }
-past_line d boxes before a forms.Close lines h = record { whole = h.whole; numbered = h.numbered.1; starts = h.starts.1; ends = h.ends.1 }
+past_line d boxes before a _ lines h = record { whole = h.whole; numbered = h.numbered.1; starts = h.starts.1; ends = h.ends.1 }
 
 more_boxes : (boxes : List BoxInfo) (f : Form) → length boxes ≤ length (boxes_after boxes f)
-more_boxes boxes forms.Flow = omega arith
-more_boxes boxes (forms.First n w step available auto) = omega arith
-more_boxes boxes (forms.Margin u) = omega arith
-more_boxes boxes (forms.Solid u) = omega arith
-more_boxes boxes forms.Wall = omega arith
 more_boxes boxes (forms.Start number x w avoid top bottom) = omega (arith, length_push boxes (record { x = x; w = w; avoid = avoid; top = top; bottom = bottom }))
-more_boxes boxes (forms.End number) = omega arith
-more_boxes boxes (forms.Atom u) = omega arith
-more_boxes boxes (forms.Row n w step x) = omega arith
-more_boxes boxes (forms.Break level) = omega arith
-more_boxes boxes forms.Close = omega arith
+more_boxes boxes _ = omega arith
 
 -- the same from behind what is left of a row on
 pub record Behind (d : FlowsData) (boxes : List BoxInfo) (lines : List Line) : Type 0 where

@@ -68,17 +68,9 @@ neither None b h = (refl, h)
 neither (Some x) b h = absurd cc
 
 some_columns : (form : Form) (text : List ℕ) → IsForm form text → AllByRecursion (λ n. 0 < n) (columns form)
-some_columns forms.Flow text h = tt
 some_columns (forms.First n w step available auto) text h = (h.0, tt)
-some_columns (forms.Margin u) text h = tt
-some_columns (forms.Solid u) text h = tt
-some_columns forms.Wall text h = tt
-some_columns (forms.Start number x w avoid top bottom) text h = tt
-some_columns (forms.End number) text h = tt
-some_columns (forms.Atom u) text h = tt
 some_columns (forms.Row n w step x) text h = (h.0, tt)
-some_columns (forms.Break level) text h = tt
-some_columns forms.Close text h = tt
+some_columns _ text h = tt
 
 pub low_lines : (lines : List Line) (at : ℕ) (text : List ℕ) → IsText at lines text → first_long lines ≡ None → first_wide lines ≡ None → AreLowLines lines
 low_lines [] at text h long wide = tt

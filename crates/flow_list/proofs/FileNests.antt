@@ -4,9 +4,7 @@ use Rattle.std.specs.Prelude.{⊤}
 use Rattle.std.proofs.lemmas.List.Elements.{All-nil, All-cons}
 use Rattle.flow_text.specs.Grammar.{Rest, no_more, edge, place, atom, row, IsRest}
 use Rattle.flow_text.specs.TreeLimits.{depth, own_items, most_inner}
-use Rattle.flow_data.specs.declared.data.Flow.{Flow}
-use Rattle.flow_data.specs.declared.data.FlowsData.{FlowsData}
-use Rattle.flow_data.specs.declared.data.RowInfo.{RowInfo}
+use Rattle.flow_list.specs.Data.{Flow, FlowsData, RowInfo}
 use Rattle.flow_data.specs.Flows.{flow_of, row_of, flow_in, rows_in}
 use Rattle.flow_list.specs.FileFlows.{row_count, items_from, row_flow}
 use Rattle.flow_data.specs.Soundness.{IsInnerRow, NestsAtMost}

@@ -1,16 +1,15 @@
 -- Where the rows and flows of a flow file stand in its data: row k has flow k + 1, and each row stands before those within it.
-use Rattle.std.proofs.Common.{◌≡◌, ℕ, suc, ◌+◌, ◌<◌, ◌≤◌, false, List, ◌∷◌, ◌++◌, length, get_or, drop, refl, sym, ap, ◌∙◌, subst, arith, inl, inr, ◌⊎◌}
+use Rattle.std.proofs.Common.{◌≡◌, ℕ, suc, ◌+◌, ◌<◌, ◌≤◌, false, List, ◌∷◌, ◌++◌, length, drop, refl, sym, ◌∙◌, subst, arith, inl, inr, ◌⊎◌}
 use Rattle.std.specs.Prelude.{⊤}
 use Rattle.std.proofs.lemmas.Bool.{cases_lt, cases_eq}
-use Rattle.std.proofs.lemmas.List.{length-append, append_assoc, drop-drop, drop_at, get_or-drop}
+use Rattle.std.proofs.lemmas.List.{length-append, append_assoc}
 use Rattle.flow_text.specs.declared.line.Line.{Line}
 use Rattle.flow_text.specs.declared.line.Form.{Form}
 use Rattle.flow_text.specs.declared.line.Form.TheVariants as forms
 use Rattle.flow_text.specs.Grammar.{Rest, no_more, edge, place, atom, row, line, lines_of}
-use Rattle.flow_data.specs.declared.data.Flow.{Flow}
-use Rattle.flow_data.specs.declared.data.FlowsData.{FlowsData}
-use Rattle.flow_data.specs.declared.data.RowInfo.{RowInfo}
+use Rattle.flow_list.specs.Data.{Flow, FlowsData, RowInfo}
 use Rattle.flow_data.specs.Flows.{no_flow, no_row, flow_of, row_of}
+use Rattle.flow_data.proofs.Dropped.{first_at, behind_first, behind_front}
 use Rattle.flow_list.specs.FileFlows.{row_count, row_flow, rows_from, flows_from, line_boxes, boxes_from}
 
 -- ---- how many there are
@@ -95,21 +94,6 @@ ArePlaced d k (row at n w step x content ended rest) =
     × (flow_of d (suc k) ≡ row_flow (suc k) content)
     × ArePlaced d (suc k) content
     × ArePlaced d (suc k + row_count content) rest
-
-first_at : {X : Type 0} (xs ys : List X) (k : ℕ) (x d : X) → drop k xs ≡ x ∷ ys → get_or xs k d ≡ x
-first_at {X} xs ys k x d e =
-    let at : k + 0 ≡ k = omega arith in
-    let here = subst (λ (i : ℕ). get_or (drop k xs) 0 d ≡ get_or xs i d) at (get_or-drop k xs 0 d) in
-    sym here ∙ ap (λ (l : List X). get_or l 0 d) e
-
-behind_first : {X : Type 0} (xs ys : List X) (k : ℕ) (x : X) → drop k xs ≡ x ∷ ys → drop (suc k) xs ≡ ys
-behind_first {X} xs ys k x e =
-    let at : k + 1 ≡ suc k = omega arith in
-    let here = subst (λ (i : ℕ). drop 1 (drop k xs) ≡ drop i xs) at (drop-drop 1 k xs) in
-    sym here ∙ ap (λ (l : List X). drop 1 l) e
-
-behind_front : {X : Type 0} (xs front ys : List X) (k n : ℕ) → length front ≡ n → drop k xs ≡ front ++ ys → drop (k + n) xs ≡ ys
-behind_front {X} xs front ys k n len e = sym (drop-drop n k xs) ∙ ap (λ (l : List X). drop n l) e ∙ drop_at front ys n len
 
 pub are_placed : (d : FlowsData) (rest : Rest) (k : ℕ) (fs : List Flow) (rs : List RowInfo)
     → drop (suc k) d.flows ≡ flows_from k rest ++ fs → drop k d.rows ≡ rows_from k rest ++ rs → ArePlaced d k rest

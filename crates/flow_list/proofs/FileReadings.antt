@@ -13,7 +13,7 @@ use Rattle.flow_text.specs.Limits.{limit_passed}
 use Rattle.flow_text.specs.Text.{IsText}
 use Rattle.flow_text.proofs.AnswerLaws.{denied, denied_is, given, limits_ok, lines_denied}
 use Rattle.flow_text.proofs.OneFault.{no_fault_of_file}
-use Rattle.flow_data.specs.declared.data.FlowsData.{FlowsData}
+use Rattle.flow_list.specs.Data.{FlowsData}
 use Rattle.flow_list.specs.Building.{IsLow}
 use Rattle.flow_list.specs.FileFlows.{IsFile, RefusesText, flows_of, limit_of}
 use Rattle.flow_data.specs.Soundness.{IsSound}
@@ -47,9 +47,6 @@ pub read_sound : (text : List ℕ) (lines : List Line) (d : FlowsData) → lengt
 read_sound text lines d few is made =
     let f = read_file text lines is in
     subst IsSound (sym (made f.0 f.2)) (file_is_sound text f.0 few f.1 f.3)
-
-pub read_found : (text : List ℕ) (lines : List Line) (d : FlowsData) → IsRead text lines → MakesFlows lines d → (file : FlowFile) × IsFile text file × (limit_of file ≡ None) × (d ≡ flows_of file)
-read_found text lines d is made = let f = read_file text lines is in (f.0, f.1, f.3, made f.0 f.2)
 
 -- what the lines' reader promises of each flow file
 abbrev ReadsOnly : List ℕ → Result (List Line) Refusal → Type 0

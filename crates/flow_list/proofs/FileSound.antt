@@ -9,20 +9,17 @@ use Rattle.flow_text.specs.declared.line.Line.{Line}
 use Rattle.flow_text.specs.declared.line.Form.TheVariants as forms
 use Rattle.flow_text.specs.Grammar.{Rest, no_more, line, FlowFile, content_lines, IsContent}
 use Rattle.flow_text.specs.TreeLimits.{depth, all_items, most_inner, of_content}
-use Rattle.flow_data.specs.declared.data.Bound.{Bound}
-use Rattle.flow_data.specs.declared.data.BoxInfo.{BoxInfo}
-use Rattle.flow_data.specs.declared.data.FlowsData.{FlowsData}
-use Rattle.flow_data.specs.declared.data.RowInfo.{RowInfo}
-use Rattle.flow_data.specs.declared.data.Stack.{Stack}
+use Rattle.flow_list.specs.Data.{Bound, BoxInfo, FlowsData, RowInfo, Stack}
 use Rattle.flow_data.specs.Flows.{flow_in, rows_in}
 use Rattle.flow_list.specs.FileFlows.{IsFile, limit_of, flows_of, outer_flow, row_count, row_flow, rows_from, flows_from, boxes_from, bound_of, content_flows, content_rows, content_boxes}
 use Rattle.flow_data.specs.Soundness.{count_of, flow_height, flow_owners, IsSoundFlow, IsSoundRow, IsInnerRow, NestsAtMost, flows_within, IsSoundStack, IsSound}
+use Rattle.flow_data.proofs.Counts.{count-append, times_in, times-cons}
 use Rattle.flow_list.proofs.OuterFlow.{outer_sound, each_of_one}
 use Rattle.flow_list.proofs.FileFlowSound.{content_flows_all}
 use Rattle.flow_list.proofs.FileLimits.{IsLow, IsLowContent, IsWithinLimits, file_within_limits}
 use Rattle.flow_list.proofs.FileFlowSound.{content_flows_all}
 use Rattle.flow_list.proofs.FilePlaces.{length-flows, length-rows, line_total, length-lines, row-lines, box-lines, ArePlaced, are_placed, ForRows, for_each}
-use Rattle.flow_list.proofs.FileNumbers.{times_in, count-cons, count-append, own_rows, count-rows_in, flow_numbers, count-flow_numbers}
+use Rattle.flow_list.proofs.FileNumbers.{own_rows, count-rows_in, flow_numbers, count-flow_numbers}
 use Rattle.flow_list.proofs.FileNests.{length-items, nests, all_nest, HaveItems, have_items, inner, all_inner}
 use Rattle.flow_list.proofs.FileSums.{items_of, sum-items, IsLowBox, low_boxes, flow-heights}
 use Rattle.flow_list.proofs.FileAcross.{IsPlainFlow, outer_plain, all_plain, no_stacks_named, no_stacks_within, IsNearRow, near_rows, sound_rows, across}
@@ -83,15 +80,15 @@ flow_once j n lt = omega arith
 row_belongs : (f : First) (rest : Rest) (j : ℕ) → j < suc (row_count rest) → count_of j (flat_map rows_in (data_of f rest).flows) ≡ 1
 row_belongs f rest j lt =
     let inner = flat_map rows_in (flows_from 1 rest) in
-    count-cons j 0 (own_rows 1 rest ++ inner)
+    times-cons j 0 (own_rows 1 rest ++ inner)
     ∙ ap (λ (n : ℕ). times_in j 0 1 + n) (count-append j (own_rows 1 rest) inner ∙ count-rows_in j rest 1)
     ∙ row_once j (row_count rest) lt
 
 flow_belongs : (f : First) (rest : Rest) (j : ℕ) → j < suc (suc (row_count rest)) → count_of j (flow_owners (data_of f rest)) ≡ 1
 flow_belongs f rest j lt =
     let numbers = flow_numbers (rows_from 1 rest) in
-    let last : count_of j (0 ∷ []) ≡ times_in j 0 1 = count-cons j 0 [] ∙ plus_none (times_in j 0 1) in
-    count-cons j 1 (numbers ++ 0 ∷ [])
+    let last : count_of j (0 ∷ []) ≡ times_in j 0 1 = times-cons j 0 [] ∙ plus_none (times_in j 0 1) in
+    times-cons j 1 (numbers ++ 0 ∷ [])
     ∙ ap (λ (n : ℕ). times_in j 1 1 + n) (count-append j numbers (0 ∷ []) ∙ both _ _ _ _ (count-flow_numbers j rest 1) last)
     ∙ flow_once j (row_count rest) lt
   where
@@ -188,10 +185,6 @@ same_data : (f : First) (content : Option Rest)
     → data_of f (rest_of content) ≡ record { flows = outer_flow ∷ content_flows content; rows = row_0 f ∷ content_rows content; boxes = content_boxes content; stacks = stack_0 f ∷ [] }
 same_data f None = refl
 same_data f (Some rest) = refl
-
-same_flows : (content : Option Rest) → content_flows content ≡ row_flow 1 (rest_of content) ∷ flows_from 1 (rest_of content)
-same_flows None = refl
-same_flows (Some rest) = refl
 
 low_rest : (content : Option Rest) → IsLowContent content → IsLow (rest_of content)
 low_rest None h = tt

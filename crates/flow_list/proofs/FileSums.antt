@@ -10,14 +10,7 @@ use Rattle.flow_text.specs.declared.line.Form.TheVariants as forms
 use Rattle.flow_text.specs.Grammar.{Rest, no_more, edge, place, atom, row}
 use Rattle.flow_text.specs.Limits.{numbers}
 use Rattle.flow_text.specs.TreeLimits.{own_items, all_items}
-use Rattle.flow_data.specs.declared.data.AtomKind.TheVariants.{Plain}
-use Rattle.flow_data.specs.declared.data.BoxInfo.{BoxInfo}
-use Rattle.flow_data.specs.declared.data.Edge.{Edge}
-use Rattle.flow_data.specs.declared.data.Flow.{Flow}
-use Rattle.flow_data.specs.declared.data.FlowsData.{FlowsData}
-use Rattle.flow_data.specs.declared.data.Item.TheVariants.{Atom, Row}
-use Rattle.flow_data.specs.declared.data.RowInfo.{RowInfo}
-use Rattle.flow_data.specs.declared.data.Seam.{Seam}
+use Rattle.flow_list.specs.Data.{BoxInfo, Edge, Flow, FlowsData, RowInfo, Seam, Plain, Atom, Row}
 use Rattle.flow_data.specs.Flows.{no_box, flow_of, box_of, atom_height, amount, started, starts_in}
 use Rattle.flow_list.specs.FileFlows.{line_edges, edges_before, edges_behind, seam_behind, seams_behind, first_seam, row_count, items_from, row_flow, rows_from, flows_from, line_boxes, boxes_from}
 use Rattle.flow_data.specs.Soundness.{flow_height}
@@ -53,18 +46,9 @@ abbrev pub IsLowBox : BoxInfo → Type 0
 IsLowBox b = (b.x ≤ 2 ^ 24) × (b.w ≤ 2 ^ 24) × (b.top ≤ 2 ^ 24) × (b.bottom ≤ 2 ^ 24)
 
 low_box : (form : Form) → AreLow (numbers form) → All IsLowBox (line_boxes form)
-low_box forms.Flow h = All-nil _
-low_box (forms.First n w step available auto) h = All-nil _
-low_box (forms.Margin u) h = All-nil _
-low_box (forms.Solid u) h = All-nil _
-low_box forms.Wall h = All-nil _
 low_box (forms.Start number x w avoid top bottom) h =
     All-cons IsLowBox (record { x = x; w = w; avoid = avoid; top = top; bottom = bottom }) [] (h.1.0, h.1.1.0, h.1.1.1.0, h.1.1.1.1.0) (All-nil _)
-low_box (forms.End number) h = All-nil _
-low_box (forms.Atom u) h = All-nil _
-low_box (forms.Row n w step x) h = All-nil _
-low_box (forms.Break level) h = All-nil _
-low_box forms.Close h = All-nil _
+low_box _ h = All-nil _
 
 pub low_boxes : (rest : Rest) → IsLow rest → All IsLowBox (boxes_from rest)
 low_boxes no_more h = All-nil _
@@ -124,30 +108,13 @@ flow-height d k content =
 
 -- the line of an edge
 edge_amount : (form : Form) → AreLow (numbers form) → sum_by amount (line_edges form) ≤ 2 ^ 24
-edge_amount forms.Flow h = omega arith
-edge_amount (forms.First n w step available auto) h = omega arith
 edge_amount (forms.Margin u) h = omega (arith, h.0)
 edge_amount (forms.Solid u) h = omega (arith, h.0)
-edge_amount forms.Wall h = omega arith
-edge_amount (forms.Start number x w avoid top bottom) h = omega arith
-edge_amount (forms.End number) h = omega arith
-edge_amount (forms.Atom u) h = omega arith
-edge_amount (forms.Row n w step x) h = omega arith
-edge_amount (forms.Break level) h = omega arith
-edge_amount forms.Close h = omega arith
+edge_amount _ h = omega arith
 
 edge_cloned : (d : FlowsData) (form : Form) → All IsLowBox d.boxes → sum_by (cloned_at d) (line_edges form) ≤ 2 ^ 25
-edge_cloned d forms.Flow low = omega arith
-edge_cloned d (forms.First n w step available auto) low = omega arith
-edge_cloned d (forms.Margin u) low = omega arith
-edge_cloned d (forms.Solid u) low = omega arith
-edge_cloned d forms.Wall low = omega arith
 edge_cloned d (forms.Start number x w avoid top bottom) low = let b = box_is_low d low number in omega (arith, b.2, b.3)
-edge_cloned d (forms.End number) low = omega arith
-edge_cloned d (forms.Atom u) low = omega arith
-edge_cloned d (forms.Row n w step x) low = omega arith
-edge_cloned d (forms.Break level) low = omega arith
-edge_cloned d forms.Close low = omega arith
+edge_cloned d _ low = omega arith
 
 edge_sum-edge : (g : Edge → ℕ) (edges : List Edge) (rest : Rest) → sum_by g (edges ++ edges_before rest) + sum_by g (edges_behind rest) + sum_by (seam_sum g) (seams_behind rest) ≡ sum_by g edges + edge_sum g rest
 edge_sum-edge g edges rest = omega (arith, sum_by-append g edges (edges_before rest))

@@ -7,10 +7,7 @@ use Rattle.std.proofs.lemmas.Bool.{le-ltb, cases_lt, cases_order}
 use Rattle.std.proofs.lemmas.Bool.Decides.{nat_tests}
 use Rattle.std.proofs.lemmas.List.{drop-drop, get_or-drop}
 use Rattle.std.proofs.lemmas.List.Sums.{sum_by-cons, sum_by-append}
-use Rattle.flow_data.specs.declared.data.Item.{Item}
-use Rattle.flow_data.specs.declared.data.Seam.{Seam}
-use Rattle.flow_data.specs.declared.data.Flow.{Flow}
-use Rattle.flow_data.specs.declared.data.FlowsData.{FlowsData}
+use Rattle.flow_list.specs.Data.{Flow, FlowsData, Item, Seam}
 use Rattle.flow_data.specs.Flows.{item_of, seam_of, box_of, row_of, flow_in, no_item, no_seam, amount, starts_in, ended, is_among, open_at, boxes_in}
 use Rattle.flow_list.specs.Strip.{Strip, strip_at, put, lay_all}
 use Rattle.flow_list.specs.Tokens.{Token, row_start, item_number, within, is_end}
@@ -42,9 +39,6 @@ first-height inner q [] k = nil k
     nil (suc k) = rw add-one refl
 first-height inner q (x ∷ xs) zero = refl
 first-height inner q (x ∷ xs) (suc k) = rw add-one (rw add-one at (first-height inner q xs k))
-
-seam_total : Seam → ℕ
-seam_total s = sum_by amount s.tail + sum_by amount s.head
 
 pub first-amounts : (seams : List Seam) (k : ℕ) → amounts_in (drop k seams) ≡ sum_by amount (get_or seams k no_seam).tail + sum_by amount (get_or seams k no_seam).head + amounts_in (drop (k + 1) seams)
 first-amounts [] k = nil k
@@ -152,10 +146,6 @@ forced_above-none f k lt h =
     let n : length f.items - k - 1 ≡ suc (length f.items - (k + 1) - 1) = omega arith in
     ap (λ m. forced_in m (drop (k + 1) f.seams)) n ∙ forced_in-no (length f.items - (k + 1) - 1) (drop (k + 1) f.seams) (rw (first-drop (k + 1) f.seams) h)
     ∙ ap (λ seams. forced_in (length f.items - (k + 1) - 1) seams) (drop-one k f.seams)
-
--- none is above the last item
-pub forced_above-last : (f : Flow) (k : ℕ) → length f.items ≤ k + 1 → forced_above f k ≡ 0
-forced_above-last f k le = let n : length f.items - k - 1 ≡ 0 = omega arith in rw n refl
 
 pub forced_above-falls : (f : Flow) (k : ℕ) → forced_above f (k + 1) ≤ forced_above f k
 forced_above-falls f k = go (cases_lt (k + 1) (length f.items))

@@ -1,5 +1,6 @@
 pub mod AtomFlows
 pub mod Built
+pub mod ColumnParts
 pub mod FileAcross
 pub mod FileFlowSound
 pub mod FileKnown

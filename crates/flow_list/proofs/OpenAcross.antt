@@ -6,9 +6,7 @@ use Rattle.std.specs.List.{flat_map}
 use Rattle.std.proofs.lemmas.Grind.{flat_map-append}
 use Rattle.std.proofs.lemmas.List.{append-nil, take_more}
 use Rattle.std.proofs.lemmas.List.Sums.{sum_by-append}
-use Rattle.flow_data.specs.declared.data.Seam.{Seam}
-use Rattle.flow_data.specs.declared.data.Flow.{Flow}
-use Rattle.flow_data.specs.declared.data.FlowsData.{FlowsData}
+use Rattle.flow_list.specs.Data.{Flow, FlowsData, Seam}
 use Rattle.flow_data.specs.Flows.{seam_of, no_seam, started, starts_in, ended, ends_in, open_at}
 use Rattle.flow_data.specs.Soundness.{count_of, IsSoundFlow}
 use Rattle.flow_data.proofs.OpenBoxes.{at-sum, at-sum-first, has-count, in-range, open-once, sum-less, tail-within}

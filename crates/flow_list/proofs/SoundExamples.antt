@@ -3,14 +3,7 @@ use Rattle.std.proofs.Common.{◌≡◌, ℕ, zero, suc, ◌+◌, ◌-◌, ◌^�
 use Rattle.std.specs.Prelude.{slice_get, SomeIndex, Contains}
 use Rattle.std.proofs.lemmas.List.Elements.{All-from_recursion, All-nil}
 use Rattle.mc_base.specs.declared.level.Level.TheVariants.{L0}
-use Rattle.flow_data.specs.declared.data.AtomKind.TheVariants.{Line}
-use Rattle.flow_data.specs.declared.data.Bound.TheVariants.{Free}
-use Rattle.flow_data.specs.declared.data.BoxInfo.{BoxInfo}
-use Rattle.flow_data.specs.declared.data.Edge.{Edge}
-use Rattle.flow_data.specs.declared.data.Edge.TheVariants.{Margin, Solid, Start, End}
-use Rattle.flow_data.specs.declared.data.FlowsData.{FlowsData}
-use Rattle.flow_data.specs.declared.data.Item.TheVariants.{Atom, Row}
-use Rattle.flow_data.specs.declared.data.Seam.{Seam}
+use Rattle.flow_list.specs.Data.{BoxInfo, Edge, FlowsData, Seam, Line, Free, Margin, Solid, Start, End, Atom, Row}
 use Rattle.flow_data.specs.Flows.{no_seam, no_flow, flow_of, row_of, box_of, open_at}
 use Rattle.flow_data.specs.Soundness.{IsSoundItem, IsSoundSeam, IsSoundFlow, IsSoundRow, IsSoundStack, IsSound, NestsAtMost, Held, FitsAcross, item_x}
 use Rattle.flow_list.proofs.OuterFlow.{outer_sound, each_of_one, each_of_two, all_from_one}

@@ -2,8 +2,7 @@
 use Rattle.std.proofs.Common.{◌≡◌, true, false, [], ◌∷◌, refl, Some, None}
 use Rattle.mc_base.specs.declared.level.Level.{Level}
 use Rattle.mc_base.specs.declared.level.Level.TheVariants.{Forced, L0, L1, L2}
-use Rattle.flow_data.specs.declared.data.Edge.TheVariants.{Margin, Solid, Start, End}
-use Rattle.flow_data.specs.declared.data.FlowsData.{FlowsData}
+use Rattle.flow_list.specs.Data.{FlowsData, Margin, Solid, Start, End}
 use Rattle.flow_list.proofs.WorkedParts.{atom, seam, bare, flow, flows, one_row, ends_at, fit, height, ends}
 
 -- six items of 20 in three columns

@@ -1,9 +1,7 @@
 -- Worked cases of boxes that have their border and padding again at each break.
 use Rattle.std.proofs.Common.{◌≡◌, true, false, [], ◌∷◌, refl, None}
 use Rattle.mc_base.specs.declared.level.Level.TheVariants.{L0}
-use Rattle.flow_data.specs.declared.data.BoxInfo.{BoxInfo}
-use Rattle.flow_data.specs.declared.data.Edge.TheVariants.{Solid, Start, End}
-use Rattle.flow_data.specs.declared.data.FlowsData.{FlowsData}
+use Rattle.flow_list.specs.Data.{BoxInfo, FlowsData, Solid, Start, End}
 use Rattle.flow_list.proofs.WorkedParts.{atom, seam, bare, flow, row, flows, box, height, ends, fit, column_from}
 
 -- two items of 20 in a box with 5 above and 10 below

@@ -4,10 +4,7 @@ use Rattle.mc_base.specs.declared.level.Level.TheVariants.{Forced, L0, L1}
 use Rattle.flow_text.specs.declared.line.Form.TheVariants as forms
 use Rattle.flow_text.specs.Grammar.{Rest, no_more, edge, place, atom, row, line, IsRest, FlowFile, IsFlowFile, file_lines}
 use Rattle.flow_text.specs.Limits.{limit_passed}
-use Rattle.flow_data.specs.declared.data.Bound.TheVariants.{Free, Each}
-use Rattle.flow_data.specs.declared.data.Edge.TheVariants.{Margin, Solid, Wall, Start, End}
-use Rattle.flow_data.specs.declared.data.Item.TheVariants.{Row}
-use Rattle.flow_data.specs.declared.data.RowInfo.{RowInfo}
+use Rattle.flow_list.specs.Data.{RowInfo, Free, Each, Margin, Solid, Wall, Start, End, Row}
 use Rattle.flow_list.specs.FileFlows.{flows_of, limit_of, outer_flow}
 use Rattle.flow_list.proofs.WorkedParts as parts
 use Rattle.flow_list.proofs.WorkedParts.{seam, bare, flow}

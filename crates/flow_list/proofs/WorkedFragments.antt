@@ -2,8 +2,7 @@
 use Rattle.std.proofs.Common.{◌≡◌, ℕ, true, false, List, [], ◌∷◌, refl, Option, Some, None}
 use Rattle.mc_base.specs.declared.level.Level.TheVariants.{L0}
 use Rattle.mc_base.specs.PlainTree.{PlainTree, plain_trees, atom as atom_tree, piece, column as column_tree}
-use Rattle.flow_data.specs.declared.data.Edge.TheVariants.{Solid, Start, End}
-use Rattle.flow_data.specs.declared.data.FlowsData.{FlowsData}
+use Rattle.flow_list.specs.Data.{FlowsData, Solid, Start, End}
 use Rattle.flow_data.specs.Flows.{flow_in}
 use Rattle.flow_list.specs.Tokens.{Token}
 use Rattle.flow_list.specs.Column.{column, steps, endless_column}

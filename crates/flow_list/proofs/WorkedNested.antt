@@ -2,11 +2,7 @@
 use Rattle.std.proofs.Common.{◌≡◌, ℕ, true, false, List, [], ◌∷◌, refl, Option, Some, None}
 use Rattle.mc_base.specs.declared.level.Level.{Level}
 use Rattle.mc_base.specs.declared.level.Level.TheVariants.{Forced, L0, L1, L2}
-use Rattle.flow_data.specs.declared.data.Edge.{Edge}
-use Rattle.flow_data.specs.declared.data.Edge.TheVariants.{Margin, Solid, Start, End}
-use Rattle.flow_data.specs.declared.data.FlowsData.{FlowsData}
-use Rattle.flow_data.specs.declared.data.Item.{Item}
-use Rattle.flow_data.specs.declared.data.Item.TheVariants.{Row}
+use Rattle.flow_list.specs.Data.{Edge, FlowsData, Item, Margin, Solid, Start, End, Row}
 use Rattle.flow_list.specs.Column.{ColumnLine}
 use Rattle.flow_list.proofs.WorkedParts.{atom, seam, bare, flow, row, box, flows, size, ends_at, height, ends, fit, column_from}
 

@@ -2,16 +2,7 @@
 use Rattle.std.specs.Prelude.{ℕ, Bool, false, List, [], ◌∷◌, Option, Some, map}
 use Rattle.mc_base.specs.declared.level.Level.{Level}
 use Rattle.mc_base.specs.declared.level.Level.TheVariants.{L0}
-use Rattle.flow_data.specs.declared.data.AtomKind.TheVariants.{Plain}
-use Rattle.flow_data.specs.declared.data.Bound.TheVariants.{Free, Each}
-use Rattle.flow_data.specs.declared.data.BoxInfo.{BoxInfo}
-use Rattle.flow_data.specs.declared.data.Edge.{Edge}
-use Rattle.flow_data.specs.declared.data.Flow.{Flow}
-use Rattle.flow_data.specs.declared.data.FlowsData.{FlowsData}
-use Rattle.flow_data.specs.declared.data.Item.{Item}
-use Rattle.flow_data.specs.declared.data.Item.TheVariants.{Atom, Row}
-use Rattle.flow_data.specs.declared.data.RowInfo.{RowInfo}
-use Rattle.flow_data.specs.declared.data.Seam.{Seam}
+use Rattle.flow_list.specs.Data.{BoxInfo, Edge, Flow, FlowsData, Item, RowInfo, Seam, Plain, Free, Each, Atom, Row}
 use Rattle.flow_list.specs.Tokens.{Token}
 use Rattle.flow_data.specs.Flows.{flow_in}
 use Rattle.flow_list.specs.Column.{Column, column, steps, endless_column}

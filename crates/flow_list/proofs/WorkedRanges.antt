@@ -1,9 +1,7 @@
 -- Worked cases of the ranges of heights that don't fit, with their reasons and columns.
 use Rattle.std.proofs.Common.{◌≡◌, ℕ, true, false, List, [], ◌∷◌, refl, Option, Some, None}
 use Rattle.mc_base.specs.declared.level.Level.TheVariants.{Forced, L0, L1, L2}
-use Rattle.flow_data.specs.declared.data.Edge.TheVariants.{Margin, Solid, Start, End}
-use Rattle.flow_data.specs.declared.data.FlowsData.{FlowsData}
-use Rattle.flow_data.specs.declared.data.Item.TheVariants.{Row}
+use Rattle.flow_list.specs.Data.{FlowsData, Margin, Solid, Start, End, Row}
 use Rattle.flow_list.specs.Tokens.{Token}
 use Rattle.flow_list.specs.Column.{ColumnLine, column, steps, endless_column}
 use Rattle.flow_list.specs.Ranges.{Range, Reason, tall, area, left, bad, over, judged, searched, ranges}

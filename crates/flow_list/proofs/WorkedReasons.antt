@@ -2,8 +2,7 @@
 use Rattle.std.proofs.Common.{ℕ, ◌≤◌, ◌≡◌, false, [], ◌∷◌, refl, arith}
 use Rattle.std.proofs.lemmas.List.Elements.{All-from_recursion}
 use Rattle.mc_base.specs.declared.level.Level.TheVariants.{L0, L1, L2}
-use Rattle.flow_data.specs.declared.data.Edge.TheVariants.{Margin, Solid, Start, End}
-use Rattle.flow_data.specs.declared.data.FlowsData.{FlowsData}
+use Rattle.flow_list.specs.Data.{FlowsData, Margin, Solid, Start, End}
 use Rattle.flow_data.specs.Flows.{flow_in}
 use Rattle.flow_list.specs.Tokens.{Token}
 use Rattle.flow_list.specs.Column.{Column, column, steps}

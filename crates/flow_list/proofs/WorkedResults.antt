@@ -2,12 +2,7 @@
 use Rattle.std.proofs.Common.{◌≡◌, ℕ, true, false, List, [], ◌∷◌, refl, Some}
 use Rattle.std.specs.Prelude.{codes}
 use Rattle.mc_base.specs.declared.level.Level.TheVariants.{L0, L1}
-use Rattle.flow_data.specs.declared.data.AtomKind.TheVariants.{Line, Bounded}
-use Rattle.flow_data.specs.declared.data.Bound.TheVariants.{Free, Left}
-use Rattle.flow_data.specs.declared.data.BoxInfo.{BoxInfo}
-use Rattle.flow_data.specs.declared.data.Edge.TheVariants.{Wall, Start, End}
-use Rattle.flow_data.specs.declared.data.FlowsData.{FlowsData}
-use Rattle.flow_data.specs.declared.data.Item.TheVariants.{Atom, Row}
+use Rattle.flow_list.specs.Data.{BoxInfo, FlowsData, Line, Bounded, Free, Left, Wall, Start, End, Atom, Row}
 use Rattle.flow_list.specs.ResultText.{result_lines}
 use Rattle.flow_list.specs.Stacks.{available_at}
 use Rattle.flow_list.proofs.WorkedCertificates.{certified}

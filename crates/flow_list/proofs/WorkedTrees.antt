@@ -3,9 +3,7 @@ use Rattle.std.proofs.Common.{◌≡◌, ℕ, true, false, List, [], ◌∷◌, 
 use Rattle.std.specs.Prelude.{codes}
 use Rattle.std.specs.Fmt.{digits}
 use Rattle.mc_base.specs.declared.level.Level.TheVariants.{Forced, L0, L2}
-use Rattle.flow_data.specs.declared.data.Edge.TheVariants.{Margin, Solid, Start, End}
-use Rattle.flow_data.specs.declared.data.FlowsData.{FlowsData}
-use Rattle.flow_data.specs.declared.data.Item.TheVariants.{Row}
+use Rattle.flow_list.specs.Data.{FlowsData, Margin, Solid, Start, End, Row}
 use Rattle.flow_list.specs.Column.{column, steps, endless_column}
 use Rattle.flow_list.specs.Rows.{columns_by, fits, least, size_in, fill_in, rows_to, all_rows}
 use Rattle.flow_list.specs.RowHeights.{size_of, height_fits, row_columns, row_height, columns_of_row}

@@ -1,8 +1,6 @@
 -- Flows of atoms alone.
 use Rattle.std.specs.Prelude.{All}
-use Rattle.flow_data.specs.declared.data.Flow.{Flow}
-use Rattle.flow_data.specs.declared.data.Item.{Item}
-use Rattle.flow_data.specs.declared.data.Item.TheVariants.{Atom, Row}
+use Rattle.flow_list.specs.Data.{Flow, Item, Atom, Row}
 
 abbrev pub IsAtom : Item → Type 0
 IsAtom (Atom height kind) = Unit {0}

@@ -8,15 +8,7 @@ use Rattle.flow_text.specs.declared.line.Form.TheVariants as forms
 use Rattle.flow_text.specs.Limits.{numbers}
 use Rattle.flow_list.specs.declared.build.OpenRow.{OpenRow}
 use Rattle.flow_list.specs.declared.build.Parts.{Parts}
-use Rattle.flow_data.specs.declared.data.AtomKind.TheVariants.{Plain}
-use Rattle.flow_data.specs.declared.data.BoxInfo.{BoxInfo}
-use Rattle.flow_data.specs.declared.data.Edge.{Edge}
-use Rattle.flow_data.specs.declared.data.Edge.TheVariants.{Margin, Solid, Wall, Start, End}
-use Rattle.flow_data.specs.declared.data.Flow.{Flow}
-use Rattle.flow_data.specs.declared.data.FlowsData.{FlowsData}
-use Rattle.flow_data.specs.declared.data.Item.{Item}
-use Rattle.flow_data.specs.declared.data.Item.TheVariants.{Atom, Row}
-use Rattle.flow_data.specs.declared.data.Seam.{Seam}
+use Rattle.flow_list.specs.Data.{BoxInfo, Edge, Flow, FlowsData, Item, Seam, Plain, Margin, Solid, Wall, Start, End, Atom, Row}
 use Rattle.flow_list.specs.FileFlows.{bound_of, outer_flow}
 use Rattle.flow_data.specs.Flows.{no_flow, no_seam}
 

@@ -1,8 +1,7 @@
 -- The border and padding that open boxes have again at a break (`box-decoration-break: clone`, CSS Fragmentation 3,
 -- section 5.4).
 use Rattle.std.specs.Prelude.{ℕ, zero, suc, not, List, filter, sum_by}
-use Rattle.flow_data.specs.declared.data.Flow.{Flow}
-use Rattle.flow_data.specs.declared.data.FlowsData.{FlowsData}
+use Rattle.flow_list.specs.Data.{Flow, FlowsData}
 use Rattle.flow_data.specs.Flows.{box_of, seam_of, ended, open_at, is_among}
 use Rattle.std.specs.List.{flat_map, list_any}
 use Rattle.std.specs.Prelude.{Bool}

@@ -14,36 +14,19 @@ use Rattle.flow_text.specs.Faults.{IsFirstFault}
 use Rattle.flow_text.specs.Grammar.{Rest, no_more, edge, place, atom, row, FlowFile, IsFlowFile, file_lines}
 use Rattle.flow_text.specs.Limits.{limit_passed}
 use Rattle.flow_text.specs.Text.{IsText}
-use Rattle.flow_data.specs.declared.data.AtomKind.TheVariants.{Plain}
-use Rattle.flow_data.specs.declared.data.Bound.{Bound}
-use Rattle.flow_data.specs.declared.data.Bound.TheVariants.{Free, Each}
-use Rattle.flow_data.specs.declared.data.BoxInfo.{BoxInfo}
-use Rattle.flow_data.specs.declared.data.Edge.{Edge}
-use Rattle.flow_data.specs.declared.data.Edge.TheVariants.{Margin, Solid, Wall, Start, End}
-use Rattle.flow_data.specs.declared.data.Flow.{Flow}
-use Rattle.flow_data.specs.declared.data.FlowsData.{FlowsData}
-use Rattle.flow_data.specs.declared.data.Item.{Item}
-use Rattle.flow_data.specs.declared.data.Item.TheVariants.{Atom, Row}
-use Rattle.flow_data.specs.declared.data.RowInfo.{RowInfo}
-use Rattle.flow_data.specs.declared.data.Seam.{Seam}
-use Rattle.flow_data.specs.declared.data.Stack.{Stack}
+use Rattle.flow_list.specs.Data.{Bound, BoxInfo, Edge, Flow, FlowsData, Item, RowInfo, Seam, Stack, Plain, Free, Each, Margin, Solid, Wall, Start, End, Atom, Row}
 use Rattle.flow_data.specs.Flows.{no_seam}
 
 -- ---- seams
 
 -- the edge that a line is
 abbrev pub line_edges : Form → List Edge
-line_edges forms.Flow = []
-line_edges (forms.First n w step available auto) = []
 line_edges (forms.Margin u) = Margin u ∷ []
 line_edges (forms.Solid u) = Solid u ∷ []
 line_edges forms.Wall = Wall ∷ []
 line_edges (forms.Start number x w avoid top bottom) = Start number ∷ []
 line_edges (forms.End number) = End number ∷ []
-line_edges (forms.Atom u) = []
-line_edges (forms.Row n w step x) = []
-line_edges (forms.Break level) = []
-line_edges forms.Close = []
+line_edges _ = []
 
 -- the edges before the next break place or item
 abbrev pub edges_before : Rest → List Edge
@@ -128,17 +111,8 @@ flows_from k (row at n w step x content ended rest) =
 -- ---- boxes, in the order of their starts
 
 abbrev pub line_boxes : Form → List BoxInfo
-line_boxes forms.Flow = []
-line_boxes (forms.First n w step available auto) = []
-line_boxes (forms.Margin u) = []
-line_boxes (forms.Solid u) = []
-line_boxes forms.Wall = []
 line_boxes (forms.Start number x w avoid top bottom) = record { x = x; w = w; avoid = avoid; top = top; bottom = bottom } ∷ []
-line_boxes (forms.End number) = []
-line_boxes (forms.Atom u) = []
-line_boxes (forms.Row n w step x) = []
-line_boxes (forms.Break level) = []
-line_boxes forms.Close = []
+line_boxes _ = []
 
 abbrev pub boxes_from : Rest → List BoxInfo
 boxes_from no_more = []

@@ -1,5 +1,5 @@
--- What is told of columns that were made one after another at a height: of those that a fold makes, and of those of a fill (this project's
--- own).
+-- What is told of columns that were made one after another at a height: of those that a fold makes, and of those of a fill (this
+-- project's own).
 use Rattle.std.specs.Prelude.{ℕ, ◌-◌, min, Bool, List, [], ◌∷◌, length, fold, Option, Some, None}
 use Rattle.flow_data.specs.declared.data.Flow.{Flow}
 use Rattle.flow_data.specs.declared.data.FlowsData.{FlowsData}
@@ -15,9 +15,9 @@ abbrev pub shortage : ℕ → List ℕ → Option ℕ
 shortage h [] = None
 shortage h (b ∷ bs) = Some (fold min b bs - h)
 
--- How many columns there are, where they end and whether that is the flow's end, whether they reach it and none breaks a rule, and whether one
--- of them ended at a break that wasn't forced. Then the greatest level, whether one overflows, the greatest extent; and up to the first
--- that overflows the shortage of their bounds and their lines.
+-- How many columns there are, where they end and whether that is the flow's end, whether they reach it and none breaks a rule,
+-- and whether one of them ended at a break that wasn't forced. Then the greatest level, whether one overflows, the greatest
+-- extent; and up to the first that overflows the shortage of their bounds and their lines.
 pub record Folded : Type 0 where
   pub columns : ℕ
   pub end : Token

@@ -1,11 +1,7 @@
 -- The fragment of a column: what stands in it, box within box, with its place from the column's top (CSS Fragmentation 3, section 2).
 use Rattle.std.specs.Prelude.{ℕ, zero, suc, ◌+◌, ◌-◌, ◌==◌, Bool, true, false, cond, not, ◌||◌, ◌&&◌, List, [], ◌∷◌, ◌++◌, length, nat_lt, Option, Some, None, is_some}
 use Rattle.mc_base.specs.PlainTree.{PlainTree, plain_trees, atom as atom_tree, piece, row_piece, column as column_tree}
-use Rattle.flow_data.specs.declared.data.Bound.{Bound}
-use Rattle.flow_data.specs.declared.data.Flow.{Flow}
-use Rattle.flow_data.specs.declared.data.FlowsData.{FlowsData}
-use Rattle.flow_data.specs.declared.data.Item.{Item}
-use Rattle.flow_data.specs.declared.data.Item.TheVariants.{Atom, Row}
+use Rattle.flow_list.specs.Data.{Bound, Flow, FlowsData, Item, Atom, Row}
 use Rattle.flow_data.specs.Flows.{box_of, row_of, flow_of, flow_in, stack_of, item_of, seam_of, open_at}
 use Rattle.flow_list.specs.ClonedEdges.{open_across, tops}
 use Rattle.flow_list.specs.Tokens.{Token, row_start, item_number, within}

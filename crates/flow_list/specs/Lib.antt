@@ -5,6 +5,7 @@ pub mod Certificate
 pub mod ClonedEdges
 pub mod Column
 pub mod Counts
+pub mod Data
 pub mod FileFlows
 pub mod Folds
 pub mod Fragments

@@ -2,8 +2,7 @@
 -- 8.3.1, leaves the place of boxes within collapsed margins to a rule of its own; that they stand at the gap's end is this project's own).
 use Rattle.std.specs.Prelude.{ℕ, zero, suc, ◌+◌, ◌==◌, max, Bool, true, false, cond, not, ◌||◌, List, [], ◌∷◌, ◌++◌, Option}
 use Rattle.std.specs.List.{list_any}
-use Rattle.flow_data.specs.declared.data.Edge.{Edge}
-use Rattle.flow_data.specs.declared.data.Edge.TheVariants.{Margin, Solid, Wall, Start, End}
+use Rattle.flow_list.specs.Data.{Edge, Margin, Solid, Wall, Start, End}
 use Rattle.flow_list.specs.Strip.{Strip, lay}
 use Rattle.flow_list.specs.Tokens.{Token}
 
@@ -73,13 +72,9 @@ greatest_margin (row r ∷ xs) = greatest_margin xs
 
 -- whether a box starts among these
 abbrev pub opens_here : ℕ → Laid → Bool
-opens_here b (margin m) = false
-opens_here b (solid a) = false
 opens_here b wall = false
 opens_here b (opens c) = c == b
-opens_here b (closes c) = false
-opens_here b (atom k height) = false
-opens_here b (row r) = false
+opens_here b _ = false
 
 abbrev pub opens_among : ℕ → List Laid → Bool
 opens_among b xs = list_any (opens_here b) xs

@@ -2,10 +2,7 @@
 -- balanced columns open).
 use Rattle.std.specs.Prelude.{◌≡◌, ℕ, zero, suc, ◌+◌, ◌-◌, ◌*◌, ◌/◌, ◌<◌, ◌≤◌, max, min, Bool, true, false, cond, List, [], ◌∷◌, ◌++◌, length, drop, nat_lt, nat_le, fold, sum_by, Option, Some, None, IfSome, All}
 use Rattle.std.specs.List.{flat_map}
-use Rattle.flow_data.specs.declared.data.Flow.{Flow}
-use Rattle.flow_data.specs.declared.data.FlowsData.{FlowsData}
-use Rattle.flow_data.specs.declared.data.Item.{Item}
-use Rattle.flow_data.specs.declared.data.Item.TheVariants.{Atom, Row}
+use Rattle.flow_list.specs.Data.{Flow, FlowsData, Item, Atom, Row}
 use Rattle.flow_list.specs.Atoms.{IsAtom}
 use Rattle.flow_data.specs.Flows.{row_of, flow_in, item_of, atom_height}
 use Rattle.flow_list.specs.Tokens.{Token, item_number, is_end}

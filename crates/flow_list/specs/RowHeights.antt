@@ -1,8 +1,7 @@
 -- The heights and the columns of the rows that stand outside any columns (CSS Multi-column 1, sections 7 and 8.2).
 use Rattle.std.specs.Prelude.{◌≡◌, ℕ, ◌-◌, ◌^◌, ◌<◌, ◌==◌, max, min, Bool, true, false, cond, not, ◌||◌, List, [], ◌∷◌, length, map, nat_lt, nat_le, fold, Option, Some, None}
 use Rattle.std.specs.List.{list_any}
-use Rattle.flow_data.specs.declared.data.Flow.{Flow}
-use Rattle.flow_data.specs.declared.data.FlowsData.{FlowsData}
+use Rattle.flow_list.specs.Data.{Flow, FlowsData}
 use Rattle.flow_data.specs.Flows.{row_of, flow_in, seam_of}
 use Rattle.flow_list.specs.Tokens.{Token, row_start, item_number}
 use Rattle.flow_list.specs.Column.{is_forced, Column, column, endless_column}

@@ -1,11 +1,7 @@
 -- Columns one after another, the heights that fit, and what a row is to the flow that it stands in.
 use Rattle.std.specs.Prelude.{ℕ, zero, suc, ◌+◌, ◌-◌, max, Bool, true, false, cond, not, ◌||◌, ◌&&◌, List, [], ◌∷◌, length, nat_lt, take, drop, fold, count_by, sum_by}
 use Rattle.std.specs.List.{list_any, flat_map}
-use Rattle.flow_data.specs.declared.data.Flow.{Flow}
-use Rattle.flow_data.specs.declared.data.FlowsData.{FlowsData}
-use Rattle.flow_data.specs.declared.data.Item.{Item}
-use Rattle.flow_data.specs.declared.data.Item.TheVariants.{Atom, Row}
-use Rattle.flow_data.specs.declared.data.Seam.{Seam}
+use Rattle.flow_list.specs.Data.{Flow, FlowsData, Item, Seam, Atom, Row}
 use Rattle.flow_data.specs.Flows.{row_of, flow_in, amount, boxes_in}
 use Rattle.flow_list.specs.Tokens.{Token, row_start, item_number, within, is_end}
 use Rattle.flow_list.specs.ClonedEdges.{tops, bottoms}

@@ -1,12 +1,7 @@
 -- Stacks: flows that are laid outside any columns, in one column without end (CSS 2.1, section 9.4.1; that breaks have no effect there is
 -- this project's own).
 use Rattle.std.specs.Prelude.{ℕ, zero, suc, ◌+◌, ◌-◌, ◌==◌, max, false, cond, length, Option, Some, None}
-use Rattle.flow_data.specs.declared.data.Bound.{Bound}
-use Rattle.flow_data.specs.declared.data.Bound.TheVariants.{Free, Each, Left}
-use Rattle.flow_data.specs.declared.data.Flow.{Flow}
-use Rattle.flow_data.specs.declared.data.FlowsData.{FlowsData}
-use Rattle.flow_data.specs.declared.data.Item.{Item}
-use Rattle.flow_data.specs.declared.data.Item.TheVariants.{Atom, Row}
+use Rattle.flow_list.specs.Data.{Bound, Flow, FlowsData, Item, Free, Each, Left, Atom, Row}
 use Rattle.flow_data.specs.Flows.{flow_of, stack_of, item_of, seam_of}
 use Rattle.flow_list.specs.ClonedEdges.{open_across, tops, bottoms}
 use Rattle.flow_list.specs.RowHeights.{row_height}

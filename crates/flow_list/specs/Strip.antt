@@ -1,7 +1,6 @@
 -- How edges and items are laid one under another, with margins that collapse (CSS 2.1, section 8.3.1).
 use Rattle.std.specs.Prelude.{ℕ, ◌+◌, ◌==◌, max, Bool, false, cond, List, fold}
-use Rattle.flow_data.specs.declared.data.Edge.{Edge}
-use Rattle.flow_data.specs.declared.data.Edge.TheVariants.{Margin, Solid, Wall, Start, End}
+use Rattle.flow_list.specs.Data.{Edge, Margin, Solid, Wall, Start, End}
 
 -- How far a strip reaches, the margin that is pending at its end, and whether margins are still dropped: at an unforced
 -- break those next to it are (CSS Fragmentation 3, section 5.2).

@@ -1,8 +1,6 @@
 -- Places in a flow, where a column begins or ends (this project's own; CSS calls a place to go on from a break token).
 use Rattle.std.specs.Prelude.{◌≡◌, ℕ, ◌<◌, Bool, List, [], ◌∷◌, length, nat_le, ◌⊎◌}
-use Rattle.flow_data.specs.declared.data.Flow.{Flow}
-use Rattle.flow_data.specs.declared.data.FlowsData.{FlowsData}
-use Rattle.flow_data.specs.declared.data.Item.TheVariants.{Row}
+use Rattle.flow_list.specs.Data.{Flow, FlowsData, Row}
 use Rattle.flow_data.specs.Flows.{flow_in, item_of}
 pub use Rattle.mc_base.specs.Places.{item_number}
 

@@ -2,13 +2,7 @@
 -- own; places and sizes are those of CSS 2.1, chapter 10, and CSS Multi-column 1, section 3.4).
 use Rattle.std.specs.Prelude.{ℕ, zero, suc, ◌+◌, ◌-◌, ◌*◌, max, Bool, List, [], ◌∷◌, ◌++◌, length, Option, Some, None, is_some}
 use Rattle.mc_base.specs.PlainTree.{PlainTree, PlainTrees, atom as atom_tree, piece, row_piece, column as column_tree, no_trees, more_trees}
-use Rattle.flow_data.specs.declared.data.AtomKind.{AtomKind}
-use Rattle.flow_data.specs.declared.data.AtomKind.TheVariants.{Plain, Line, Void, Image, Bounded}
-use Rattle.flow_data.specs.declared.data.Flow.{Flow}
-use Rattle.flow_data.specs.declared.data.FlowsData.{FlowsData}
-use Rattle.flow_data.specs.declared.data.Item.{Item}
-use Rattle.flow_data.specs.declared.data.Item.TheVariants.{Atom, Row}
-use Rattle.flow_data.specs.declared.data.RowInfo.{RowInfo}
+use Rattle.flow_list.specs.Data.{AtomKind, Flow, FlowsData, Item, RowInfo, Plain, Line, Void, Image, Bounded, Atom, Row}
 use Rattle.flow_data.specs.Flows.{box_of, row_of, flow_of, stack_of, item_of}
 use Rattle.flow_list.specs.Tokens.{Token}
 use Rattle.flow_list.specs.Stacks.{stack_height}

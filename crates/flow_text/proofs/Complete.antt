@@ -124,12 +124,7 @@ over_edge a (forms.End number) at phase (b ∷ boxes) outer bottoms due solid ts
     )
     by_name false same e = absurd cc
 over_edge a (forms.End number) at phase boxes outer bottoms due solid ts next false is e h = absurd cc
-over_edge a forms.Flow at phase boxes outer bottoms due solid ts next t is e h = absurd cc
-over_edge a (forms.First n w st available auto) at phase boxes outer bottoms due solid ts next t is e h = absurd cc
-over_edge a (forms.Atom u) at phase boxes outer bottoms due solid ts next t is e h = absurd cc
-over_edge a (forms.Row n w st x) at phase boxes outer bottoms due solid ts next t is e h = absurd cc
-over_edge a (forms.Break level) at phase boxes outer bottoms due solid ts next t is e h = absurd cc
-over_edge a forms.Close at phase boxes outer bottoms due solid ts next t is e h = absurd cc
+over_edge a _ at phase boxes outer bottoms due solid ts next t is e h = absurd cc
 
 -- reading comes to behind the lines of a rest, with nothing left of it
 abbrev pub Reaches : Reading → List Line → ℕ → List OpenRow → List Line → Type 0

@@ -8,7 +8,7 @@ use Rattle.flow_text.specs.declared.line.Form.{Form}
 use Rattle.flow_text.specs.declared.line.Form.TheVariants as forms
 use Rattle.flow_text.specs.declared.limit.Counts.{Counts}
 use Rattle.flow_text.specs.Grammar.{Rest, no_more, edge, place, atom, row, line, lines_of, boxes_behind, IsRest, FlowFile, content_lines, IsContent, IsFlowFile}
-use Rattle.flow_text.specs.Limits.{first_above, or_else, first_numbers, numbers, columns, first_long, wide_in, first_wide, is_item, items, open_behind, is_deep, one_more, no_counts, counted, crowded, has_crowded_row}
+use Rattle.flow_text.specs.Limits.{first_above, or_else, first_numbers, numbers, columns, first_long, first_wide, is_item, items, open_behind, is_deep, one_more, no_counts, counted, crowded, has_crowded_row}
 use Rattle.flow_text.specs.TreeLimits.{depth, own_items, all_items, most_inner, of_content, file_depth, file_items, file_most_inner, rest_numbers, rest_columns, in_content, file_numbers, file_columns}
 
 -- an edge opens and ends no row, and is no item
@@ -24,12 +24,7 @@ plain (forms.Solid u) t boxes next h = record { narrow = refl; stays = λ n. ref
 plain forms.Wall t boxes next h = record { narrow = refl; stays = λ n. refl; no_item = refl; counts = λ c. refl }
 plain (forms.Start number x w avoid top bottom) t boxes next h = record { narrow = refl; stays = λ n. refl; no_item = refl; counts = λ c. refl }
 plain (forms.End number) t boxes next h = record { narrow = refl; stays = λ n. refl; no_item = refl; counts = λ c. refl }
-plain forms.Flow t boxes next h = absurd cc
-plain (forms.First n w st available auto) t boxes next h = absurd cc
-plain (forms.Atom u) t boxes next h = absurd cc
-plain (forms.Row n w st x) t boxes next h = absurd cc
-plain (forms.Break level) t boxes next h = absurd cc
-plain forms.Close t boxes next h = absurd cc
+plain _ t boxes next h = absurd cc
 
 -- items
 items_are : (r : Rest) (t : Bool) (boxes : List ℕ) (after : List Line) → IsRest t boxes r → items (lines_of r after) ≡ all_items r + items after

@@ -1,5 +1,5 @@
 -- A text has at most one first fault: the one that is read.
-use Rattle.std.proofs.Common.{◌≡◌, ℕ, suc, ◌+◌, ◌<◌, List, [], ◌∷◌, ◌++◌, length, take, drop, Bool, true, false, eqb, ltb, cond, not, Option, Some, None, Result, Ok, Err, refl, sym, ap, ◌∙◌, subst, inl, inr, arith, length-append}
+use Rattle.std.proofs.Common.{◌≡◌, ℕ, suc, ◌+◌, ◌<◌, List, [], ◌∷◌, ◌++◌, length, take, drop, Bool, true, false, eqb, ltb, cond, not, Option, Some, None, Result, Ok, Err, refl, sym, ap, ◌∙◌, inl, inr, arith, length-append}
 use Rattle.std.specs.Prelude.{◌⊎◌, MatchBool}
 use Rattle.flow_text.specs.declared.line.Line.{Line}
 use Rattle.flow_text.specs.declared.line.Form.{Form}
@@ -8,7 +8,6 @@ use Rattle.mc_base.specs.declared.read_error.Fault.{Fault}
 use Rattle.flow_text.specs.declared.structure.Due.{Due}
 use Rattle.flow_text.specs.declared.structure.Reading.{Reading}
 use Rattle.flow_text.specs.declared.structure.Reading.TheVariants as readings
-use Rattle.flow_text.specs.Forms.{IsForm}
 use Rattle.flow_text.specs.Structure as structure
 use Rattle.flow_text.specs.Structure.{unless, fault_of_ending}
 use Rattle.mc_base.specs.Reading.{◌>>=◌, fault}
@@ -17,7 +16,7 @@ use Rattle.mc_base.specs.SoundText.{sound_len}
 use Rattle.flow_text.specs.Grammar.{FlowFile, IsFlowFile}
 use Rattle.flow_text.specs.Text.{IsText, line_len, cuts, line_at, read_on, ended_at, lines_in, lines_of}
 use Rattle.flow_text.specs.Run.{run}
-use Rattle.flow_text.specs.Faults.{Seen, fault_at, is_flow, is_item_end, IsOver, IsFront, seen, EndFault, RowsFault, BaseFault, DueFault, LineFault, ShapeFault, IsCutShort, IsMisshapen, IsMisplaced, IsFaultOfLines, IsFirstFault}
+use Rattle.flow_text.specs.Faults.{Seen, fault_at, is_flow, is_item_end, IsOver, seen, EndFault, RowsFault, BaseFault, DueFault, ShapeFault, IsCutShort, IsMisshapen, IsMisplaced, IsFaultOfLines, IsFirstFault}
 use Rattle.flow_text.proofs.Complete.{passed, file_is_read}
 use Rattle.flow_text.proofs.Sound.{read_is_file}
 use Rattle.flow_text.proofs.TextLemmas.{first_line}

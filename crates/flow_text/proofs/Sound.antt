@@ -18,7 +18,7 @@ use Rattle.flow_text.specs.declared.structure.Rows.{Rows}
 use Rattle.flow_text.specs.declared.structure.Reading.{Reading}
 use Rattle.flow_text.specs.declared.structure.Reading.TheVariants as readings
 use Rattle.flow_text.specs.Structure as structure
-use Rattle.flow_text.specs.Structure.{unless, is_filled, touched, bottom_of, is_cloned, due_of, in_phase, in_row, fault_of_due, fault_at_end, is_solid, step, take, take_first, take_second, begun}
+use Rattle.flow_text.specs.Structure.{unless, is_filled, touched, bottom_of, is_cloned, due_of, in_phase, fault_of_due, fault_at_end, is_solid, step, take, take_first, take_second, begun}
 use Rattle.flow_text.specs.Grammar.{Rest, no_more, edge, place, atom, row, line, lines_of, boxes_behind, IsRest, Numbered, BeginsSolid, StartsCloned, EndsCloned, FlowFile, content_lines, IsContent, IsFlowFile}
 use Rattle.flow_text.specs.Run.{run}
 use Rattle.flow_text.proofs.Complete.{open_at, DueMet, Flat, filled_touched, touched_filled, passed}
@@ -84,16 +84,7 @@ reading_is x y e = cc
 
 pub is_some_solid : (top : ℕ) (f : Form) → is_solid top (Some f) ≡ true → f ≡ forms.Solid top
 is_some_solid top (forms.Solid u) h = ap (λ (n : ℕ). forms.Solid n) (eqb-true u top h)
-is_some_solid top forms.Flow h = absurd cc
-is_some_solid top (forms.First n w st available auto) h = absurd cc
-is_some_solid top (forms.Margin u) h = absurd cc
-is_some_solid top forms.Wall h = absurd cc
-is_some_solid top (forms.Start number x w avoid t bottom) h = absurd cc
-is_some_solid top (forms.End number) h = absurd cc
-is_some_solid top (forms.Atom u) h = absurd cc
-is_some_solid top (forms.Row n w st x) h = absurd cc
-is_some_solid top (forms.Break level) h = absurd cc
-is_some_solid top forms.Close h = absurd cc
+is_some_solid top _ h = absurd cc
 
 guard_none : (b : Bool) (f : Fault) → cond b None (Some f) ≡ None → b ≡ true
 guard_none true f h = refl
@@ -106,9 +97,6 @@ due_met (Some d) l ts h = is_some_solid d.top l.form (guard_none (is_solid d.top
 pub unless_ok : (f : Option Fault) (r : Result Reading Fault) (x : Reading) → unless f r ≡ passed x → (f ≡ None) × (r ≡ passed x)
 unless_ok None r x h = (refl, h)
 unless_ok (Some f) r x h = absurd cc
-
-within_of : Result Rows Fault → Result Reading Fault
-within_of r = structure.within r
 
 -- the tests of a start
 pub two_tests : (b c : Bool) (x : Rows) (f g : Fault) (next : Reading) → structure.within (cond b (Err f) (cond c (Ok x) (Err g))) ≡ passed next → (b ≡ false) × (c ≡ true) × (next ≡ readings.Within x)
@@ -321,30 +309,12 @@ rows_are_file a b n w st available auto toks e =
 
 second : (a b : ℕ) (f : Form) (toks : List Line) → (take_second b f >>= λ next. run next toks) ≡ passed readings.Ended → (file : FlowFile) × IsFlowFile (line a forms.Flow ∷ line b f ∷ toks) file
 second a b (forms.First n w st available auto) toks e = rows_are_file a b n w st available auto toks e
-second a b forms.Flow toks e = absurd cc
-second a b (forms.Margin u) toks e = absurd cc
-second a b (forms.Solid u) toks e = absurd cc
-second a b forms.Wall toks e = absurd cc
-second a b (forms.Start number x w avoid top bottom) toks e = absurd cc
-second a b (forms.End number) toks e = absurd cc
-second a b (forms.Atom u) toks e = absurd cc
-second a b (forms.Row n w st x) toks e = absurd cc
-second a b (forms.Break level) toks e = absurd cc
-second a b forms.Close toks e = absurd cc
+second a b _ toks e = absurd cc
 
 first : (a : ℕ) (f : Form) (toks : List Line) → (take_first a f >>= λ next. run next toks) ≡ passed readings.Ended → (file : FlowFile) × IsFlowFile (line a f ∷ toks) file
 first a forms.Flow [] e = absurd cc
 first a forms.Flow (l ∷ toks) e = second a l.at l.form toks e
-first a (forms.First n w st available auto) toks e = absurd cc
-first a (forms.Margin u) toks e = absurd cc
-first a (forms.Solid u) toks e = absurd cc
-first a forms.Wall toks e = absurd cc
-first a (forms.Start number x w avoid top bottom) toks e = absurd cc
-first a (forms.End number) toks e = absurd cc
-first a (forms.Atom u) toks e = absurd cc
-first a (forms.Row n w st x) toks e = absurd cc
-first a (forms.Break level) toks e = absurd cc
-first a forms.Close toks e = absurd cc
+first a _ toks e = absurd cc
 
 pub read_is_file : (lines : List Line) → run readings.Opening lines ≡ passed readings.Ended → (file : FlowFile) × IsFlowFile lines file
 read_is_file [] e = absurd cc

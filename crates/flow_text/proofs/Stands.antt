@@ -16,7 +16,7 @@ use Rattle.flow_text.specs.declared.structure.Rows.{Rows}
 use Rattle.flow_text.specs.declared.structure.Reading.{Reading}
 use Rattle.flow_text.specs.declared.structure.Reading.TheVariants as readings
 use Rattle.flow_text.specs.Structure as structure
-use Rattle.flow_text.specs.Structure.{unless, is_filled, touched, bottom_of, is_cloned, due_of, in_phase, in_row, fault_of_due, fault_at_end, is_solid, step, take, take_first, take_second, begun}
+use Rattle.flow_text.specs.Structure.{unless, is_filled, touched, bottom_of, is_cloned, fault_of_due, fault_at_end, is_solid, step, take, take_first, take_second}
 use Rattle.flow_text.specs.Grammar.{line}
 use Rattle.flow_text.specs.Run.{run}
 use Rattle.flow_text.specs.Faults.{fault_at, IsFront, IsOver, is_edge, Seen, nothing_seen, seen_behind, seen_from, seen, is_item_end, end_behind, end_fault, EndFault, RowsFault, is_flow, DueFault, LineFault}
@@ -107,29 +107,11 @@ known_step s a forms.Close n next h e = by_outer s.outer h.filled e
 
 first_step : (a : ℕ) (f : Form) (n : Seen) (next : Reading) → n.bottoms ≡ [] → take_first a f ≡ passed next → Knows next (seen_behind n (line a f))
 first_step a forms.Flow n next none e = subst (λ (r : Reading). Knows r (seen_behind n (line a forms.Flow))) (sym (reading_is _ next e)) (line a forms.Flow, refl, refl, refl, none)
-first_step a (forms.First c w st available auto) n next none e = absurd cc
-first_step a (forms.Margin u) n next none e = absurd cc
-first_step a (forms.Solid u) n next none e = absurd cc
-first_step a forms.Wall n next none e = absurd cc
-first_step a (forms.Start number x w avoid top bottom) n next none e = absurd cc
-first_step a (forms.End number) n next none e = absurd cc
-first_step a (forms.Atom u) n next none e = absurd cc
-first_step a (forms.Row c w st x) n next none e = absurd cc
-first_step a (forms.Break level) n next none e = absurd cc
-first_step a forms.Close n next none e = absurd cc
+first_step a _ n next none e = absurd cc
 
 second_step : (a : ℕ) (f : Form) (n : Seen) (next : Reading) → n.bottoms ≡ [] → take_second a f ≡ passed next → Knows next (seen_behind n (line a f))
 second_step a (forms.First c w st available auto) n next none e = subst (λ (r : Reading). Knows r (seen_behind n (line a (forms.First c w st available auto)))) (sym (reading_is _ next e)) (record { placed = (line a (forms.First c w st available auto), refl, refl, refl, tt); due = refl; bottoms = none; filled = tt })
-second_step a forms.Flow n next none e = absurd cc
-second_step a (forms.Margin u) n next none e = absurd cc
-second_step a (forms.Solid u) n next none e = absurd cc
-second_step a forms.Wall n next none e = absurd cc
-second_step a (forms.Start number x w avoid top bottom) n next none e = absurd cc
-second_step a (forms.End number) n next none e = absurd cc
-second_step a (forms.Atom u) n next none e = absurd cc
-second_step a (forms.Row c w st x) n next none e = absurd cc
-second_step a (forms.Break level) n next none e = absurd cc
-second_step a forms.Close n next none e = absurd cc
+second_step a _ n next none e = absurd cc
 
 knows_step : (r : Reading) (l : Line) (n : Seen) (next : Reading) → Knows r n → take r l ≡ passed next → Knows next (seen_behind n l)
 knows_step readings.Opening l n next h e = first_step l.at l.form n next (ap (λ (m : Seen). m.bottoms) h) e
@@ -215,61 +197,29 @@ no_front front f h is =
 opens_no_item : (nested : Bool) (f : Form) → Opens nested f → is_item_end f ≡ false
 opens_no_item nested (forms.First n w st available auto) h = refl
 opens_no_item nested (forms.Row n w st x) h = refl
-opens_no_item true forms.Flow h = absurd h
 opens_no_item false forms.Flow h = absurd h
-opens_no_item true (forms.Margin u) h = absurd h
 opens_no_item false (forms.Margin u) h = absurd h
-opens_no_item true (forms.Solid u) h = absurd h
 opens_no_item false (forms.Solid u) h = absurd h
-opens_no_item true forms.Wall h = absurd h
 opens_no_item false forms.Wall h = absurd h
 opens_no_item nested (forms.Start number x w avoid top bottom) h = refl
 opens_no_item nested (forms.End number) h = refl
-opens_no_item true (forms.Atom u) h = absurd h
 opens_no_item false (forms.Atom u) h = absurd h
 opens_no_item nested (forms.Break level) h = refl
-opens_no_item true forms.Close h = absurd h
 opens_no_item false forms.Close h = absurd h
+opens_no_item true _ h = absurd h
 
 opens_no_flow : (nested : Bool) (f : Form) → Opens nested f → is_flow f ≡ false
 opens_no_flow true forms.Flow h = absurd h
 opens_no_flow false forms.Flow h = absurd h
-opens_no_flow nested (forms.First n w st available auto) h = refl
-opens_no_flow nested (forms.Margin u) h = refl
-opens_no_flow nested (forms.Solid u) h = refl
-opens_no_flow nested forms.Wall h = refl
-opens_no_flow nested (forms.Start number x w avoid top bottom) h = refl
-opens_no_flow nested (forms.End number) h = refl
-opens_no_flow nested (forms.Atom u) h = refl
-opens_no_flow nested (forms.Row n w st x) h = refl
-opens_no_flow nested (forms.Break level) h = refl
-opens_no_flow nested forms.Close h = refl
+opens_no_flow nested _ h = refl
 
 item_no_flow : (f : Form) → is_item_end f ≡ true → is_flow f ≡ false
 item_no_flow forms.Flow h = absurd cc
-item_no_flow (forms.First n w st available auto) h = refl
-item_no_flow (forms.Margin u) h = refl
-item_no_flow (forms.Solid u) h = refl
-item_no_flow forms.Wall h = refl
-item_no_flow (forms.Start number x w avoid top bottom) h = refl
-item_no_flow (forms.End number) h = refl
-item_no_flow (forms.Atom u) h = refl
-item_no_flow (forms.Row n w st x) h = refl
-item_no_flow (forms.Break level) h = refl
-item_no_flow forms.Close h = refl
+item_no_flow _ h = refl
 
 break_no_item : (f : Form) → IsBreak f → (is_item_end f ≡ false) × (is_flow f ≡ false)
 break_no_item (forms.Break level) h = (refl, refl)
-break_no_item forms.Flow h = absurd h
-break_no_item (forms.First n w st available auto) h = absurd h
-break_no_item (forms.Margin u) h = absurd h
-break_no_item (forms.Solid u) h = absurd h
-break_no_item forms.Wall h = absurd h
-break_no_item (forms.Start number x w avoid top bottom) h = absurd h
-break_no_item (forms.End number) h = absurd h
-break_no_item (forms.Atom u) h = absurd h
-break_no_item (forms.Row n w st x) h = absurd h
-break_no_item forms.Close h = absurd h
+break_no_item _ h = absurd h
 
 -- the line that a row's next line stands behind
 record Base (phase : Phase) (n : Seen) : Type 0 where
@@ -349,52 +299,26 @@ end_fails front s a number g bottoms h same none false is e = let e' : fault {A 
 opens_end : (nested : Bool) (b : Line) (f : Form) (first : Option Line) (a : ℕ) → Opens nested f → end_fault b f first a ≡ cond nested (fault_at b.at 6) (end_behind a first)
 opens_end false b (forms.First n w st available auto) first a h = refl
 opens_end true b (forms.Row n w st x) first a h = refl
-opens_end true b (forms.First n w st available auto) first a h = absurd h
 opens_end false b (forms.Row n w st x) first a h = absurd h
-opens_end true b forms.Flow first a h = absurd h
 opens_end false b forms.Flow first a h = absurd h
-opens_end true b (forms.Margin u) first a h = absurd h
 opens_end false b (forms.Margin u) first a h = absurd h
-opens_end true b (forms.Solid u) first a h = absurd h
 opens_end false b (forms.Solid u) first a h = absurd h
-opens_end true b forms.Wall first a h = absurd h
 opens_end false b forms.Wall first a h = absurd h
-opens_end true b (forms.Start number x w avoid top bottom) first a h = absurd h
 opens_end false b (forms.Start number x w avoid top bottom) first a h = absurd h
-opens_end true b (forms.End number) first a h = absurd h
 opens_end false b (forms.End number) first a h = absurd h
-opens_end true b (forms.Atom u) first a h = absurd h
 opens_end false b (forms.Atom u) first a h = absurd h
-opens_end true b (forms.Break level) first a h = absurd h
 opens_end false b (forms.Break level) first a h = absurd h
-opens_end true b forms.Close first a h = absurd h
 opens_end false b forms.Close first a h = absurd h
+opens_end true b _ first a h = absurd h
 
 break_end : (b : Line) (f : Form) (first : Option Line) (a : ℕ) → IsBreak f → end_fault b f first a ≡ fault_at b.at 5
 break_end b (forms.Break level) first a h = refl
-break_end b forms.Flow first a h = absurd h
-break_end b (forms.First n w st available auto) first a h = absurd h
-break_end b (forms.Margin u) first a h = absurd h
-break_end b (forms.Solid u) first a h = absurd h
-break_end b forms.Wall first a h = absurd h
-break_end b (forms.Start number x w avoid top bottom) first a h = absurd h
-break_end b (forms.End number) first a h = absurd h
-break_end b (forms.Atom u) first a h = absurd h
-break_end b (forms.Row n w st x) first a h = absurd h
-break_end b forms.Close first a h = absurd h
+break_end b _ first a h = absurd h
 
 item_end : (b : Line) (f : Form) (first : Option Line) (a : ℕ) → is_item_end f ≡ true → end_fault b f first a ≡ fault_at a 6
 item_end b (forms.Atom u) first a h = refl
 item_end b forms.Close first a h = refl
-item_end b forms.Flow first a h = absurd cc
-item_end b (forms.First n w st available auto) first a h = absurd cc
-item_end b (forms.Margin u) first a h = absurd cc
-item_end b (forms.Solid u) first a h = absurd cc
-item_end b forms.Wall first a h = absurd cc
-item_end b (forms.Start number x w avoid top bottom) first a h = absurd cc
-item_end b (forms.End number) first a h = absurd cc
-item_end b (forms.Row n w st x) first a h = absurd cc
-item_end b (forms.Break level) first a h = absurd cc
+item_end b _ first a h = absurd cc
 
 abbrev some_fault : Fault → Option Fault
 some_fault f = Some f
@@ -460,29 +384,11 @@ rows_fault front s n b a forms.Close g h k is items none e = close_fails s n b a
 
 first_fails : (a : ℕ) (f : Form) (g : Fault) → take_first a f ≡ failed g → g ≡ fault_at a 3
 first_fails a forms.Flow g e = absurd cc
-first_fails a (forms.First c w st available auto) g e = fault_is {A = Reading} a 3 g e
-first_fails a (forms.Margin u) g e = fault_is {A = Reading} a 3 g e
-first_fails a (forms.Solid u) g e = fault_is {A = Reading} a 3 g e
-first_fails a forms.Wall g e = fault_is {A = Reading} a 3 g e
-first_fails a (forms.Start number x w avoid top bottom) g e = fault_is {A = Reading} a 3 g e
-first_fails a (forms.End number) g e = fault_is {A = Reading} a 3 g e
-first_fails a (forms.Atom u) g e = fault_is {A = Reading} a 3 g e
-first_fails a (forms.Row c w st x) g e = fault_is {A = Reading} a 3 g e
-first_fails a (forms.Break level) g e = fault_is {A = Reading} a 3 g e
-first_fails a forms.Close g e = fault_is {A = Reading} a 3 g e
+first_fails a _ g e = fault_is {A = Reading} a 3 g e
 
 second_fails : (a : ℕ) (f : Form) (g : Fault) → take_second a f ≡ failed g → g ≡ fault_at a 5
-second_fails a forms.Flow g e = fault_is {A = Reading} a 5 g e
 second_fails a (forms.First c w st available auto) g e = absurd cc
-second_fails a (forms.Margin u) g e = fault_is {A = Reading} a 5 g e
-second_fails a (forms.Solid u) g e = fault_is {A = Reading} a 5 g e
-second_fails a forms.Wall g e = fault_is {A = Reading} a 5 g e
-second_fails a (forms.Start number x w avoid top bottom) g e = fault_is {A = Reading} a 5 g e
-second_fails a (forms.End number) g e = fault_is {A = Reading} a 5 g e
-second_fails a (forms.Atom u) g e = fault_is {A = Reading} a 5 g e
-second_fails a (forms.Row c w st x) g e = fault_is {A = Reading} a 5 g e
-second_fails a (forms.Break level) g e = fault_is {A = Reading} a 5 g e
-second_fails a forms.Close g e = fault_is {A = Reading} a 5 g e
+second_fails a _ g e = fault_is {A = Reading} a 5 g e
 
 -- a start whose amount is due
 due_fails : (d : Due) (s : Rows) (a : ℕ) (f : Form) (g : Fault) → (b : Bool) → is_solid d.top (Some f) ≡ b → unless (cond b None (Some (fault_at d.at 8))) (step s a f) ≡ failed g → g ≡ fault_at d.at 8

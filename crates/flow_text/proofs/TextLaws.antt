@@ -1,5 +1,5 @@
 -- What is read in a text is its lines, and its lines are read.
-use Rattle.std.proofs.Common.{◌≡◌, ℕ, zero, suc, ◌+◌, ◌^◌, ◌<◌, ◌≤◌, List, [], ◌∷◌, ◌++◌, length, take, drop, Bool, true, false, eqb, ltb, leb, cond, not, ◌&&◌, ◌||◌, Option, Some, None, Result, Ok, Err, refl, sym, ap, ◌∙◌, subst, arith, length-drop, append_assoc, inl, inr}
+use Rattle.std.proofs.Common.{◌≡◌, ℕ, zero, suc, ◌+◌, ◌^◌, ◌<◌, ◌≤◌, List, [], ◌∷◌, ◌++◌, length, take, drop, Bool, true, false, eqb, ltb, leb, cond, not, ◌&&◌, ◌||◌, Option, Some, None, Result, Ok, refl, sym, ap, ◌∙◌, subst, arith, length-drop, append_assoc, inl, inr}
 use Rattle.std.specs.Prelude.{codes, IfSome}
 use Rattle.std.specs.Fmt.{decimal}
 use Rattle.std.specs.Int.{IsInRange}
@@ -25,7 +25,7 @@ use Rattle.flow_text.specs.Structure as structure
 use Rattle.flow_text.specs.Structure.{unless, fault_of_due, fault_of_rows, what_is_due, fault_of_ending}
 use Rattle.mc_base.specs.SoundText.{sound_len}
 use Rattle.mc_base.proofs.SoundBytes.{IsSafe, sound_text}
-use Rattle.mc_base.specs.Reading.{◌>>=◌, fault}
+use Rattle.mc_base.specs.Reading.{fault}
 use Rattle.mc_base.proofs.ReadSteps.{step, no_fault}
 use Rattle.flow_text.specs.Text.{IsText, line_len, cuts, line_of, line_at, Read, read_on, ended_at, lines_of}
 use Rattle.flow_text.specs.Run.{run}

@@ -13,12 +13,7 @@ edge_form (forms.Solid u) t boxes next h = refl
 edge_form forms.Wall t boxes next h = refl
 edge_form (forms.Start number x w avoid top bottom) t boxes next h = refl
 edge_form (forms.End number) t boxes next h = refl
-edge_form forms.Flow t boxes next h = absurd cc
-edge_form (forms.First n w st available auto) t boxes next h = absurd cc
-edge_form (forms.Atom u) t boxes next h = absurd cc
-edge_form (forms.Row n w st x) t boxes next h = absurd cc
-edge_form (forms.Break level) t boxes next h = absurd cc
-edge_form forms.Close t boxes next h = absurd cc
+edge_form _ t boxes next h = absurd cc
 
 first_same : (a b : Line) (xs ys : List Line) → a ∷ xs ≡ b ∷ ys → (a ≡ b) × (xs ≡ ys)
 first_same a b xs ys h = (cc, cc)

@@ -45,12 +45,7 @@ boxes_behind (forms.Start number x w avoid top bottom) true boxes = None
 boxes_behind (forms.Start number x w avoid top bottom) false boxes = Some (number ∷ boxes)
 boxes_behind (forms.End number) true boxes = ended_box number boxes
 boxes_behind (forms.End number) false boxes = None
-boxes_behind forms.Flow in_tail boxes = None
-boxes_behind (forms.First n w step available auto) in_tail boxes = None
-boxes_behind (forms.Atom u) in_tail boxes = None
-boxes_behind (forms.Row n w step x) in_tail boxes = None
-boxes_behind (forms.Break level) in_tail boxes = None
-boxes_behind forms.Close in_tail boxes = None
+boxes_behind _ in_tail boxes = None
 
 -- A row may go on so in a tail or a head, with these boxes open: between two items stands exactly one break place, none
 -- stands before the first or behind the last, and no box is open at the row's end. A row inside a row has an item.

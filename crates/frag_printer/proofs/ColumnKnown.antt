@@ -1,8 +1,7 @@
 -- What is placed in a column of atoms names boxes and items that there are, high enough in the column.
 use Rattle.std.proofs.Common.{ℕ, ◌<◌, ◌≤◌, ◌^◌, length, sum_by, arith}
 use Rattle.std.specs.List.{AllByRecursion as Each}
-use Rattle.flow_data.specs.declared.data.Flow.{Flow}
-use Rattle.flow_data.specs.declared.data.FlowsData.{FlowsData}
+use Rattle.flow_list.specs.Data.{Flow, FlowsData}
 use Rattle.flow_list.specs.Atoms.{HoldsAtoms}
 use Rattle.flow_data.specs.Flows.{flow_of}
 use Rattle.flow_list.specs.Fragments.{place_of}

@@ -2,9 +2,7 @@
 use Rattle.std.proofs.Common.{◌≡◌, ℕ, zero, suc, ◌+◌, ◌<◌, ◌≤◌, Bool, true, false, cond, List, [], ◌∷◌, ◌++◌, length, map, Option, Some, refl, sym, subst, ap, ◌∙◌, arith}
 use Rattle.std.proofs.lemmas.Bool.Decides.{nat_tests}
 use Rattle.mc_base.specs.PlainTree.{PlainTree, plain_trees}
-use Rattle.flow_data.specs.declared.data.Flow.{Flow}
-use Rattle.flow_data.specs.declared.data.FlowsData.{FlowsData}
-use Rattle.flow_data.specs.declared.data.RowInfo.{RowInfo}
+use Rattle.flow_list.specs.Data.{Flow, FlowsData, RowInfo}
 use Rattle.flow_list.specs.Atoms.{HoldsAtoms}
 use Rattle.flow_data.specs.Flows.{flow_of, flow_in, row_of}
 use Rattle.flow_list.specs.Tokens.{Token, row_start, item_number, is_end}
@@ -111,8 +109,3 @@ module _ (d : FlowsData) (row : ℕ) (sound : IsSoundFlow d (flow_in d row)) (at
       ≡ columns_lines (row_fragments d (length d.rows)) d stacks (row_of d row) depth frame y height 0 0 (end_items (columns_of_row d row available))
   unfolding columns_of_row
   row-lines own stacks depth frame y height = laid-row-lines d (laid_row d row available own) refl refl sound atoms stacks depth frame y height
-
-  -- where they end
-  pub row-places : ArePlaces (flow_in d row) 0 (end_items (columns_of_row d row available))
-  unfolding columns_of_row
-  row-places = laid-row-places d row (cond (row_of d row).auto available (Some (balanced_height available (size_of d row row_start)))) sound atoms

@@ -2,7 +2,7 @@
 use Rattle.std.proofs.Common.{◌≡◌, ℕ, ◌+◌, ◌<◌, ◌^◌, List, [], ◌∷◌, ◌++◌, length, get_or, take, refl, sym, subst, ◌∙◌, ap, arith, append_assoc, sum_by}
 use Rattle.std.proofs.lemmas.List.{append-nil, take_more}
 use Rattle.std.proofs.lemmas.List.Sums.{sum_by-take-drop, sum_by-drop_more}
-use Rattle.flow_data.specs.declared.data.Edge.{Edge}
+use Rattle.flow_list.specs.Data.{Edge}
 use Rattle.flow_data.specs.Flows.{amount}
 use Rattle.flow_list.specs.Placing.{laid_edge, laid_edges}
 use Rattle.flow_list.specs.Strip.{Strip, lay, lay_all}

@@ -1,23 +1,21 @@
 -- The lines of whole fragments: of a column of atoms, and of a stack.
-use Rattle.std.proofs.Common.{◌≡◌, ℕ, zero, suc, ◌+◌, ◌*◌, ◌-◌, ◌<◌, ◌≤◌, Bool, true, false, cond, List, [], ◌∷◌, ◌++◌, length, get_or, Option, Some, None, refl, ap, ◌∙◌, arith, All}
+use Rattle.std.proofs.Common.{◌≡◌, ℕ, zero, suc, ◌+◌, ◌*◌, ◌-◌, ◌<◌, ◌≤◌, Bool, true, false, List, [], ◌∷◌, ◌++◌, length, get_or, Option, Some, None, refl, ap, ◌∙◌, arith, All}
 use Rattle.std.specs.Prelude.{◌==◌, ◌&&◌, nat_lt}
 use Rattle.mc_base.specs.PlainTree.{PlainTree, plain_trees, column as column_tree}
-use Rattle.flow_data.specs.declared.data.Flow.{Flow}
-use Rattle.flow_data.specs.declared.data.FlowsData.{FlowsData}
-use Rattle.flow_data.specs.declared.data.Item.{Item}
-use Rattle.flow_data.specs.declared.data.RowInfo.{RowInfo}
+use Rattle.flow_list.specs.Data.{Flow, FlowsData, Item, RowInfo}
 use Rattle.flow_list.specs.Atoms.{IsAtom, HoldsAtoms}
-use Rattle.flow_data.specs.Flows.{flow_of, stack_of, item_of, seam_of, no_item}
+use Rattle.flow_data.specs.Flows.{flow_of, stack_of, item_of, no_item}
 use Rattle.flow_list.specs.Tokens.{Token, row_start, item_number, within}
-use Rattle.flow_list.specs.Strip.{Strip, strip_at, lay_all}
+use Rattle.flow_list.specs.Strip.{Strip, strip_at}
 use Rattle.flow_list.specs.ClonedEdges.{tops}
-use Rattle.flow_list.specs.Column.{Column, Inner, Step, steps, steps_from, strip_behind, start_strip, is_forced, cut, longer, room}
+use Rattle.flow_list.specs.Column.{Column, Inner, Step, steps, steps_from, start_strip, room}
 use Rattle.flow_data.specs.Soundness.{IsSoundFlow}
 use Rattle.flow_list.specs.Stacks.{stack_height, stack_extent}
 use Rattle.flow_list.specs.Placing.{RowLaid, Placed}
 use Rattle.flow_list.specs.Fragments.{laid_items, fills_item, stop_of, laid_to, laid_start, places_in, all_trees, column_made, fragment_of, row_fragments, stack_fragment}
 use Rattle.flow_list.specs.Tree.{TreeLine, col, stack, lines_of_stack, Frame, column_frame, lines_of_tree, lines_of_column}
 use Rattle.flow_list.proofs.AtomFlows.{atom-row}
+use Rattle.flow_list.proofs.ColumnParts.{EachFrom, steps-each, OfStop, cut-stop}
 use Rattle.frag_printer.specs.FlatLines.{flat_lines}
 use Rattle.frag_printer.specs.StackParts.{stack_places}
 use Rattle.frag_printer.proofs.Flattened.{trees-flat, column-flat}
@@ -31,34 +29,14 @@ each-atom [] h k = tt
 each-atom (x ∷ xs) h zero = h 0 no_item (omega arith)
 each-atom (x ∷ xs) h (suc k) = each-atom xs (λ j e lt. h (suc j) e (omega arith)) k
 
-abbrev AreRowless : List Step → Type 0
-AreRowless [] = Unit {0}
-AreRowless (s ∷ ss) = (s.row ≡ None) × AreRowless ss
+abbrev IsRowless : Step → Type 0
+IsRowless s = s.row ≡ None
 
-abbrev IsRowless : Option Step → Type 0
-IsRowless None = Unit {0}
-IsRowless (Some s) = s.row ≡ None
+rowless : (inner : Inner) (d : FlowsData) (f : Flow) → HoldsAtoms f → (s : Strip) (k : ℕ) (q : Token) (n : ℕ) → EachFrom (λ m. IsRowless) k (steps inner d f s k q n)
+rowless inner d f atoms s k q n =
+    steps-each inner d f (λ s k q n. Unit {0}) (λ m. IsRowless) (λ s k q n u. atom-row (item_of f k) q (each-atom f.items atoms k)) (λ s k q n u. tt) s k q n tt
 
-rowless : (inner : Inner) (d : FlowsData) (f : Flow) → HoldsAtoms f → (s : Strip) (k : ℕ) (q : Token) (n : ℕ) → AreRowless (steps inner d f s k q n)
-unfolding steps
-rowless inner d f atoms s k q zero = tt
-rowless inner d f atoms s k q (suc n) =
-    (atom-row (item_of f k) q (each-atom f.items atoms k), go (is_forced (seam_of f (k + 1)).level) (rowless inner d f atoms (lay_all (strip_behind inner f s k q) (seam_of f (k + 1)).head) (k + 1) row_start n))
-  where
-    go : (t : Bool) → AreRowless (steps inner d f (lay_all (strip_behind inner f s k q) (seam_of f (k + 1)).head) (k + 1) row_start n) →
-        AreRowless (elim t [ true ↦ [] | false ↦ steps inner d f (lay_all (strip_behind inner f s k q) (seam_of f (k + 1)).head) (k + 1) row_start n ])
-    go true h = tt
-    go false h = h
-
-stop-rowless : (h : ℕ) (ss : List Step) → AreRowless ss → IsRowless (cut h ss).stop
-stop-rowless h [] none = tt
-stop-rowless h (s ∷ ss) none = go (nat_lt h s.need) (stop-rowless h ss none.1)
-  where
-    go : (t : Bool) → IsRowless (cut h ss).stop → IsRowless (cond t (record { before = []; stop = Some s }) (longer s (cut h ss))).stop
-    go true h = none.0
-    go false h = h
-
-fills-none : (h : Option ℕ) (stop : Option Step) (k : ℕ) → IsRowless stop → fills_item h stop k ≡ false
+fills-none : (h : Option ℕ) (stop : Option Step) (k : ℕ) → OfStop IsRowless stop → fills_item h stop k ≡ false
 fills-none None stop k none = refl
 fills-none (Some h) None k none = refl
 fills-none (Some h) (Some s) k none = rw none (go (s.item == k))
@@ -72,9 +50,9 @@ pub atoms-laid : (inner : Inner) (d : FlowsData) (f : Flow) → HoldsAtoms f →
     laid_to inner d f t h (stop_of inner d f t h) (e ∷ []) ≡ laid_items inner f (start_strip d f t) (item_number t) (within t) (e - item_number t)
 atoms-laid inner d f atoms t h e = rw (fills-none h (stop_of inner d f t h) (e - 1) (stop-none h)) refl
   where
-    stop-none : (h : Option ℕ) → IsRowless (stop_of inner d f t h)
+    stop-none : (h : Option ℕ) → OfStop IsRowless (stop_of inner d f t h)
     stop-none None = tt
-    stop-none (Some h) = stop-rowless h (steps_from inner d f t) (rowless inner d f atoms (start_strip d f t) (item_number t) (within t) (length f.items - item_number t))
+    stop-none (Some h) = cut-stop IsRowless h (item_number t) (steps_from inner d f t) (rowless inner d f atoms (start_strip d f t) (item_number t) (within t) (length f.items - item_number t))
 
 -- ---- columns
 

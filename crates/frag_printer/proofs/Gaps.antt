@@ -111,16 +111,16 @@ pub places-all : (p : Placing) → with_more p [] ≡ standing p ++ gap_places p
 places-all p = ap (λ ps. standing p ++ ps) (ap (λ k. places_from k p.y (waiting p ++ [])) (add-one (length (waiting p ++ []))) ∙ places-last (length (waiting p ++ [])) p.y p.gap.items)
 
 pub greatest-more : (ws : List Waiting) (w : Waiting) → greatest_margin (map laid_as ws ++ laid_as w ∷ []) ≡ max (greatest_margin (map laid_as ws)) (margin_of w)
-greatest-more [] (Margin m) = omega arith
-greatest-more [] (Opens b) = omega arith
-greatest-more [] (Closes b) = omega arith
-greatest-more [] (Atom k) = omega arith
-greatest-more [] (Row r made) = omega arith
 greatest-more (Margin m ∷ ws) w = let h = greatest-more ws w in omega arith
 greatest-more (Opens b ∷ ws) w = greatest-more ws w
 greatest-more (Closes b ∷ ws) w = greatest-more ws w
 greatest-more (Atom k ∷ ws) w = greatest-more ws w
 greatest-more (Row r made ∷ ws) w = greatest-more ws w
+greatest-more [] (Margin m) = omega arith
+greatest-more [] (Opens b) = omega arith
+greatest-more [] (Closes b) = omega arith
+greatest-more [] (Atom k) = omega arith
+greatest-more [] (Row r made) = omega arith
 
 -- the first of these have no greater margin than all of them
 pub greatest-part : (i : ℕ) (ws : List Waiting) → greatest_margin (map laid_as (take i ws)) ≤ greatest_margin (map laid_as ws)
@@ -203,10 +203,6 @@ pub leads-atom : (old new : Placing) (k height : ℕ) → HasMargin old → (hei
 leads-atom old new k height has some stands none y margins drops =
     let e = some-height height some in
     rw e (leads-end old new (atom k height) (record { y = old.y + old.margin + height; pending = 0; drops = false }) (ap not e) has stands none y margins (rw (y, margins, drops) refl))
-
--- nothing laid leads nowhere
-pub leads-none : (old : Placing) → HasMargin old → Leads old [] (strip_of old) old
-leads-none old has = record { strip = refl; margin = has; places = λ more. refl }
 
 -- one after another
 pub leads-both : (a b c : Placing) (xs ys : List Laid) (s t : Strip) → Leads a xs s b → Leads b ys t c → Leads a (xs ++ ys) t c

@@ -1,6 +1,6 @@
 -- The boxes that are open across a seam of a sound flow are those that its nested edges leave open there, from the outermost inwards.
-use Rattle.std.proofs.Common.{◌≡◌, ℕ, zero, suc, ◌+◌, ◌<◌, ◌≤◌, Bool, true, false, cond, not, ◌||◌, List, [], ◌∷◌, ◌++◌, length, take, drop, get_or, refl, sym, subst, ap, ◌∙◌, arith, add-one, append_assoc, reverse, sum_by, ◌≢◌}
-use Rattle.std.specs.Prelude.{◌==◌, AllPairs}
+use Rattle.std.proofs.Common.{◌≡◌, ℕ, zero, suc, ◌+◌, ◌<◌, ◌≤◌, Bool, true, false, cond, not, ◌||◌, List, [], ◌∷◌, ◌++◌, length, take, drop, get_or, refl, sym, subst, ap, ◌∙◌, arith, add-one, append_assoc, reverse, sum_by}
+use Rattle.std.specs.Prelude.{◌==◌}
 use Rattle.std.specs.List.{flat_map}
 use Rattle.std.proofs.lemmas.Bool.Decides.{nat_tests}
 use Rattle.std.proofs.lemmas.Grind.{flat_map-append}
@@ -8,17 +8,14 @@ use Rattle.std.proofs.lemmas.List.{append-nil, reverse-append, take-append-drop,
 use Rattle.std.proofs.lemmas.List.Elements.{filter-append}
 use Rattle.std.proofs.lemmas.List.Folds.{list_any-append}
 use Rattle.std.proofs.lemmas.List.Sums.{sum_by-cons, sum_by-append}
-use Rattle.flow_data.specs.declared.data.Edge.{Edge}
-use Rattle.flow_data.specs.declared.data.Edge.TheVariants.{Margin, Solid, Wall, Start, End}
-use Rattle.flow_data.specs.declared.data.Seam.{Seam}
-use Rattle.flow_data.specs.declared.data.Flow.{Flow}
-use Rattle.flow_data.specs.declared.data.FlowsData.{FlowsData}
+use Rattle.flow_list.specs.Data.{Edge, Flow, FlowsData, Seam, Margin, Solid, Wall, Start, End}
 use Rattle.flow_data.specs.Flows.{seam_of, no_seam, started, ended, starts_in, ends_in, is_among, open_at, boxes_in}
 use Rattle.flow_list.specs.ClonedEdges.{open_across}
 use Rattle.flow_data.specs.Soundness.{count_of, AreNested, edges_of, IsSoundFlow}
 use Rattle.flow_data.proofs.BoxSums.{starts-take}
 use Rattle.flow_data.proofs.OpenBoxes.{less, sum-less, at-sum-first}
-use Rattle.frag_printer.proofs.NestedPlaces.{AreOnce, once-next, once-less, count-cons, count-append, count-self, count-reverse, reverse-first}
+use Rattle.flow_data.proofs.Counts.{count-cons, count-append, count-reverse, count-self, distinct-count}
+use Rattle.frag_printer.proofs.NestedPlaces.{AreOnce, once-next, once-less, reverse-first}
 
 -- ---- what stays open after edges
 
@@ -189,26 +186,6 @@ take-none P (x ∷ xs) (suc i) h zero s lt = h 0 s (omega arith)
 take-none P (x ∷ xs) (suc i) h (suc k) s lt = take-none P xs i (λ j y l. h (suc j) y (omega arith)) k s (omega arith)
 
 -- ---- no box stands twice
-
-none-count : (n : ℕ) (xs : List ℕ) → ((j : ℕ) → j < length xs → get_or xs j n ≢ n) → count_of n xs ≡ 0
-none-count n [] h = refl
-none-count n (x ∷ xs) h = go (x == n) refl (none-count n xs (λ j lt. h (suc j) (omega arith)))
-  where
-    go : (t : Bool) → (x == n) ≡ t → count_of n xs ≡ 0 → count_of n (x ∷ xs) ≡ 0
-    go true e ih = absurd (h 0 (omega arith) (grind (arith, nat_tests)))
-    go false e ih = let c : count_of n (x ∷ xs) ≡ 0 + count_of n xs = count-cons n x xs ∙ rw e refl in omega arith
-
-distinct-count : (n : ℕ) (xs : List ℕ) → AllPairs (λ a b. a ≢ b) xs → count_of n xs ≤ 1
-distinct-count n [] h = omega arith
-distinct-count n (x ∷ xs) h = go (x == n) refl (distinct-count n xs (λ i j d lt in_range. h (suc i) (suc j) d (omega arith) (omega arith)))
-  where
-    go : (t : Bool) → (x == n) ≡ t → count_of n xs ≤ 1 → count_of n (x ∷ xs) ≤ 1
-    go true e ih =
-        let same : x ≡ n = grind (arith, nat_tests) in
-        let z : count_of n xs ≡ 0 = none-count n xs (λ j lt is. h 0 (suc j) n (omega arith) (omega arith) (same ∙ sym is)) in
-        let c : count_of n (x ∷ xs) ≡ 1 + count_of n xs = count-cons n x xs ∙ rw e refl in
-        omega arith
-    go false e ih = let c : count_of n (x ∷ xs) ≡ 0 + count_of n xs = count-cons n x xs ∙ rw e refl in omega arith
 
 abbrev one : ℕ → ℕ
 one x = 1

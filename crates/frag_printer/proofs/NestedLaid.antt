@@ -4,13 +4,7 @@ use Rattle.std.specs.Prelude.{◌==◌, ◌&&◌}
 use Rattle.std.specs.List.{flat_map}
 use Rattle.std.proofs.lemmas.Grind.{flat_map-append}
 use Rattle.std.proofs.lemmas.List.{append-nil, drop_more}
-use Rattle.flow_data.specs.declared.data.Bound.{Bound}
-use Rattle.flow_data.specs.declared.data.Edge.{Edge}
-use Rattle.flow_data.specs.declared.data.Item.{Item}
-use Rattle.flow_data.specs.declared.data.Item.TheVariants.{Atom, Row}
-use Rattle.flow_data.specs.declared.data.Seam.{Seam}
-use Rattle.flow_data.specs.declared.data.Flow.{Flow}
-use Rattle.flow_data.specs.declared.data.FlowsData.{FlowsData}
+use Rattle.flow_list.specs.Data.{Bound, Edge, Flow, FlowsData, Item, Seam, Atom, Row}
 use Rattle.flow_data.specs.Flows.{seam_of, item_of, no_seam, started, open_at}
 use Rattle.flow_list.specs.Tokens.{Token, row_start, within}
 use Rattle.flow_list.specs.Strip.{Strip, strip_at, put, lay_all, begins}

@@ -1,17 +1,13 @@
 -- Boxes start and end in what is placed in the order in which they start and end in what is laid, so that they are nested where the edges are.
-use Rattle.std.proofs.Common.{◌≡◌, ℕ, zero, suc, ◌+◌, ◌<◌, ◌≤◌, Bool, true, false, cond, ◌||◌, List, [], ◌∷◌, ◌++◌, length, refl, sym, ap, ◌∙◌, arith, append_assoc, reverse, subst}
+use Rattle.std.proofs.Common.{◌≡◌, ℕ, zero, suc, ◌+◌, ◌<◌, ◌≤◌, Bool, true, false, cond, List, [], ◌∷◌, ◌++◌, length, refl, sym, ap, ◌∙◌, arith, append_assoc, reverse, subst}
 use Rattle.std.specs.Prelude.{◌==◌}
 use Rattle.std.specs.List.{flat_map}
-use Rattle.std.proofs.lemmas.Bool.Decides.{nat_tests}
 use Rattle.std.proofs.lemmas.Grind.{flat_map-append}
 use Rattle.std.proofs.lemmas.List.{append-nil, reverse-append}
-use Rattle.std.proofs.lemmas.List.Sorted.{IsPermutation-reverse, sum_by-IsPermutation}
-use Rattle.std.proofs.lemmas.List.Sums.{sum_by-cons, sum_by-append}
-use Rattle.flow_data.specs.declared.data.Edge.{Edge}
-use Rattle.flow_data.specs.declared.data.Edge.TheVariants.{Margin, Solid, Wall, Start, End}
-use Rattle.flow_data.specs.declared.data.FlowsData.{FlowsData}
+use Rattle.flow_list.specs.Data.{Edge, FlowsData, Margin, Solid, Wall, Start, End}
 use Rattle.flow_data.specs.Flows.{box_of, started, is_among}
 use Rattle.flow_data.specs.Soundness.{count_of, AreNested}
+use Rattle.flow_data.proofs.Counts.{count-cons, count-reverse, count-self, count-among}
 use Rattle.flow_list.specs.Strip.{Strip, lay}
 use Rattle.flow_list.specs.Placing.{Laid, margin, solid, wall, opens, closes, atom, row, laid_edge, laid_edges, ends_gap, gap_of, behind_gap, gap_height, Placed, opens_at, closes_at, atom_at, row_at, placed_in_gap, gap_places, placed_item, laid_height, places_from}
 use Rattle.flow_list.specs.Fragments.{continued_from}
@@ -73,13 +69,8 @@ gap-marks y end before (x ∷ xs) =
     flat_map-append placed_mark (placed_in_gap y end before x) (gap_places y end (before ++ x ∷ []) xs) ∙ rw (gap-marks y end (before ++ x ∷ []) xs, one x) refl
   where
     one : (x : Laid) → placed_marks (placed_in_gap y end before x) ≡ laid_mark x
-    one (margin m) = refl
-    one (solid a) = refl
     one wall = refl
-    one (opens b) = refl
-    one (closes b) = refl
-    one (atom k height) = refl
-    one (row r) = refl
+    one _ = refl
 
 item-marks : (y : ℕ) (x : Laid) → ends_gap x ≡ true → placed_marks (placed_item y x) ≡ laid_mark x
 item-marks y (margin m) h = cc
@@ -128,27 +119,6 @@ places-marks (suc n) y xs short =
         flat_map-append placed_mark (placed_item end x) (places_from n (end + laid_height x) zs) ∙ rw (again (end + laid_height x) zs (omega arith), item-marks end x (b.ends x zs refl)) refl
 
 -- ---- nested edges give nested places
-
-pub count-cons : (n x : ℕ) (xs : List ℕ) → count_of n (x ∷ xs) ≡ cond (x == n) 1 0 + count_of n xs
-count-cons n x xs = sum_by-cons (λ m. cond (m == n) 1 0) x xs
-
-pub count-append : (n : ℕ) (xs ys : List ℕ) → count_of n (xs ++ ys) ≡ count_of n xs + count_of n ys
-count-append n xs ys = sum_by-append (λ m. cond (m == n) 1 0) xs ys
-
-pub count-self : (n : ℕ) (xs : List ℕ) → count_of n (n ∷ xs) ≡ suc (count_of n xs)
-count-self n xs = count-cons n n xs ∙ grind (arith, nat_tests)
-
-pub count-reverse : (n : ℕ) (xs : List ℕ) → count_of n (reverse xs) ≡ count_of n xs
-count-reverse n xs = sum_by-IsPermutation (λ m. cond (m == n) 1 0) xs (reverse xs) (IsPermutation-reverse xs)
-
--- a number that isn't counted is not among these
-pub count-among : (n : ℕ) (xs : List ℕ) → count_of n xs ≡ 0 → is_among xs n ≡ false
-count-among n [] z = refl
-count-among n (x ∷ xs) z = go (x == n) refl (count-among n xs)
-  where
-    go : (t : Bool) → (x == n) ≡ t → (count_of n xs ≡ 0 → is_among xs n ≡ false) → (t || is_among xs n) ≡ false
-    go true e again = absurd (let c : count_of n (x ∷ xs) ≡ 1 + count_of n xs = count-cons n x xs ∙ rw e refl in omega arith)
-    go false e again = again (let c : count_of n (x ∷ xs) ≡ 0 + count_of n xs = count-cons n x xs ∙ rw e refl in omega arith)
 
 pub reverse-first : (b : ℕ) (bs : List ℕ) → reverse (b ∷ bs) ≡ reverse bs ++ b ∷ []
 reverse-first b bs = reverse-append (b ∷ []) bs

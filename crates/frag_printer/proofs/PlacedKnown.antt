@@ -4,13 +4,7 @@ use Rattle.std.specs.Prelude.{All}
 use Rattle.std.specs.List.{AllByRecursion as Each, flat_map}
 use Rattle.std.proofs.lemmas.List.{drop_more}
 use Rattle.std.proofs.lemmas.List.Sums.{sum_by-cons, sum_by-append, sum_by-le-sum_by}
-use Rattle.flow_data.specs.declared.data.Edge.{Edge}
-use Rattle.flow_data.specs.declared.data.Edge.TheVariants.{Margin, Solid, Wall, Start, End}
-use Rattle.flow_data.specs.declared.data.Flow.{Flow}
-use Rattle.flow_data.specs.declared.data.FlowsData.{FlowsData}
-use Rattle.flow_data.specs.declared.data.Item.{Item}
-use Rattle.flow_data.specs.declared.data.Item.TheVariants.{Atom, Row}
-use Rattle.flow_data.specs.declared.data.Seam.{Seam}
+use Rattle.flow_list.specs.Data.{Edge, Flow, FlowsData, Item, Seam, Margin, Solid, Wall, Start, End, Atom, Row}
 use Rattle.flow_data.specs.Flows.{box_of, flow_of, item_of, seam_of, no_flow, no_seam, started, ended, starts_in, ends_in, is_among, boxes_in, open_at}
 use Rattle.flow_list.specs.ClonedEdges.{open_across, bottoms, tops}
 use Rattle.flow_list.specs.Tokens.{Token, row_start}
@@ -41,13 +35,9 @@ module _ (d : FlowsData) (f : Flow) (So : RowLaid → Type 0) (weight : ℕ → 
 
   -- what a box that starts weighs
   abbrev pub laid_weight : Laid → ℕ
-  laid_weight (margin m) = 0
-  laid_weight (solid a) = 0
   laid_weight wall = 0
   laid_weight (opens b) = weight b
-  laid_weight (closes b) = 0
-  laid_weight (atom k height) = 0
-  laid_weight (row r) = 0
+  laid_weight _ = 0
 
   -- the same of what is placed
   abbrev pub IsPlacedSo : Placed → Type 0

@@ -1,7 +1,6 @@
 -- What is said of what is placed in a column or a stack.
 use Rattle.std.specs.Prelude.{◌≡◌, ℕ, ◌<◌, false, flat_map, List, [], ◌∷◌, length}
-use Rattle.flow_data.specs.declared.data.Flow.{Flow}
-use Rattle.flow_data.specs.declared.data.FlowsData.{FlowsData}
+use Rattle.flow_list.specs.Data.{Flow, FlowsData}
 use Rattle.flow_data.specs.Flows.{box_of, flow_in, is_among}
 use Rattle.flow_list.specs.declared.flat_row.FlatRow.{FlatRow}
 use Rattle.flow_list.specs.Atoms.{HoldsAtoms}

@@ -2,12 +2,7 @@
 use Rattle.std.proofs.Common.{ℕ, zero, suc, ◌+◌, ◌-◌, Bool, true, false, cond, List, [], ◌∷◌, length, arith, sum_by, get_or, All}
 use Rattle.std.specs.Prelude.{◌==◌, not, ◌||◌}
 use Rattle.std.specs.List.{AllByRecursion as Each}
-use Rattle.flow_data.specs.declared.data.Edge.{Edge}
-use Rattle.flow_data.specs.declared.data.Edge.TheVariants.{Margin, Solid, Wall, Start, End}
-use Rattle.flow_data.specs.declared.data.Flow.{Flow}
-use Rattle.flow_data.specs.declared.data.FlowsData.{FlowsData}
-use Rattle.flow_data.specs.declared.data.Item.{Item}
-use Rattle.flow_data.specs.declared.data.Item.TheVariants.{Atom, Row}
+use Rattle.flow_list.specs.Data.{Edge, Flow, FlowsData, Item, Margin, Solid, Wall, Start, End, Atom, Row}
 use Rattle.flow_list.specs.Atoms.{IsAtom, HoldsAtoms}
 use Rattle.flow_list.specs.ClonedEdges.{open_across, tops}
 use Rattle.flow_list.specs.Column.{Inner, height_of, is_forced, start_strip, strip_behind}

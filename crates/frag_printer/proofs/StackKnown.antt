@@ -1,8 +1,7 @@
 -- What stands in stack 0 leaves room, and names what there is.
 use Rattle.std.proofs.Common.{◌≡◌, ℕ, ◌+◌, ◌<◌, ◌^◌, length, sum_by, sym, subst, arith}
 use Rattle.std.specs.List.{AllByRecursion as Each}
-use Rattle.flow_data.specs.declared.data.FlowsData.{FlowsData}
-use Rattle.flow_data.specs.declared.data.Stack.{Stack}
+use Rattle.flow_list.specs.Data.{FlowsData, Stack}
 use Rattle.flow_data.specs.Flows.{amount, flow_of, item_of, seam_of, stack_of}
 use Rattle.flow_list.specs.Fragments.{place_of}
 use Rattle.flow_data.specs.Soundness.{IsSound}

@@ -5,14 +5,8 @@ use Rattle.std.specs.List.{flat_map}
 use Rattle.std.proofs.lemmas.Grind.{flat_map-append}
 use Rattle.std.proofs.lemmas.List.{drop_more, drop_all}
 use Rattle.mc_base.specs.PlainTree.{plain_trees}
-use Rattle.flow_data.specs.declared.data.Bound.{Bound}
-use Rattle.flow_data.specs.declared.data.Edge.{Edge}
-use Rattle.flow_data.specs.declared.data.Edge.TheVariants.{Margin, Solid, Wall, Start, End}
+use Rattle.flow_list.specs.Data.{Bound, Edge, Flow, FlowsData, Item, Margin, Solid, Wall, Start, End, Atom, Row}
 use Rattle.flow_list.specs.declared.flat_row.FlatRow.{FlatRow}
-use Rattle.flow_data.specs.declared.data.Flow.{Flow}
-use Rattle.flow_data.specs.declared.data.FlowsData.{FlowsData}
-use Rattle.flow_data.specs.declared.data.Item.{Item}
-use Rattle.flow_data.specs.declared.data.Item.TheVariants.{Atom, Row}
 use Rattle.flow_list.specs.Atoms.{HoldsAtoms}
 use Rattle.flow_data.specs.Flows.{no_flow, no_row, no_item, flow_of, flow_in, row_of, stack_of, item_of, seam_of, box_of}
 use Rattle.flow_list.specs.Tokens.{Token, row_start}
@@ -21,7 +15,7 @@ use Rattle.flow_list.specs.Strip.{Strip, lay, put, lay_all, begins}
 use Rattle.flow_data.specs.Soundness.{IsSound, IsSoundFlow}
 use Rattle.flow_list.specs.RowHeights.{row_columns, columns_of_row}
 use Rattle.flow_list.specs.Stacks.{stack_strip, stack_extent, stack_height, height_in_stack}
-use Rattle.flow_list.specs.Placing.{RowLaid, Laid, margin, solid, wall, opens, closes, atom, row, laid_edge, laid_edges, gap_of, behind_gap, gap_height, Placed, placed_in_gap, gap_places, placed_item, laid_height, places_from}
+use Rattle.flow_list.specs.Placing.{RowLaid, Laid, margin, solid, wall, row, laid_edge, laid_edges, gap_of, behind_gap, gap_height, Placed, placed_in_gap, gap_places, placed_item, laid_height, places_from}
 use Rattle.flow_list.specs.Fragments.{continued_from, row_fragments, laid_in_stack, stack_laid}
 use Rattle.flow_list.specs.Tree.{TreeLine, stack, row as row_kind, row_width, Frame, piece_height, lines_of_columns, lines_of_stack, tree_of}
 use Rattle.frag_printer.specs.FlatLines.{height_laid, row_line, flat_lines, ArePlaces}
@@ -41,13 +35,9 @@ flat_of d r = record { row = r.row; height = r.height; ends = ends_before (row_c
 
 module _ (d : FlowsData) where
   abbrev laid_flat : Laid → List FlatRow
-  laid_flat (margin m) = []
-  laid_flat (solid a) = []
   laid_flat wall = []
-  laid_flat (opens b) = []
-  laid_flat (closes b) = []
-  laid_flat (atom k height) = []
   laid_flat (row r) = flat_of d r ∷ []
+  laid_flat _ = []
 
   abbrev rows_laid : List Laid → List FlatRow
   rows_laid xs = flat_map laid_flat xs
@@ -76,22 +66,12 @@ module _ (d : FlowsData) where
       flat_map-append (row_placed d) (placed_in_gap y end before x) (gap_places y end (before ++ x ∷ []) xs) ∙ rw (gap-rows y end (before ++ x ∷ []) xs, one x) refl
     where
       one : (x : Laid) → placed (placed_in_gap y end before x) ≡ laid_flat x
-      one (margin m) = refl
-      one (solid a) = refl
       one wall = refl
-      one (opens b) = refl
-      one (closes b) = refl
-      one (atom k height) = refl
-      one (row r) = refl
+      one _ = refl
 
   item-rows : (y : ℕ) (x : Laid) → placed (placed_item y x) ≡ laid_flat x
-  item-rows y (margin m) = refl
-  item-rows y (solid a) = refl
   item-rows y wall = refl
-  item-rows y (opens b) = refl
-  item-rows y (closes b) = refl
-  item-rows y (atom k height) = refl
-  item-rows y (row r) = refl
+  item-rows y _ = refl
 
   places-rows : (n y : ℕ) (xs : List Laid) → length xs < n → placed (places_from n y xs) ≡ rows_laid xs
   unfolding places_from

@@ -6,11 +6,7 @@ use Rattle.std.proofs.lemmas.List.Folds.{Any-from_list_any}
 use Rattle.std.proofs.lemmas.List.Sums.{sum_by-cons, sum_by-le-sum_by}
 use Rattle.std.proofs.lemmas.Map.Made.{IsDistinct-from_AllPairs}
 use Rattle.std.proofs.lemmas.Map.Steps.{length-le_from_distinct_below}
-use Rattle.flow_data.specs.declared.data.Bound.{Bound}
-use Rattle.flow_data.specs.declared.data.Flow.{Flow}
-use Rattle.flow_data.specs.declared.data.FlowsData.{FlowsData}
-use Rattle.flow_data.specs.declared.data.Item.{Item}
-use Rattle.flow_data.specs.declared.data.Item.TheVariants.{Atom, Row}
+use Rattle.flow_list.specs.Data.{Bound, Flow, FlowsData, Item, Atom, Row}
 use Rattle.flow_list.specs.Atoms.{HoldsAtoms}
 use Rattle.flow_list.specs.ClonedEdges.{bottoms, tops}
 use Rattle.flow_data.specs.Flows.{boxes_in, flow_in, flow_of, item_of, no_flow, no_item, seam_of, stack_of, started}

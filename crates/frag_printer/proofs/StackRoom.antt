@@ -1,9 +1,7 @@
 -- How far stack 0 reaches, item by item: no further than all flows together.
 use Rattle.std.proofs.Common.{ℕ, zero, suc, ◌+◌, ◌<◌, ◌≤◌, ◌^◌, length, Option, List, [], ◌∷◌, subst, add-one, arith, sum_by}
 use Rattle.std.specs.List.{AllByRecursion as Each}
-use Rattle.flow_data.specs.declared.data.Bound.{Bound}
-use Rattle.flow_data.specs.declared.data.Flow.{Flow}
-use Rattle.flow_data.specs.declared.data.FlowsData.{FlowsData}
+use Rattle.flow_list.specs.Data.{Bound, Flow, FlowsData}
 use Rattle.flow_list.specs.ClonedEdges.{bottoms, tops}
 use Rattle.flow_data.specs.Flows.{amount, box_of, boxes_in, flow_of, item_of, row_of, seam_of, stack_of}
 use Rattle.flow_list.specs.Fragments.{place_of}

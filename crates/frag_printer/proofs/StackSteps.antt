@@ -14,13 +14,8 @@ use Rattle.flow_list.proofs.StripBounds.{put_le, lay_all_le}
 use Rattle.std.proofs.Common.{◌≡◌, ℕ, zero, suc, ◌+◌, ◌-◌, ◌<◌, ◌≤◌, ◌^◌, Bool, true, false, cond, List, [], ◌∷◌, ◌++◌, length, get_or, drop, refl, sym, subst, ◌∙◌, ap, arith, Option, Some, ◌⊎◌, inl, inr, append_assoc, sum_by, fold, All}
 use Rattle.std.proofs.lemmas.Bool.{cases_lt}
 use Rattle.std.proofs.lemmas.List.{drop_more, append-nil}
-use Rattle.flow_data.specs.declared.data.Bound.{Bound}
-use Rattle.flow_data.specs.declared.data.Edge.{Edge}
+use Rattle.flow_list.specs.Data.{Bound, Edge, Flow, FlowsData, Item, Row}
 use Rattle.flow_list.specs.declared.flat_row.FlatRow.{FlatRow}
-use Rattle.flow_data.specs.declared.data.Flow.{Flow}
-use Rattle.flow_data.specs.declared.data.FlowsData.{FlowsData}
-use Rattle.flow_data.specs.declared.data.Item.{Item}
-use Rattle.flow_data.specs.declared.data.Item.TheVariants.{Row}
 use Rattle.flow_data.specs.Flows.{item_of, no_item, row_of, seam_of, amount, box_of, boxes_in, flow_of, no_flow}
 use Rattle.flow_list.specs.Fragments.{laid_in_stack}
 use Rattle.flow_list.specs.Placing.{Laid, row, laid_edges, Placed}

@@ -3,15 +3,13 @@ use Rattle.frag_printer.proofs.Placements.{IsPlacedInStack, row_placed, rows_pla
 use Rattle.frag_printer.proofs.StackKnown.{IsKnownStack}
 use Rattle.frag_printer.proofs.PartLines.{column-text, part_bottoms-are}
 use Rattle.flow_list.specs.Stacks.{stack_extent}
-use Rattle.flow_data.specs.declared.data.Stack.{Stack}
+use Rattle.flow_list.specs.Data.{Flow, FlowsData, Stack}
 use Rattle.flow_list.specs.RowHeights.{row_columns}
 use Rattle.std.proofs.Common.{◌≡◌, ℕ, zero, suc, ◌+◌, ◌-◌, ◌<◌, ◌^◌, List, [], ◌∷◌, ◌++◌, length, map, get_or, drop, refl, sym, subst, ◌∙◌, ap, arith, All, sum_by}
 use Rattle.std.specs.List.{AllByRecursion as Each}
 use Rattle.std.proofs.lemmas.List.{drop_more, drop-drop}
 use Rattle.std.proofs.lemmas.List.Sums.{sum_by-cons}
 use Rattle.flow_list.specs.declared.flat_row.FlatRow.{FlatRow}
-use Rattle.flow_data.specs.declared.data.Flow.{Flow}
-use Rattle.flow_data.specs.declared.data.FlowsData.{FlowsData}
 use Rattle.flow_data.specs.Flows.{box_of, flow_of, item_of, stack_of}
 use Rattle.flow_list.specs.Fragments.{bottom_of, place_of, row_fragments}
 use Rattle.flow_list.specs.Placing.{Placed as AnyPlaced, opens_at, closes_at, atom_at, row_at}

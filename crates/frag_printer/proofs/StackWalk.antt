@@ -1,15 +1,13 @@
 -- A stack, item by item: its head, and what is still to come behind each item.
-use Rattle.std.proofs.Common.{◌≡◌, ℕ, zero, suc, ◌+◌, List, ◌∷◌, ◌++◌, length, refl, sym, subst, ap, ◌∙◌, add-one, append_assoc}
+use Rattle.std.proofs.Common.{◌≡◌, ℕ, zero, suc, ◌+◌, List, ◌∷◌, ◌++◌, refl, sym, subst, ap, ◌∙◌, add-one, append_assoc}
 use Rattle.std.proofs.lemmas.List.{append-nil}
-use Rattle.flow_data.specs.declared.data.Bound.{Bound}
-use Rattle.flow_data.specs.declared.data.Flow.{Flow}
-use Rattle.flow_data.specs.declared.data.FlowsData.{FlowsData}
-use Rattle.flow_data.specs.Flows.{flow_of, stack_of, item_of, seam_of}
+use Rattle.flow_list.specs.Data.{Bound, Flow, FlowsData}
+use Rattle.flow_data.specs.Flows.{item_of, seam_of}
 use Rattle.flow_list.specs.Fragments.{laid_in_stack, stack_laid}
 use Rattle.flow_list.specs.Placing.{Laid, laid_edges}
 use Rattle.flow_list.specs.Stacks.{stack_strip}
 use Rattle.flow_list.specs.Strip.{lay_all}
-use Rattle.frag_printer.specs.StackParts.{behind_item, behind_tail, before_head, stack_item, whole_laid}
+use Rattle.frag_printer.specs.StackParts.{behind_item, behind_tail, before_head, stack_item}
 
 regroup : (xs ys zs rest : List Laid) → xs ++ ((ys ++ zs) ++ rest) ≡ (xs ++ ys) ++ (zs ++ rest)
 regroup xs ys zs rest = ap (λ all. xs ++ all) (append_assoc ys zs rest) ∙ sym (append_assoc xs ys (zs ++ rest))
@@ -41,7 +39,3 @@ module _ (d : FlowsData) (bound : Bound) (f : Flow) where
   pub rest-end : (k : ℕ) → stack_rest k 0 ≡ laid_edges (before_head d bound f k) (seam_of f k).head
   unfolding stack_laid
   rest-end k = append-nil (laid_edges (before_head d bound f k) (seam_of f k).head)
-
--- all that is laid in a stack
-pub rest-whole : (d : FlowsData) (s : ℕ) → whole_laid d s ≡ stack_rest d (stack_of d s).bound (flow_of d (stack_of d s).flow) 0 (length (flow_of d (stack_of d s).flow).items)
-rest-whole d s = refl

@@ -1,9 +1,6 @@
 -- What stands in a column of a flow of atoms, from item i on and before item e.
 use Rattle.std.specs.Prelude.{ℕ, ◌+◌, ◌-◌, ◌≤◌, ◌==◌, ◌||◌, not, List, [], ◌∷◌, ◌++◌, length, take, drop, sum_by}
-use Rattle.flow_data.specs.declared.data.Edge.{Edge}
-use Rattle.flow_data.specs.declared.data.Edge.TheVariants.{Margin, Solid, Wall, Start, End}
-use Rattle.flow_data.specs.declared.data.Flow.{Flow}
-use Rattle.flow_data.specs.declared.data.FlowsData.{FlowsData}
+use Rattle.flow_list.specs.Data.{Edge, Flow, FlowsData, Margin, Solid, Wall, Start, End}
 use Rattle.flow_list.specs.ClonedEdges.{open_across, tops, bottoms}
 use Rattle.flow_list.specs.Column.{height_of, is_forced, start_strip, strip_behind}
 use Rattle.flow_data.specs.Flows.{amount, boxes_in, item_of, seam_of}

@@ -2,9 +2,7 @@
 -- deeper, up to its end.
 use Rattle.std.specs.Prelude.{ℕ, ◌+◌, ◌-◌, ◌*◌, ◌<◌, ◌≤◌, Bool, cond, List, [], ◌∷◌, ◌++◌, Option, Some, None, is_some, length}
 use Rattle.mc_base.specs.PlainTree.{PlainTree, plain_trees}
-use Rattle.flow_data.specs.declared.data.Flow.{Flow}
-use Rattle.flow_data.specs.declared.data.FlowsData.{FlowsData}
-use Rattle.flow_data.specs.declared.data.RowInfo.{RowInfo}
+use Rattle.flow_list.specs.Data.{Flow, FlowsData, RowInfo}
 use Rattle.flow_data.specs.Flows.{flow_of, box_of, row_of, item_of}
 use Rattle.flow_list.specs.Placing.{RowLaid, Placed, opens_at, closes_at, atom_at, row_at}
 use Rattle.flow_list.specs.Fragments.{bottom_of}

@@ -1,11 +1,7 @@
 -- Rows that were laid out, and the lines that they have.
 use Rattle.std.specs.Prelude.{ℕ, ◌+◌, EachIndex, List, [], ◌∷◌, ◌++◌, length, map}
-use Rattle.flow_data.specs.declared.data.Bound.{Bound}
+use Rattle.flow_list.specs.Data.{Bound, Flow, FlowsData, Item, Atom, Row}
 use Rattle.flow_list.specs.declared.flat_row.FlatRow.{FlatRow}
-use Rattle.flow_data.specs.declared.data.Flow.{Flow}
-use Rattle.flow_data.specs.declared.data.FlowsData.{FlowsData}
-use Rattle.flow_data.specs.declared.data.Item.{Item}
-use Rattle.flow_data.specs.declared.data.Item.TheVariants.{Atom, Row}
 use Rattle.flow_list.specs.Atoms.{HoldsAtoms}
 use Rattle.flow_list.specs.Column.{Column}
 use Rattle.flow_data.specs.Flows.{flow_in, flow_of, row_of, stack_of}

@@ -1,7 +1,6 @@
 -- The lines of what is placed in a column or a stack.
 use Rattle.std.specs.Prelude.{ℕ, ◌+◌, ◌-◌, List, [], ◌∷◌, ◌++◌}
-use Rattle.flow_data.specs.declared.data.Flow.{Flow}
-use Rattle.flow_data.specs.declared.data.FlowsData.{FlowsData}
+use Rattle.flow_list.specs.Data.{Flow, FlowsData}
 use Rattle.flow_data.specs.Flows.{box_of, item_of}
 use Rattle.flow_list.specs.RowHeights.{row_columns}
 use Rattle.flow_list.specs.Tree.{TreeLine, Frame, in_box, item_lines}

@@ -1,7 +1,6 @@
 -- What is placed in a column, with the bottom of each box.
 use Rattle.std.specs.Prelude.{ℕ, ◌<◌, List, [], ◌∷◌, length, map}
-use Rattle.flow_data.specs.declared.data.Flow.{Flow}
-use Rattle.flow_data.specs.declared.data.FlowsData.{FlowsData}
+use Rattle.flow_list.specs.Data.{Flow, FlowsData}
 use Rattle.flow_data.specs.Flows.{box_of}
 use Rattle.flow_list.specs.Fragments.{bottom_of}
 use Rattle.flow_list.specs.Placing.{Placed as AnyPlaced}

@@ -1,8 +1,7 @@
 -- The parts of a stack, with the rows that stand among them.
 use Rattle.std.specs.Prelude.{ℕ, ◌<◌, List, [], ◌∷◌, flat_map, length}
 use Rattle.flow_list.specs.declared.flat_row.FlatRow.{FlatRow}
-use Rattle.flow_data.specs.declared.data.Flow.{Flow}
-use Rattle.flow_data.specs.declared.data.FlowsData.{FlowsData}
+use Rattle.flow_list.specs.Data.{Flow, FlowsData}
 use Rattle.flow_list.specs.Atoms.{HoldsAtoms}
 use Rattle.flow_data.specs.Flows.{flow_in}
 use Rattle.flow_list.specs.RowHeights.{row_columns}

@@ -1,8 +1,6 @@
 -- What is laid and placed in a stack, item by item.
 use Rattle.std.specs.Prelude.{ℕ, zero, suc, ◌+◌, false, List, ◌∷◌, ◌++◌, length}
-use Rattle.flow_data.specs.declared.data.Bound.{Bound}
-use Rattle.flow_data.specs.declared.data.Flow.{Flow}
-use Rattle.flow_data.specs.declared.data.FlowsData.{FlowsData}
+use Rattle.flow_list.specs.Data.{Bound, Flow, FlowsData}
 use Rattle.flow_list.specs.ClonedEdges.{tops}
 use Rattle.flow_data.specs.Flows.{flow_of, stack_of, item_of, seam_of}
 use Rattle.flow_list.specs.Fragments.{continued_from, laid_in_stack, stack_laid}

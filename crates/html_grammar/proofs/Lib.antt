@@ -21,3 +21,4 @@ mod TokenLate
 mod TextPlaces
 pub mod TextFaults
 pub mod Refusals
+pub mod NodeOrder

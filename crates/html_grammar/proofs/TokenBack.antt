@@ -79,6 +79,11 @@ raw_stops name (p ∷ inner) rest h over =
       ap (λ (b : Bool). cond b [] (p.character ∷ raw_codes name (inner ++ rest))) h.0 ∙ ap (λ (x : List ℕ). p.character ∷ x) r.1,
     )
 
+text_stops : (t : List ℕ) (inner rest : List Place) → NoneBegins (begins_text t) inner rest → begins_text t rest ≡ true → (c : ℕ) → begins c rest ≡ true → from_text t (inner ++ rest) ≡ rest
+text_stops t [] [] h over c b = refl
+text_stops t [] (p ∷ rest) h over c b = ap (λ (b : Bool). cond b (p ∷ rest) (from_text t rest)) over
+text_stops t (p ∷ inner) rest h over c b = ap (λ (b : Bool). cond b (p ∷ (inner ++ rest)) (from_text t (inner ++ rest))) h.0 ∙ text_stops t inner rest h.1 over c b
+
 -- an end tag behind its </
 pub end_back : (at : ℕ) (name : List ℕ) (one rest : List Place) (f : IsEndTag at name one rest) → end_at at (f.named ++ (f.white ++ (f.last ∷ rest))) ≡ token_answer (End at name) rest
 unfolding end_at

@@ -12,3 +12,4 @@ pub mod Spelling
 pub mod Whole
 pub mod Documents
 pub mod FirstFaults
+pub mod NodeOrder

@@ -1,6 +1,7 @@
 ghost use Rattle.html_grammar.specs.Laws as laws;
 ghost use Rattle.html_grammar.specs.Documents as documents;
 ghost use Rattle.html_grammar.specs.FirstFaults as faults;
+ghost use Rattle.html_grammar.specs.NodeOrder as order;
 
 /// Every document is read, and gives the nodes of its tree in preorder and its depth.
 pub fn documents_are_read()
@@ -58,4 +59,21 @@ pub fn the_fault_of_a_text_is_the_first()
 /// A text is refused for its first fault, or for one of the two limits.
 pub fn refusals_have_reasons()
     ensures { faults.RefusalsHaveReasons }
+{}
+
+/// In a tree each node stands in an element before it, or in none; where one element holds the whole tree, in none but it
+/// alone.
+pub fn parents_are_earlier()
+    ensures elements { order.ParentsAreEarlier }
+    ensures root { order.AllButTheRootHaveParents }
+{}
+
+/// What is inside a node of a tree are the nodes behind it up to some place.
+pub fn subtrees_are_contiguous()
+    ensures { order.SubtreesAreContiguous }
+{}
+
+/// Nodes are those of one tree at most.
+pub fn nodes_have_one_tree()
+    ensures { order.NodesHaveOneTree }
 {}

@@ -12,11 +12,12 @@ mod token;
 
 pub use dom::{Attribute, Dom, DomNode, NodeId, NodeKind};
 pub use laws::{
-    documents_are_read, doms_are_of_their_texts, one_tree, one_tree_of_text, refusals_have_reasons,
-    texts_are_read, texts_have_their_doms, the_fault_is_the_first,
-    the_fault_of_a_text_is_the_first, what_is_read_is_a_document, what_is_read_is_spelled,
+    documents_are_read, doms_are_of_their_texts, nodes_have_one_tree, one_tree, one_tree_of_text,
+    parents_are_earlier, refusals_have_reasons, subtrees_are_contiguous, texts_are_read,
+    texts_have_their_doms, the_fault_is_the_first, the_fault_of_a_text_is_the_first,
+    what_is_read_is_a_document, what_is_read_is_spelled,
 };
+pub use mc_base::Fault;
 pub use place::Place;
 pub use stage::{Open, Stage};
-pub use mc_base::Fault;
 pub use token::{Meaning, Piece, ReadAttribute, ReadAttributes, Spelled, Tag, Token, Value};

@@ -7,7 +7,6 @@ use Rattle.std.proofs.lemmas.List.Elements.{All-from_recursion, recursion_from_A
 use Rattle.inline_text.specs.declared.content.Piece.{Piece}
 use Rattle.inline_text.specs.declared.content.Piece.TheVariants.{Char, Image, Forced, Chance}
 use Rattle.inline_text.specs.declared.content.RunStyle.{RunStyle}
-use Rattle.inline_text.specs.declared.content.Kind.{Kind}
 use Rattle.inline_text.specs.declared.content.Kind.TheVariants.{Space, Content, Break}
 use Rattle.inline_text.specs.WhiteSpace.{keeps, is_white, char_becomes, kind_of_char, piece_becomes, kind_of, content_or, precedes_content, collapsed, is_chance, is_blank_kind, is_blank_piece}
 use Rattle.inline_text.proofs.Scan.{collapsed_at, collapsed_behind_at}

@@ -91,14 +91,10 @@ passes name reached limit bytes (inr (few, inr winded)) = inr (few, inr winded.0
 -- status 6 is that of a passed limit
 pub limited : (command : Option Command) (held : List ℕ → Option (List ℕ)) (before now : List ℕ → ℕ) (ob on : ℕ) (stop : Stop) →
     IsCause command held before now ob on stop → status_of stop ≡ 6 → OfFlow command held PassesLimit
-limited command held before now ob on Usage cause is = absurd (omega arith)
-limited command held before now ob on (Read input) cause is = absurd (omega arith)
-limited command held before now ob on Write cause is = absurd (omega arith)
-limited command held before now ob on (Refused (Grammar input offset rule)) cause is = absurd (omega arith)
-limited command held before now ob on (Refused (Construct input offset name)) cause is = absurd (omega arith)
 limited command held before now ob on (Refused (Limit name reached limit)) cause is =
     of_command command held (Limit name reached limit) PassesLimit (λ e. cc) (passes name reached limit) cause
 limited command held before now ob on (Refused NoMemory) cause is = absurd (omega arith)
+limited command held before now ob on _ cause is = absurd (omega arith)
 
 -- ---- completeness
 

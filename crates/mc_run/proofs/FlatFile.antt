@@ -4,7 +4,7 @@ use Rattle.std.specs.List.{AllByRecursion}
 use Rattle.std.proofs.lemmas.List.{length-append}
 use Rattle.std.proofs.lemmas.List.Elements.{All-from_recursion, recursion_from_All, All-nil}
 use Rattle.flow_text.specs.Grammar.{Rest, no_more, edge, place, atom, row, FlowFile}
-use Rattle.flow_data.specs.declared.data.FlowsData.{FlowsData}
+use Rattle.flow_list.specs.Data.{FlowsData}
 use Rattle.flow_list.specs.Atoms.{IsAtom}
 use Rattle.flow_list.specs.FileFlows.{row_count, items_from, rows_from, content_rows, flows_of}
 use Rattle.frag_printer.specs.FlatRows.{HoldsFlatRows}

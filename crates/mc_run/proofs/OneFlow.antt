@@ -13,7 +13,7 @@ use Rattle.flow_text.proofs.AnswerLaws.{passed_limit}
 use Rattle.flow_text.proofs.Complete.{file_is_read}
 use Rattle.flow_text.proofs.TextLaws.{text_again}
 use Rattle.flow_text.proofs.Unique.{one_file}
-use Rattle.flow_data.specs.declared.data.FlowsData.{FlowsData}
+use Rattle.flow_list.specs.Data.{FlowsData}
 use Rattle.flow_list.specs.FileFlows.{IsFile, RefusesText, flows_of, limit_of}
 use Rattle.mc_run.specs.Outcome.{FlowSays, IsNoFlowFile, RefusesBytes}
 

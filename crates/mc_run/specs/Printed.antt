@@ -1,6 +1,6 @@
 -- The text of a result. Results are this project's own: a first line, the lines of the tree, and a last line.
 use Rattle.std.specs.Prelude.{ℕ, List, ◌++◌, codes}
-use Rattle.flow_data.specs.declared.data.FlowsData.{FlowsData}
+use Rattle.flow_list.specs.Data.{FlowsData}
 use Rattle.flow_list.specs.Tree.{tree_of}
 use Rattle.flow_list.specs.TreeText.{tree_text}
 use Rattle.mc_run.specs.Stops.{line_feed}

@@ -18,7 +18,8 @@ use Rattle.flow_data.specs.declared.data.Stack.{Stack}
 use Rattle.flow_data.specs.Flows.{flow_of, stack_of, item_of, row_in, rows_in, no_item, no_flow, no_stack}
 use Rattle.flow_data.specs.Soundness.{IsSound, IsSoundItem, count_of}
 use Rattle.flow_laws.proofs.HoldingOnce.{one-place, one-at}
-use Rattle.flow_laws.proofs.Totals.{sum-flat, sum-map, count-cons, count-other}
+use Rattle.flow_data.proofs.Counts.{count-cons, count-no}
+use Rattle.flow_laws.proofs.Totals.{sum-flat, sum-map}
 use Rattle.flow_list.specs.Certificate.{StackRow, stack_rows, numbers_below, rows_in_stacks}
 
 -- ---- numbers below
@@ -86,9 +87,9 @@ same-number n r (x ∷ all) = go (x.row == n) refl (n == r) refl (same-number n 
     go true ea true eb rest =
         let f = numbers_of (filter (λ (x : StackRow). x.row == n) all) in
         count-cons r x.row f ∙ ap (λ k. cond (x.row == r) 1 0 + k) rest ∙ sym (count-cons r x.row (numbers_of all))
-    go true ea false eb rest = count-other r x.row (numbers_of (filter (λ (x : StackRow). x.row == n) all))
+    go true ea false eb rest = count-no r x.row (numbers_of (filter (λ (x : StackRow). x.row == n) all))
         (grind (arith, nat_tests)) ∙ rest
-    go false ea true eb rest = rest ∙ sym (count-other r x.row (numbers_of all) (grind (arith, nat_tests)))
+    go false ea true eb rest = rest ∙ sym (count-no r x.row (numbers_of all) (grind (arith, nat_tests)))
     go false ea false eb rest = rest
 
 row-counted : (r k : ℕ) (items : List Item) → k < length items → get_or items k no_item ≡ Row r →

@@ -1,5 +1,5 @@
 use Rattle.std.proofs.Common.{All, sym, subst}
-use Rattle.flow_data.specs.declared.data.Seam.{Seam}
+use Rattle.flow_data.specs.Data.{Seam}
 use Rattle.flow_data.specs.Across.{IsBoxInReach}
 use Rattle.flow_data.specs.Flows.{flow_of, boxes_in, started}
 use Rattle.flow_data.proofs.Everywhere.{of_boxes, of_opened, of_starts}

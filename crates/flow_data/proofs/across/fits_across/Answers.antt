@@ -1,5 +1,5 @@
 use Rattle.std.proofs.Common.{length, ap}
-use Rattle.flow_data.specs.declared.data.Stack.{Stack}
+use Rattle.flow_data.specs.Data.{Stack}
 use Rattle.flow_data.specs.Flows.{stack_of}
 use Rattle.flow_data.specs.Soundness.{FitsAcross}
 use Rattle.flow_data.proofs.FitsAcross.{places_start, places_step, places_fewer, place_fits, reaches-from_fits}

@@ -1,7 +1,6 @@
 use Rattle.std.proofs.Common.{◌+◌, ◌-◌, ◌^◌, ◌∙◌, ℕ, List, min, sum_by, ap, arith}
 use Rattle.std.proofs.lemmas.List.Sums.{sum_by-append}
-use Rattle.flow_data.specs.declared.data.Item.{Item}
-use Rattle.flow_data.specs.declared.data.Seam.{Seam}
+use Rattle.flow_data.specs.Data.{Item, Seam}
 use Rattle.flow_data.specs.Sizes.{cloned_height}
 use Rattle.flow_data.specs.Flows.{atom_height, amount, starts_in}
 use Rattle.flow_data.proofs.sizes.flow_height.Goals as goal

@@ -1,5 +1,5 @@
 use Rattle.std.proofs.Common.{◌≡◌, ◌-◌, ◌^◌, length, min, sum_by, take}
-use Rattle.flow_data.specs.declared.data.RowInfo.{RowInfo}
+use Rattle.flow_data.specs.Data.{RowInfo}
 use Rattle.flow_data.specs.Flows.{flow_of}
 use Rattle.flow_data.proofs.sizes.row_items.Given as goal
 

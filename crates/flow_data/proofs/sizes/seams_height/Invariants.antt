@@ -1,5 +1,5 @@
 use Rattle.std.proofs.Common.{◌≡◌, ◌+◌, ◌-◌, ◌^◌, min, sum_by, take}
-use Rattle.flow_data.specs.declared.data.Seam.{Seam}
+use Rattle.flow_data.specs.Data.{Seam}
 use Rattle.flow_data.specs.Sizes.{cloned_height}
 use Rattle.flow_data.specs.Flows.{amount, starts_in}
 use Rattle.flow_data.proofs.sizes.seams_height.Given as goal

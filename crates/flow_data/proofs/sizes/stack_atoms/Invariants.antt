@@ -1,5 +1,5 @@
 use Rattle.std.proofs.Common.{◌≡◌, ◌-◌, ◌^◌, min, sum_by, count_by, take}
-use Rattle.flow_data.specs.declared.data.Stack.{Stack}
+use Rattle.flow_data.specs.Data.{Stack}
 use Rattle.flow_data.specs.Flows.{flow_of}
 use Rattle.flow_data.specs.Soundness.{is_atom}
 use Rattle.flow_data.proofs.sizes.stack_atoms.Given as goal

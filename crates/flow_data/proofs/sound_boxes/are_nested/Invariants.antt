@@ -1,6 +1,6 @@
 use Rattle.std.proofs.Common.{◌++◌, drop, reverse, flat_map}
 use Rattle.std.specs.Prelude.{◌↔◌}
-use Rattle.flow_data.specs.declared.data.Seam.{Seam}
+use Rattle.flow_data.specs.Data.{Seam}
 use Rattle.flow_data.specs.Soundness.{AreNested, edges_of}
 use Rattle.flow_data.proofs.sound_boxes.are_nested.Given as goal
 

@@ -1,6 +1,6 @@
 use Rattle.std.proofs.Common.{List, ◌++◌, drop, reverse}
 use Rattle.std.specs.Prelude.{◌↔◌}
-use Rattle.flow_data.specs.declared.data.Edge.{Edge}
+use Rattle.flow_data.specs.Data.{Edge}
 use Rattle.flow_data.specs.Soundness.{AreNested}
 use Rattle.flow_data.proofs.sound_boxes.follow_all.Given as goal
 

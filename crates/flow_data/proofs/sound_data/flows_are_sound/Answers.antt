@@ -1,7 +1,7 @@
 use Rattle.std.proofs.Common.{◌≤◌, ◌<◌, ◌∙◌, length, List, All, ap, get_or, subst}
 use Rattle.std.proofs.lemmas.List.{take_all}
 use Rattle.std.proofs.lemmas.List.Elements.{All-more}
-use Rattle.flow_data.specs.declared.data.Flow.{Flow}
+use Rattle.flow_data.specs.Data.{Flow}
 use Rattle.flow_data.specs.Soundness.{IsSoundFlow}
 use Rattle.flow_data.proofs.Verdicts.{accepted}
 use Rattle.flow_data.proofs.sound_data.flows_are_sound.Goals as goal

@@ -1,6 +1,6 @@
 use Rattle.std.proofs.Common.{◌<◌, ◌^◌, length}
 use Rattle.std.proofs.lemmas.List.Elements.{All-from_get_or}
-use Rattle.flow_data.specs.declared.data.Stack.{Stack}
+use Rattle.flow_data.specs.Data.{Stack}
 use Rattle.flow_data.specs.Flows.{no_stack}
 use Rattle.flow_data.specs.Soundness.{IsSound}
 use Rattle.flow_data.proofs.Verdicts.{refused, not_so, ok_same}

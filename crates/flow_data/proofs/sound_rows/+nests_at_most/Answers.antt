@@ -1,6 +1,6 @@
 use Rattle.std.proofs.Common.{◌∙◌, ◌-◌, All, ap, subst}
 use Rattle.std.proofs.lemmas.List.{take_all}
-use Rattle.flow_data.specs.declared.data.RowInfo.{RowInfo}
+use Rattle.flow_data.specs.Data.{RowInfo}
 use Rattle.flow_data.specs.Flows.{flow_of, row_in}
 use Rattle.flow_data.specs.Soundness.{NestsAtMost}
 use Rattle.flow_data.proofs.Everywhere.{nests-from_items, nests-inner}

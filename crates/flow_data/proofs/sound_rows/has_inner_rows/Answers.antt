@@ -1,5 +1,5 @@
 use Rattle.std.proofs.Common.{◌∙◌, ap}
-use Rattle.flow_data.specs.declared.data.RowInfo.{RowInfo}
+use Rattle.flow_data.specs.Data.{RowInfo}
 use Rattle.flow_data.specs.Flows.{flow_of, flow_in}
 use Rattle.flow_data.specs.Soundness.{IsInnerRow}
 use Rattle.flow_data.proofs.Everywhere.{of_rows}

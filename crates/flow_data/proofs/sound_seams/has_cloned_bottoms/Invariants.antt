@@ -1,5 +1,5 @@
 use Rattle.std.proofs.Common.{◌≡◌, ◌-◌, ◌<◌, ℕ, Some, slice_get}
-use Rattle.flow_data.specs.declared.data.Edge.TheVariants.{End, Solid}
+use Rattle.flow_data.specs.Data.{Solid, End}
 use Rattle.flow_data.specs.Flows.{box_of}
 use Rattle.flow_data.proofs.sound_seams.has_cloned_bottoms.Given as goal
 

@@ -1,8 +1,7 @@
 use Rattle.std.proofs.Common.{◌<◌, ◌-◌, ◌∙◌, ℕ, [], All, flat_map, sym, subst}
 use Rattle.std.proofs.lemmas.List.{take_all}
 use Rattle.std.proofs.lemmas.List.Elements.{All-more, All-cons, All-nil}
-use Rattle.flow_data.specs.declared.data.Item.{Item}
-use Rattle.flow_data.specs.declared.data.RowInfo.{RowInfo}
+use Rattle.flow_data.specs.Data.{Item, RowInfo}
 use Rattle.flow_data.specs.Flows.{no_item, flow_of, row_in}
 use Rattle.flow_data.specs.Soundness.{stack_in, stacks_in, flows_within}
 use Rattle.flow_data.proofs.Everywhere.{RowNamesLater, later-here, later-none, later-rows, later-from_rows, of_row_at, some-deep}

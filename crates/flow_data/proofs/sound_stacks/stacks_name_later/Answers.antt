@@ -1,5 +1,5 @@
 use Rattle.std.proofs.Common.{◌<◌, All, EachIndex, below_more, sym, subst, arith}
-use Rattle.flow_data.specs.declared.data.Stack.{Stack}
+use Rattle.flow_data.specs.Data.{Stack}
 use Rattle.flow_data.specs.Flows.{flow_of}
 use Rattle.flow_data.specs.Soundness.{stacks_in, stacks_within, flows_within}
 use Rattle.std.specs.Prelude.{flat_map}

@@ -1,5 +1,5 @@
 use Rattle.std.proofs.Common.{◌∙◌, ap}
-use Rattle.flow_data.specs.declared.data.Seam.{Seam}
+use Rattle.flow_list.specs.Data.{Seam}
 use Rattle.flow_data.specs.Flows.{atom_height}
 use Rattle.frag_printer.proofs.ColumnSteps.{head-room, stand-room, tail-room, item-leads}
 use Rattle.frag_printer.proofs.columns.lay_item.Goals as goal

@@ -1,8 +1,7 @@
 use Rattle.frag_printer.specs.Placing.{strip_of}
 use Rattle.flow_list.proofs.StripBounds.{lay_all_le}
 use Rattle.std.proofs.Common.{◌≡◌, ◌+◌, ◌<◌, ◌≤◌, ◌∙◌, ap, sym, subst, arith, length, sum_by}
-use Rattle.flow_data.specs.declared.data.Seam.{Seam}
-use Rattle.flow_data.specs.declared.data.Stack.{Stack}
+use Rattle.flow_list.specs.Data.{Seam, Stack}
 use Rattle.flow_list.specs.ClonedEdges.{open_across, bottoms}
 use Rattle.flow_data.specs.Flows.{amount, flow_of, no_flow, seam_of}
 use Rattle.flow_list.specs.Stacks.{stack_extent, stack_strip}

@@ -1,5 +1,5 @@
 use Rattle.std.proofs.Common.{◌∙◌, ap}
-use Rattle.flow_data.specs.declared.data.Seam.{Seam}
+use Rattle.flow_list.specs.Data.{Seam}
 use Rattle.flow_data.specs.Flows.{flow_of}
 use Rattle.frag_printer.proofs.StackKnown.{stack-known}
 use Rattle.frag_printer.proofs.StackSteps.{stack-head-room, stack-strip, stack-stand-room, stack-tail-room, stack-leads}

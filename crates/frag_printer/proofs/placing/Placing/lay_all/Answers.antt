@@ -1,4 +1,4 @@
-use Rattle.flow_data.specs.declared.data.Edge.TheVariants.{Margin}
+use Rattle.flow_list.specs.Data.{Margin}
 use Rattle.frag_printer.proofs.Edges.{edge-room, leads-edge}
 use Rattle.frag_printer.proofs.placing.Placing.lay_all.Goals as goal
 
