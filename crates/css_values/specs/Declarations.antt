@@ -19,9 +19,9 @@ use Rattle.css_values.specs.declared.form.Simple.{Simple}
 use Rattle.css_values.specs.Words.{same, begins_with}
 use Rattle.css_values.specs.Options.{when, ◌>>=◌}
 use Rattle.css_values.specs.Names.{named, construct_of}
-use Rattle.css_values.specs.Values.{significant, is_word, only, wide_at, one_of, values_of, unit_named, is_below_zero, value_of}
+use Rattle.css_values.specs.Values.{significant, is_word, only, wide_at, one_of, unit_named, is_below_zero, value_of}
 use Rattle.css_values.specs.Table.{grammar_of, harmless}
-use Rattle.css_values.specs.Shorthands.{is_colour_function, longhands_of, single, shorthand_values}
+use Rattle.css_values.specs.Shorthands.{is_colour_function, longhands_of, one_value, shorthand_values}
 use Rattle.css_values.specs.Families.{families}
 
 -- a function that is no colour
@@ -37,22 +37,32 @@ is_unit _ = false
 abbrev pub is_revert : CssToken → Bool
 is_revert token = is_word (codes "revert") token
 
+unfoldable pub has_function : List CssToken → Bool
+has_function value = list_any is_function value
+
+unfoldable pub has_unit : List CssToken → Bool
+has_unit value = list_any is_unit value
+
+unfoldable pub has_revert : List CssToken → Bool
+has_revert value = list_any is_revert value
+
 -- what is refused in the value of every property that is laid out
 unfoldable pub unlaid_part : List CssToken → Option ConstructName
 unlaid_part value =
-    if list_any is_function value then Some constructs.Function else
-    (if list_any is_unit value then Some constructs.Unit else
-    (if list_any is_revert value then Some constructs.Revert else None))
+    if has_function value then Some constructs.Function else
+    (if has_unit value then Some constructs.Unit else
+    (if has_revert value then Some constructs.Revert else None))
 
 abbrev pub is_one_of : List (List ℕ) → List ℕ → Bool
 is_one_of words text = list_any (λ word. same text word) words
 
-abbrev pub is_unlaid_display : List ℕ → Bool
-is_unlaid_display text =
-    is_one_of (codes "inline-block" ∷ codes "flex" ∷ codes "inline-flex" ∷ codes "grid" ∷ codes "inline-grid" ∷ codes "contents" ∷ codes "flow-root" ∷ codes "table" ∷ []) text
-    || (begins_with (codes "table-") text || begins_with (codes "inline-table") text)
+unfoldable pub is_display_word : List ℕ → Bool
+is_display_word text = is_one_of (codes "inline-block" ∷ codes "flex" ∷ codes "inline-flex" ∷ codes "grid" ∷ codes "inline-grid" ∷ codes "contents" ∷ codes "flow-root" ∷ codes "table" ∷ []) text
 
-abbrev pub is_unlaid_white_space : List ℕ → Bool
+abbrev pub is_unlaid_display : List ℕ → Bool
+is_unlaid_display text = is_display_word text || (begins_with (codes "table-") text || begins_with (codes "inline-table") text)
+
+unfoldable pub is_unlaid_white_space : List ℕ → Bool
 is_unlaid_white_space text = is_one_of (codes "pre-wrap" ∷ codes "pre-line" ∷ codes "break-spaces" ∷ []) text
 
 -- the keywords of a property that aren't laid out
@@ -61,13 +71,19 @@ unlaid_word properties.Display (tokens.Ident text) = when (is_unlaid_display tex
 unlaid_word properties.WhiteSpace (tokens.Ident text) = when (is_unlaid_white_space text) constructs.WhiteSpace
 unlaid_word _ _ = None
 
+abbrev pub unlaid_value : Property → List CssToken → Option ConstructName
+unlaid_value property tokens = only tokens >>= unlaid_word property
+
 abbrev pub longhands : List Property → List Simple → List Longhand
 longhands (property ∷ rest) (value ∷ values) = record { property = property; value = value_of value } ∷ longhands rest values
 longhands _ _ = []
 
+unfoldable pub has_below_zero : List Simple → Bool
+has_below_zero values = list_any is_below_zero values
+
 -- these values of these properties: only a margin has a form of numbers below zero
 unfoldable pub set : List Property → List Simple → Declared
-set properties values = if list_any is_below_zero values then Refused constructs.NegativeMargin else Set (longhands properties values)
+set properties values = if has_below_zero values then Refused constructs.NegativeMargin else Set (longhands properties values)
 
 abbrev pub ignored_unless : Option ConstructName → Declared
 ignored_unless None = Ignored
@@ -92,7 +108,7 @@ wide_of tokens = only tokens >>= wide_at
 unfoldable pub own_value : Property → List CssToken → Declared
 own_value property tokens =
     if takes_names property then set_families (families tokens)
-    else set_unless (property ∷ []) (values_of (grammar_of property) tokens >>= single) (only tokens >>= unlaid_word property)
+    else set_unless (property ∷ []) (one_value (grammar_of property) tokens) (unlaid_value property tokens)
 
 -- one value of each property
 abbrev pub all_alike : List Property → Simple → List Longhand

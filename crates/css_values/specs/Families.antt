@@ -19,6 +19,9 @@ abbrev pub string_text : CssToken → Option (List ℕ)
 string_text (Quoted text) = Some text
 string_text _ = None
 
+abbrev pub string_of : List CssToken → Option (List ℕ)
+string_of tokens = only tokens >>= string_text
+
 abbrev pub with_identifier : Option (List ℕ) → List ℕ → List ℕ
 with_identifier None text = text
 with_identifier (Some name) text = name ++ 32 ∷ text
@@ -29,7 +32,7 @@ joined name [] = name
 joined name (token ∷ rest) = identifier token >>= λ text. joined (Some (with_identifier name text)) rest
 
 abbrev pub family : List CssToken → Option (List ℕ)
-family tokens = or_else (only tokens >>= string_text) (joined None tokens)
+family tokens = or_else (string_of tokens) (joined None tokens)
 
 abbrev pub all_families : List (List CssToken) → Option (List (List ℕ))
 all_families [] = Some []

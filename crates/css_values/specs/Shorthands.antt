@@ -7,6 +7,7 @@ use Rattle.css_values.specs.declared.declared.Property.TheVariants.{MarginTop, M
 use Rattle.css_values.specs.declared.name.Shorthand.{Shorthand}
 use Rattle.css_values.specs.declared.name.Shorthand.TheVariants.{Margin, Padding, BorderWidth, BorderStyle, Border, BorderTop, BorderRight, BorderBottom, BorderLeft, Columns, Gap, PageBreakBefore, PageBreakAfter, PageBreakInside}
 use Rattle.css_values.specs.declared.keyword.Keyword.TheVariants.{Auto}
+use Rattle.css_values.specs.declared.form.Form.{Form}
 use Rattle.css_values.specs.declared.form.Simple.{Simple}
 use Rattle.css_values.specs.declared.form.Simple.TheVariants.{Word, Length, Number, Initial}
 use Rattle.css_values.specs.declared.border.Line.{Line}
@@ -131,19 +132,31 @@ line_values all line =
 unfoldable pub border : Bool → List CssToken → Option (List Simple)
 border all tokens = line_from no_line 0 tokens >>= line_values all
 
+abbrev pub one_value : List Form → List CssToken → Option (List Simple)
+one_value forms tokens = values_of forms tokens >>= single
+
+abbrev pub four_values : List Form → List CssToken → Option (List Simple)
+four_values forms tokens = values_of forms tokens >>= sides
+
+abbrev pub gap_values : List CssToken → Option (List Simple)
+gap_values tokens = values_of column_gap tokens >>= last_gap
+
+abbrev pub column_values : List CssToken → Option (List Simple)
+column_values tokens = values_of columns tokens >>= width_and_count
+
 -- the values that a shorthand gives to the properties that it sets
 unfoldable pub shorthand_values : Shorthand → List CssToken → Option (List Simple)
-shorthand_values Margin tokens = values_of margin tokens >>= sides
-shorthand_values Padding tokens = values_of padding tokens >>= sides
-shorthand_values BorderWidth tokens = values_of border_width tokens >>= sides
-shorthand_values BorderStyle tokens = values_of border_style tokens >>= sides
+shorthand_values Margin tokens = four_values margin tokens
+shorthand_values Padding tokens = four_values padding tokens
+shorthand_values BorderWidth tokens = four_values border_width tokens
+shorthand_values BorderStyle tokens = four_values border_style tokens
 shorthand_values Border tokens = border true tokens
 shorthand_values BorderTop tokens = border false tokens
 shorthand_values BorderRight tokens = border false tokens
 shorthand_values BorderBottom tokens = border false tokens
 shorthand_values BorderLeft tokens = border false tokens
-shorthand_values Columns tokens = values_of columns tokens >>= width_and_count
-shorthand_values Gap tokens = values_of column_gap tokens >>= last_gap
-shorthand_values PageBreakBefore tokens = values_of page_break tokens >>= single
-shorthand_values PageBreakAfter tokens = values_of page_break tokens >>= single
-shorthand_values PageBreakInside tokens = values_of page_break_inside tokens >>= single
+shorthand_values Columns tokens = column_values tokens
+shorthand_values Gap tokens = gap_values tokens
+shorthand_values PageBreakBefore tokens = one_value page_break tokens
+shorthand_values PageBreakAfter tokens = one_value page_break tokens
+shorthand_values PageBreakInside tokens = one_value page_break_inside tokens

@@ -4,7 +4,6 @@ ghost use Rattle.std.specs.Prelude.{◌≡◌, [], ◌∷◌, map, None, IfOk};
 ghost use Rattle.css_values.specs.Declarations as declarations;
 ghost use Rattle.css_values.specs.Declarations.{declared_of};
 ghost use Rattle.css_values.specs.Families.{families as family_names};
-ghost use Rattle.css_values.specs.Options.{◌>>=◌};
 ghost use Rattle.css_values.specs.Shorthands.{longhands_of as all_of, shorthand_values as values_for};
 ghost use Rattle.css_values.specs.Values.{significant, only as only_token};
 
@@ -45,16 +44,37 @@ fn is_revert(token: &CssToken) -> bool
     is_word(b"revert", token)
 }
 
+#[tactic(auto, unfolding(crate::specs::Declarations::has_function))]
+fn has_function(value: &[CssToken]) -> bool
+    ensures { result ≡ declarations.has_function value.now }
+{
+    value.iter().any(is_function)
+}
+
+#[tactic(auto, unfolding(crate::specs::Declarations::has_unit))]
+fn has_unit(value: &[CssToken]) -> bool
+    ensures { result ≡ declarations.has_unit value.now }
+{
+    value.iter().any(is_unit)
+}
+
+#[tactic(auto, unfolding(crate::specs::Declarations::has_revert))]
+fn has_revert(value: &[CssToken]) -> bool
+    ensures { result ≡ declarations.has_revert value.now }
+{
+    value.iter().any(is_revert)
+}
+
 /// What is refused in the value of every property that is laid out.
 #[tactic(auto, unfolding(crate::specs::Declarations::unlaid_part))]
 fn unlaid_part(value: &[CssToken]) -> Option<ConstructName>
     ensures { result ≡ declarations.unlaid_part value.now }
 {
-    if value.iter().any(is_function) {
+    if has_function(value) {
         Some(ConstructName::Function)
-    } else if value.iter().any(is_unit) {
+    } else if has_unit(value) {
         Some(ConstructName::Unit)
-    } else if value.iter().any(is_revert) {
+    } else if has_revert(value) {
         Some(ConstructName::Revert)
     } else {
         None
@@ -72,8 +92,9 @@ fn is_one_of(words: &[&[u8]], text: &[u8]) -> bool
     false
 }
 
-fn is_unlaid_display(text: &[u8]) -> bool
-    ensures { result ≡ declarations.is_unlaid_display text.now }
+#[tactic(auto, unfolding(crate::specs::Declarations::is_display_word))]
+fn is_display_word(text: &[u8]) -> bool
+    ensures { result ≡ declarations.is_display_word text.now }
 {
     is_one_of(
         &[
@@ -87,10 +108,16 @@ fn is_unlaid_display(text: &[u8]) -> bool
             b"table",
         ],
         text,
-    ) || begins_with(b"table-", text)
-        || begins_with(b"inline-table", text)
+    )
 }
 
+fn is_unlaid_display(text: &[u8]) -> bool
+    ensures { result ≡ declarations.is_unlaid_display text.now }
+{
+    is_display_word(text) || begins_with(b"table-", text) || begins_with(b"inline-table", text)
+}
+
+#[tactic(auto, unfolding(crate::specs::Declarations::is_unlaid_white_space))]
 fn is_unlaid_white_space(text: &[u8]) -> bool
     ensures { result ≡ declarations.is_unlaid_white_space text.now }
 {
@@ -155,12 +182,19 @@ fn all_alike(
     Ok(set)
 }
 
+#[tactic(auto, unfolding(crate::specs::Declarations::has_below_zero))]
+fn has_below_zero(values: &[Simple]) -> bool
+    ensures { result ≡ declarations.has_below_zero values.now }
+{
+    values.iter().any(|value| is_below_zero(*value))
+}
+
 /// These values of these properties, unless one is below zero.
 #[tactic(auto, unfolding(crate::specs::Declarations::set))]
 fn set(alloc: Global, properties: &[Property], values: &[Simple]) -> Result<Declared, AllocError>
     ensures { IfOk result (λ declared. declared ≡ declarations.set properties.now values.now) }
 {
-    if values.iter().any(|value| is_below_zero(*value)) {
+    if has_below_zero(values) {
         return Ok(Declared::Refused(ConstructName::NegativeMargin));
     }
     Ok(Declared::Set(longhands(alloc, properties, values)?))
@@ -202,7 +236,7 @@ fn ignored_unless(unlaid: Option<ConstructName>) -> Declared
 
 /// The construct that the only token is refused as.
 fn unlaid_value(property: Property, value: &[CssToken]) -> Option<ConstructName>
-    ensures { result ≡ (only_token (significant value.now) >>= declarations.unlaid_word property) }
+    ensures { result ≡ declarations.unlaid_value property (significant value.now) }
 {
     unlaid_word(property, only(value)?)
 }

@@ -5,8 +5,7 @@ ghost use Rattle.std.specs.Option.{option_copied};
 ghost use Rattle.std.specs.List.{slice_split};
 ghost use Rattle.css_values.specs.Families as families;
 ghost use Rattle.css_values.specs.Families.{is_comma as is_comma_token};
-ghost use Rattle.css_values.specs.Values.{significant, only as only_token};
-ghost use Rattle.css_values.specs.Options.{◌>>=◌};
+ghost use Rattle.css_values.specs.Values.{significant};
 
 use crate::accept::{copied, is_space, only};
 use css_data::CssToken;
@@ -39,7 +38,7 @@ fn cut(value: &[CssToken]) -> (&[CssToken], Option<&[CssToken]>)
 
 /// The string that is the only token.
 fn string(alloc: Global, piece: &[CssToken]) -> Result<Option<Text>, AllocError>
-    ensures { IfOk result (λ name. name ≡ (only_token (significant piece.now) >>= families.string_text)) }
+    ensures { IfOk result (λ name. name ≡ families.string_of (significant piece.now)) }
 {
     match only(piece) {
         Some(CssToken::Quoted { text }) => Ok(Some(copied(alloc, text.as_slice())?)),

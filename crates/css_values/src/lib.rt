@@ -15,6 +15,8 @@ mod keyword;
 mod name;
 mod shorthand;
 mod table;
+#[cfg(test)]
+mod tests;
 mod text;
 
 pub use declaration::parse_declaration;

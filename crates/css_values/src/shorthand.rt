@@ -3,8 +3,7 @@
 ghost use Rattle.std.specs.Prelude.{◌≡◌, [], ◌∷◌, IfOk};
 ghost use Rattle.std.specs.Option.{option_map};
 ghost use Rattle.css_values.specs.Shorthands as shorthands;
-ghost use Rattle.css_values.specs.Values.{significant, values_of};
-ghost use Rattle.css_values.specs.Options.{◌>>=◌};
+ghost use Rattle.css_values.specs.Values.{significant};
 
 use crate::accept::values;
 use crate::border::border;
@@ -153,7 +152,7 @@ fn four_sides(
     forms: &[Form],
     value: &[CssToken],
 ) -> Result<Option<Vec<Simple>>, AllocError>
-    ensures { IfOk result (λ found. option_map (λ v. v.items) found ≡ (values_of forms.now (significant value.now) >>= shorthands.sides)) }
+    ensures { IfOk result (λ found. option_map (λ v. v.items) found ≡ shorthands.four_values forms.now (significant value.now)) }
 {
     let Some(given) = values(alloc, forms, value)? else {
         return Ok(None);
@@ -170,7 +169,7 @@ pub fn one_value(
     forms: &[Form],
     value: &[CssToken],
 ) -> Result<Option<Vec<Simple>>, AllocError>
-    ensures { IfOk result (λ found. option_map (λ v. v.items) found ≡ (values_of forms.now (significant value.now) >>= shorthands.single)) }
+    ensures { IfOk result (λ found. option_map (λ v. v.items) found ≡ shorthands.one_value forms.now (significant value.now)) }
 {
     let Some(given) = values(alloc, forms, value)? else {
         return Ok(None);
@@ -182,7 +181,7 @@ pub fn one_value(
 }
 
 fn gap(alloc: Global, value: &[CssToken]) -> Result<Option<Vec<Simple>>, AllocError>
-    ensures { IfOk result (λ found. option_map (λ v. v.items) found ≡ shorthands.shorthand_values Shorthand.Gap (significant value.now)) }
+    ensures { IfOk result (λ found. option_map (λ v. v.items) found ≡ shorthands.gap_values (significant value.now)) }
 {
     let Some(given) = values(alloc, column_gap(), value)? else {
         return Ok(None);
@@ -194,7 +193,7 @@ fn gap(alloc: Global, value: &[CssToken]) -> Result<Option<Vec<Simple>>, AllocEr
 }
 
 fn column_pair(alloc: Global, value: &[CssToken]) -> Result<Option<Vec<Simple>>, AllocError>
-    ensures { IfOk result (λ found. option_map (λ v. v.items) found ≡ shorthands.shorthand_values Shorthand.Columns (significant value.now)) }
+    ensures { IfOk result (λ found. option_map (λ v. v.items) found ≡ shorthands.column_values (significant value.now)) }
 {
     let Some(given) = values(alloc, columns(), value)? else {
         return Ok(None);
