@@ -1,6 +1,6 @@
 -- The names of properties (CSS 2.1, Multi-column Layout 1, Fragmentation 3, Text 3, Box Sizing 3, Box Alignment 3): those that
 -- have a value of their own, the shorthands, and those that aren't laid out. Names are compared without ASCII case.
-use Rattle.std.specs.Prelude.{ℕ, List, [], ◌∷◌, codes, Option, Some, None, find}
+use Rattle.std.specs.Prelude.{◌≡◌, ℕ, List, [], ◌∷◌, codes, Option, Some, None, find}
 use Rattle.std.specs.Option.{option_map}
 use Rattle.mc_base.specs.declared.refusal.ConstructName.{ConstructName}
 use Rattle.mc_base.specs.declared.refusal.ConstructName.TheVariants as constructs
@@ -138,3 +138,9 @@ barred_named name = find (λ b. same name (barred_name b)) barred_properties
 
 abbrev pub named : List ℕ → Option Name
 named name = or_else (option_map Own (property_named name)) (or_else (option_map Short (shorthand_named name)) (option_map Bars (barred_named name)))
+
+-- each property is known by its name, and no two have one name
+pub record NamesAreKnown : Type 0 where
+  pub own : (property : Property) → named (property_name property) ≡ Some (Own property)
+  pub short : (shorthand : Shorthand) → named (shorthand_name shorthand) ≡ Some (Short shorthand)
+  pub bars : (other : Barred) → named (barred_name other) ≡ Some (Bars other)

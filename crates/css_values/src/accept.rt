@@ -56,15 +56,15 @@ fn all_units() -> &'static [Unit]
     ensures { result.now ≡ values.units }
 {
     &[
-    Unit::Px,
-    Unit::Em,
-    Unit::Rem,
-    Unit::Pt,
-    Unit::Pc,
-    Unit::In,
-    Unit::Cm,
-    Unit::Mm,
-]
+        Unit::Px,
+        Unit::Em,
+        Unit::Rem,
+        Unit::Pt,
+        Unit::Pc,
+        Unit::In,
+        Unit::Cm,
+        Unit::Mm,
+    ]
 }
 
 /// The unit of lengths of this name.

@@ -24,7 +24,10 @@ pub struct Line {
 pub fn is_colour_function(name: &[u8]) -> bool
     ensures { result ≡ shorthands.is_colour_function name.now }
 {
-    is_same(name, b"rgb") || is_same(name, b"rgba") || is_same(name, b"hsl") || is_same(name, b"hsla")
+    is_same(name, b"rgb")
+        || is_same(name, b"rgba")
+        || is_same(name, b"hsl")
+        || is_same(name, b"hsla")
 }
 
 fn is_colour(token: &CssToken) -> bool
@@ -104,12 +107,7 @@ fn given_line(value: &[CssToken]) -> Option<Line>
 }
 
 /// The widths and then the styles of all four sides, or of one.
-fn spread(
-    alloc: Global,
-    all: bool,
-    width: Simple,
-    style: Simple,
-) -> Result<Vec<Simple>, AllocError>
+fn spread(alloc: Global, all: bool, width: Simple, style: Simple) -> Result<Vec<Simple>, AllocError>
     ensures { IfOk result (λ v. v.items ≡ shorthands.spread all width style) }
 {
     if all {

@@ -12,6 +12,7 @@ mod declared;
 mod family;
 mod form;
 mod keyword;
+mod laws;
 mod name;
 mod shorthand;
 mod table;
@@ -21,3 +22,4 @@ mod text;
 
 pub use declaration::parse_declaration;
 pub use declared::{Declared, Longhand, Property, Value};
+pub use laws::names_are_known;
