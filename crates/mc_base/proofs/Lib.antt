@@ -1,3 +1,5 @@
 pub mod NameCounts
 pub mod PutParts
 pub mod SoundBytes
+pub mod DecimalForms
+pub mod DecimalDigits

@@ -17,7 +17,7 @@ mod sound_text;
 mod text;
 mod units;
 
-pub use decimal::Decimal;
+pub use decimal::{Decimal, read_decimal};
 pub use disk::{DiskFiles, StdSink};
 pub use level::Level;
 pub use list::List;
