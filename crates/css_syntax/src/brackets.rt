@@ -4,9 +4,7 @@ ghost use Rattle.std.specs.Prelude.{◌≡◌, IfOk};
 ghost use Rattle.css_syntax.specs.Brackets as brackets;
 
 use crate::at_rules::{AtRule, at_rule_of};
-use css_tokens::{
-    Fault, Lexeme, broken_of, closer_of, is_closer, is_delim, is_space, sign_of,
-};
+use css_tokens::{Fault, Lexeme, broken_of, closer_of, is_closer, is_delim, is_space, sign_of};
 use std::alloc::{AllocError, Global};
 use std::marker::Model;
 
@@ -54,10 +52,10 @@ impl Opens {
         }
     }
 
-    fn push(&mut self, open: Open) -> Result<(), AllocError>
-        ensures { OnOk result (self.new ≡ self.old ++ open ∷ []) }
+    fn push(&mut self, next: Open) -> Result<(), AllocError>
+        ensures { OnOk result (self.new ≡ self.old ++ next ∷ []) }
     {
-        self.items.push(open)?;
+        self.items.push(next)?;
         Ok(())
     }
 
@@ -141,10 +139,10 @@ fn closed(state: Brackets) -> Brackets
 }
 
 /// Whether this character closes what is open.
-fn closes(open: Option<Open>, lexeme: &Lexeme) -> bool
-    ensures { result ≡ brackets.closes open lexeme.now }
+fn closes(inner: Option<Open>, lexeme: &Lexeme) -> bool
+    ensures { result ≡ brackets.closes inner lexeme.now }
 {
-    let Some(open) = open else {
+    let Some(open) = inner else {
         return false;
     };
     match open.frame {
@@ -175,10 +173,10 @@ fn bracket_step(state: Brackets, lexeme: &Lexeme) -> Result<Brackets, AllocError
     Ok(state)
 }
 
-fn is_media(open: Option<Open>) -> bool
-    ensures { result ≡ brackets.is_media open }
+fn is_media(inner: Option<Open>) -> bool
+    ensures { result ≡ brackets.is_media inner }
 {
-    let Some(open) = open else {
+    let Some(open) = inner else {
         return false;
     };
     match open.frame {
@@ -259,11 +257,7 @@ fn is_open_comment(lexeme: &Lexeme) -> bool
 
 /// A lexeme between rules, and what stands after it.
 #[tactic(auto, unfolding(crate::specs::Brackets::sheet_step))]
-fn sheet_step(
-    state: Brackets,
-    lexeme: &Lexeme,
-    behind: &[Lexeme],
-) -> Result<Brackets, AllocError>
+fn sheet_step(state: Brackets, lexeme: &Lexeme, behind: &[Lexeme]) -> Result<Brackets, AllocError>
     ensures { IfOk result (λ s. s ≡ brackets.sheet_step state lexeme.now behind.now) }
 {
     if is_space(lexeme) {
@@ -283,11 +277,7 @@ fn sheet_step(
 
 /// A lexeme of a sheet, and what stands after it.
 #[tactic(auto, unfolding(crate::specs::Brackets::step))]
-fn step(
-    state: Brackets,
-    lexeme: &Lexeme,
-    behind: &[Lexeme],
-) -> Result<Brackets, AllocError>
+fn step(state: Brackets, lexeme: &Lexeme, behind: &[Lexeme]) -> Result<Brackets, AllocError>
     ensures { IfOk result (λ s. s ≡ brackets.step state lexeme.now behind.now) }
 {
     let Some(open) = state.opens.innermost() else {

@@ -37,7 +37,11 @@ fn earlier(first: Option<Found>, then: Option<Found>) -> Option<Found>
     let Some(b) = then else {
         return Some(a);
     };
-    if a.offset < b.offset { Some(a) } else { Some(b) }
+    if a.offset < b.offset {
+        Some(a)
+    } else {
+        Some(b)
+    }
 }
 
 /// A sheet of at most 4,000 rules, with the first backslash in it.

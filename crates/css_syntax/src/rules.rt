@@ -7,7 +7,9 @@ use crate::at_rules::{AtRule, at_rule_of};
 use crate::blocks::declarations;
 use css_data::StyleRule;
 use css_prelude::{Selectors, media, or_found, selectors};
-use css_tokens::{Lexeme, Rest, Stop, after_first, begins, front_len, ident_of, is_delim, is_space};
+use css_tokens::{
+    Lexeme, Rest, Stop, after_first, begins, front_len, ident_of, is_delim, is_space,
+};
 use mc_base::{ConstructName, Found, List};
 use std::alloc::{AllocError, Global};
 
@@ -34,7 +36,8 @@ fn no_rules(alloc: Global) -> Rules
 
 /// With a construct that isn't laid out.
 fn with_found(state: Rules, at: u64, name: ConstructName) -> Rules
-    ensures { result ≡ sheets.with_found state at name }
+    ensures told { result ≡ sheets.with_found state at name }
+    ensures few { (result.count ≤ state.count + 1) × (result.off ≤ state.off + 1) }
 {
     let Rules {
         rules,
@@ -53,7 +56,8 @@ fn with_found(state: Rules, at: u64, name: ConstructName) -> Rules
 /// In a block of `@media`, which applies or not.
 fn block_begun(state: Rules, applies: bool) -> Rules
     requires { state.off < 2 ^ 63 }
-    ensures { result ≡ sheets.block_begun state applies }
+    ensures told { result ≡ sheets.block_begun state applies }
+    ensures few { (result.count ≤ state.count + 1) × (result.off ≤ state.off + 1) }
 {
     let Rules {
         rules,
@@ -79,7 +83,8 @@ fn block_begun(state: Rules, applies: bool) -> Rules
 
 /// After a block of `@media`.
 fn block_ended(state: Rules) -> Rules
-    ensures { result ≡ sheets.block_ended state }
+    ensures told { result ≡ sheets.block_ended state }
+    ensures few { (result.count ≤ state.count + 1) × (result.off ≤ state.off + 1) }
 {
     let Rules {
         rules,
@@ -126,7 +131,8 @@ fn media_in(prelude: &[Lexeme]) -> Option<bool>
 /// An `@media` with what its prelude says, at its block or its semicolon.
 fn with_media(state: Rules, at: u64, applies: Option<bool>, block: bool) -> Rules
     requires { state.off < 2 ^ 63 }
-    ensures { result ≡ sheets.with_media state at applies block }
+    ensures told { result ≡ sheets.with_media state at applies block }
+    ensures few { (result.count ≤ state.count + 1) × (result.off ≤ state.off + 1) }
 {
     match applies {
         Some(applies) => {
@@ -149,7 +155,8 @@ fn with_media(state: Rules, at: u64, applies: Option<bool>, block: bool) -> Rule
 #[tactic(auto, unfolding(crate::specs::Rules::at_rule_at))]
 fn at_rule(state: Rules, at: u64, kind: AtRule, rest: &mut Rest) -> Rules
     requires { state.off < 2 ^ 63 }
-    ensures { (result, rest.new) ≡ sheets.at_rule_at state at kind rest.old }
+    ensures told { (result, rest.new) ≡ sheets.at_rule_at state at kind rest.old }
+    ensures few { (result.count ≤ state.count + 1) × (result.off ≤ state.off + 1) }
 {
     let prelude = rest.take(front_len(Stop::Prelude, rest.as_slice()));
     match kind {
@@ -177,7 +184,8 @@ fn with_rule(
     block: &[Lexeme],
 ) -> Result<Rules, AllocError>
     requires { state.count < 2 ^ 63 }
-    ensures { IfOk result (λ r. r ≡ sheets.with_rule state read block.now) }
+    ensures told { IfOk result (λ r. r ≡ sheets.with_rule state read block.now) }
+    ensures few { IfOk result (λ r. (r.count ≤ state.count + 1) × (r.off ≤ state.off + 1)) }
 {
     let Rules {
         rules,
@@ -225,7 +233,8 @@ fn with_rule(
 #[tactic(auto, unfolding(crate::specs::Rules::style_at))]
 fn style_rule(alloc: Global, state: Rules, rest: &mut Rest) -> Result<Rules, AllocError>
     requires { state.count < 2 ^ 63 }
-    ensures { IfOk result (λ r. (r, rest.new) ≡ sheets.style_at state rest.old) }
+    ensures told { IfOk result (λ r. (r, rest.new) ≡ sheets.style_at state rest.old) }
+    ensures few { IfOk result (λ r. (r.count ≤ state.count + 1) × (r.off ≤ state.off + 1)) }
 {
     let prelude = rest.take(front_len(Stop::At('{'), rest.as_slice()));
     rest.bump();
@@ -240,7 +249,8 @@ fn style_rule(alloc: Global, state: Rules, rest: &mut Rest) -> Result<Rules, All
 fn turn(alloc: Global, state: Rules, rest: &mut Rest) -> Result<Rules, AllocError>
     requires off { state.off < 2 ^ 63 }
     requires count { state.count < 2 ^ 63 }
-    ensures { IfOk result (λ r. (r, rest.new) ≡ sheets.turn state rest.old) }
+    ensures told { IfOk result (λ r. (r, rest.new) ≡ sheets.turn state rest.old) }
+    ensures few { IfOk result (λ r. (r.count ≤ state.count + 1) × (r.off ≤ state.off + 1)) }
 {
     let Some(lexeme) = rest.peek() else {
         return Ok(state);

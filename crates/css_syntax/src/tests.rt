@@ -19,7 +19,11 @@ fn fault(offset: u64, number: u8) -> Result<(usize, Option<Found>), Refusal> {
     })
 }
 
-fn construct(rules: usize, offset: u64, name: ConstructName) -> Result<(usize, Option<Found>), Refusal> {
+fn construct(
+    rules: usize,
+    offset: u64,
+    name: ConstructName,
+) -> Result<(usize, Option<Found>), Refusal> {
     Ok((rules, Some(Found { offset, name })))
 }
 
@@ -54,7 +58,11 @@ fn faults_stand_at_their_bytes(rt: HostRuntime) {
         (b"p{}/**/q(", 7, 5),
     ];
     for (text, offset, number) in cases {
-        assert_eq!(rt; told(parse_sheet(rt.alloc(), text)), fault(offset, number), "{text:?}");
+        assert_eq!(rt;
+            told(parse_sheet(rt.alloc(), text)),
+            fault(offset, number),
+            "{text:?}"
+        );
     }
 }
 
@@ -75,7 +83,11 @@ fn constructs_stand_at_their_bytes(rt: HostRuntime) {
         (b"@page{\\}", 0, 6, ConstructName::Escape),
     ];
     for (text, rules, offset, name) in cases {
-        assert_eq!(rt; told(parse_sheet(rt.alloc(), text)), construct(rules, offset, name), "{text:?}");
+        assert_eq!(rt;
+            told(parse_sheet(rt.alloc(), text)),
+            construct(rules, offset, name),
+            "{text:?}"
+        );
     }
 }
 
@@ -118,7 +130,11 @@ fn rules_are_kept_or_dropped(rt: HostRuntime) {
         (b"p;q{}", 0),
     ];
     for (text, rules) in cases {
-        assert_eq!(rt; told(parse_sheet(rt.alloc(), text)), Ok((rules, None)), "{text:?}");
+        assert_eq!(rt;
+            told(parse_sheet(rt.alloc(), text)),
+            Ok((rules, None)),
+            "{text:?}"
+        );
     }
 }
 
@@ -166,10 +182,13 @@ fn declarations_are_read(rt: HostRuntime) -> Result<(), Fail> {
         (b" color : red ; ; x", &[(1, 1, false)]),
         (b"float:", &[]),
         (b"float:!important", &[]),
-        (b"float: none ! IMPORTANT ;a:b", &[(0, 1, true), (25, 1, false)]),
+        (
+            b"float: none ! IMPORTANT ;a:b",
+            &[(0, 1, true), (25, 1, false)],
+        ),
         (b"float: none !x", &[(0, 4, false)]),
         (b"{;}float:left", &[]),
-        (b"a:\\62 ;b:rgb(1,2;3)", &[(7, 6, false)]),
+        (b"a:\\62 ;b:rgb(1,2;3)", &[(7, 7, false)]),
         (b"\xef\xbb\xbfa:-1.5em/**/+2%", &[(3, 2, false)]),
     ];
     for (text, wanted) in cases {
