@@ -92,7 +92,7 @@ fn test(alloc: Global, rest: &mut Rest) -> Result<Option<Tested>, AllocError>
 }
 
 /// The tests that come next, of which there are at most so many.
-fn tests(alloc: Global, size: usize, rest: &mut Rest) -> Result<Option<Tests>, AllocError>
+fn all_tests(alloc: Global, size: usize, rest: &mut Rest) -> Result<Option<Tests>, AllocError>
     ensures { IfOk result (λ o. option_map (λ t. (t, rest.new)) o ≡ compounds.tests_from size compounds.no_tests rest.old) }
 {
     let mut tests = List::new(alloc);
@@ -112,7 +112,7 @@ fn tests(alloc: Global, size: usize, rest: &mut Rest) -> Result<Option<Tests>, A
 }
 
 /// A type or `*`, if one comes next.
-fn element(alloc: Global, rest: &mut Rest) -> Result<Element, AllocError>
+fn type_selector(alloc: Global, rest: &mut Rest) -> Result<Element, AllocError>
     ensures { IfOk result (λ e. (e, rest.new) ≡ compounds.element_at rest.old) }
 {
     if begins(rest, '*') {
@@ -163,8 +163,8 @@ pub fn compound(
 ) -> Result<Option<Compounded>, AllocError>
     ensures { IfOk result (λ o. option_map (λ t. (t, rest.new)) o ≡ compounds.compound_at size rest.old) }
 {
-    let element = element(alloc, rest)?;
-    let Some(tests) = tests(alloc, size, rest)? else {
+    let element = type_selector(alloc, rest)?;
+    let Some(tests) = all_tests(alloc, size, rest)? else {
         return Ok(None);
     };
     Ok(joined(element, tests))

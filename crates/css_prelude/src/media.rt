@@ -85,7 +85,7 @@ fn ended(listed: Listed) -> Option<bool>
 ///
 /// It is a list of `all`, `screen`, `print` and `speech` with commas, or empty. It applies if it is empty or has `all` or
 /// `screen`.
-pub fn media(prelude: &[Lexeme]) -> Option<bool>
+pub fn media_list(prelude: &[Lexeme]) -> Option<bool>
     ensures { result ≡ lists.media_of prelude.now }
 {
     let mut listed = Listed {

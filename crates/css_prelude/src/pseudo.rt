@@ -53,7 +53,7 @@ fn is_never(name: &[u8]) -> bool
 }
 
 /// The pseudo-classes that are tested and take no argument.
-fn tested(name: &[u8]) -> Option<Test>
+fn known_test(name: &[u8]) -> Option<Test>
     ensures { result ≡ pseudos.tested name.now }
 {
     if is_word(name, b"root") {
@@ -113,7 +113,7 @@ fn class_named(at: u64, name: &[u8]) -> Option<Tested>
     if is_word(name, b"nth-child") {
         return None;
     }
-    match tested(name) {
+    match known_test(name) {
         Some(test) => Some(plain(test)),
         None => Some(unknown(at)),
     }
@@ -146,7 +146,7 @@ fn function_named(
     if is_word(name, b"nth-child") {
         return by_step(alloc, arguments);
     }
-    match tested(name) {
+    match known_test(name) {
         Some(_) => Ok(None),
         None => Ok(Some(unknown(at))),
     }

@@ -62,7 +62,7 @@ fn join_sign(rest: &Rest) -> Option<Join>
 }
 
 /// Goes past what follows a compound selector.
-fn follow(rest: &mut Rest) -> Follow
+fn what_follows(rest: &mut Rest) -> Follow
     ensures { (result, rest.new) ≡ selecting.follow_at rest.old }
 {
     let spaced = begins_space(rest);
@@ -184,7 +184,7 @@ fn followed(
 
 /// Takes a compound selector and what follows it.
 #[tactic(auto, unfolding(crate::specs::Selecting::turn))]
-fn turn(
+fn take_turn(
     alloc: Global,
     size: usize,
     state: Selecting,
@@ -196,7 +196,7 @@ fn turn(
         return Ok((Turn::Off, state));
     };
     let state = with_compound(state, next)?;
-    let follow = follow(rest);
+    let follow = what_follows(rest);
     followed(alloc, state, follow)
 }
 
@@ -216,7 +216,7 @@ fn whole(state: Selecting) -> Selectors
 }
 
 /// The selectors that a prelude spells, or `None` where it is off the grammar.
-pub fn selectors(alloc: Global, prelude: &[Lexeme]) -> Result<Option<Selectors>, AllocError>
+pub fn selector_list(alloc: Global, prelude: &[Lexeme]) -> Result<Option<Selectors>, AllocError>
     ensures { IfOk result (λ o. o ≡ selecting.selectors_of prelude.now) }
 {
     let size = prelude.len();
@@ -224,7 +224,7 @@ pub fn selectors(alloc: Global, prelude: &[Lexeme]) -> Result<Option<Selectors>,
     skip_spaces(&mut rest);
     let mut state = Selecting::new(alloc);
     for _ in 0..size {
-        let (next, then) = turn(alloc, size, state, &mut rest)?;
+        let (next, then) = take_turn(alloc, size, state, &mut rest)?;
         match next {
             Turn::More => state = then,
             Turn::Done => return Ok(Some(whole(then))),

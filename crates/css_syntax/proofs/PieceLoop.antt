@@ -42,7 +42,7 @@ goes_on n i all then total (y ∷ ys) piece rest after x d lt some front back be
     let now : d ≡ declaration_of (take (piece_len (y ∷ ys)) (y ∷ ys)) = read ∙ ap declaration_of front in
     let later : after ≡ behind_first (drop (piece_len (y ∷ ys)) (y ∷ ys)) = behind ∙ ap behind_first back in
     let two : option_to_list d ++ declarations_from m after ≡ declarations_from (n - i) (y ∷ ys) =
-        ap (λ (o : Option RawDeclaration). option_to_list o ++ declarations_from m after) now
-        ∙ ap (λ (zs : List Lexeme). option_to_list (declaration_of (take (piece_len (y ∷ ys)) (y ∷ ys))) ++ declarations_from m zs) later
-        ∙ sym (one_piece m y ys) ∙ ap (λ (j : ℕ). declarations_from j (y ∷ ys)) (sym k) in
+    ap (λ (o : Option RawDeclaration). option_to_list o ++ declarations_from m after) now
+    ∙ ap (λ (zs : List Lexeme). option_to_list (declaration_of (take (piece_len (y ∷ ys)) (y ∷ ys))) ++ declarations_from m zs) later
+    ∙ sym (one_piece m y ys) ∙ ap (λ (j : ℕ). declarations_from j (y ∷ ys)) (sym k) in
     rw grown (append_assoc all (option_to_list d) (declarations_from m after) ∙ (ap (λ (t : List RawDeclaration). all ++ t) two ∙ so_far))

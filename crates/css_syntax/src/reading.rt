@@ -7,7 +7,7 @@ ghost use Rattle.css_syntax.specs.Answers.{IsUnlessMemory};
 
 use crate::blocks::declarations;
 use crate::brackets::{block_fault, sheet_fault};
-use crate::rules::{Rules, first_escape, rules};
+use crate::rules::{Rules, first_escape, sheet_rules};
 use css_data::{RawDeclaration, Sheet};
 use css_tokens::{Fault, Lexeme, lexemes};
 use mc_base::{Found, Input, LimitName, List, ReadError, Refusal, Rule};
@@ -75,7 +75,7 @@ fn sheet_from(alloc: Global, lexemes: &[Lexeme]) -> Result<Sheet, Refusal>
     if let Some(fault) = sheet_fault(alloc, lexemes)? {
         return Err(grammar_refusal(fault));
     }
-    let state = rules(alloc, lexemes)?;
+    let state = sheet_rules(alloc, lexemes)?;
     within_limit(state, first_escape(lexemes))
 }
 

@@ -6,7 +6,7 @@ ghost use Rattle.css_syntax.specs.Rules as sheets;
 use crate::at_rules::{AtRule, at_rule_of};
 use crate::blocks::declarations;
 use css_data::StyleRule;
-use css_prelude::{Selectors, media, or_found, selectors};
+use css_prelude::{Selectors, media_list, or_found, selector_list};
 use css_tokens::{
     Lexeme, Rest, Stop, after_first, begins, front_len, ident_of, is_delim, is_space,
 };
@@ -125,7 +125,7 @@ fn media_in(prelude: &[Lexeme]) -> Option<bool>
 {
     let (name, list) = prelude.split_first()?;
     let _name = ident_of(name)?;
-    media(list)
+    media_list(list)
 }
 
 /// An `@media` with what its prelude says, at its block or its semicolon.
@@ -240,7 +240,7 @@ fn style_rule(alloc: Global, state: Rules, rest: &mut Rest) -> Result<Rules, All
     rest.bump();
     let block = rest.take(front_len(Stop::At('}'), rest.as_slice()));
     rest.bump();
-    let read = selectors(alloc, prelude)?;
+    let read = selector_list(alloc, prelude)?;
     with_rule(alloc, state, read, block)
 }
 
@@ -274,7 +274,7 @@ fn turn(alloc: Global, state: Rules, rest: &mut Rest) -> Result<Rules, AllocErro
 }
 
 /// The rules of a sheet.
-pub fn rules(alloc: Global, lexemes: &[Lexeme]) -> Result<Rules, AllocError>
+pub fn sheet_rules(alloc: Global, lexemes: &[Lexeme]) -> Result<Rules, AllocError>
     requires { length lexemes.now < 2 ^ 60 }
     ensures { IfOk result (λ r. r ≡ sheets.rules_of lexemes.now) }
 {

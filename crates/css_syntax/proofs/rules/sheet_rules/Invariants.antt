@@ -1,6 +1,6 @@
 use Rattle.std.proofs.Common.{◌≡◌, ◌-◌, ◌≤◌, length}
 use Rattle.css_syntax.specs.Rules.{rules_from, no_rules}
-use Rattle.css_syntax.proofs.rules.rules.Given as goal
+use Rattle.css_syntax.proofs.rules.sheet_rules.Given as goal
 
 abbrev pub invariant-loop : goal.invariant-loop
 invariant-loop l = record {
