@@ -1,6 +1,6 @@
 -- The argument of :nth-child (Selectors 3, section 6.6.5.2), read over all that is written in it without white space: odd, even,
 -- a number with an optional sign, or an+b.
-use Rattle.std.specs.Prelude.{ℕ, ◌+◌, ◌*◌, ◌-◌, ◌==◌, min, ℤ, pos, ◌-ℤ◌, List, [], ◌∷◌, ◌++◌, take, drop, length, codes, Bool, true, false, ◌&&◌, ◌||◌, not, if◌then◌else◌, is_empty, Option, Some, None}
+use Rattle.std.specs.Prelude.{ℕ, ◌+◌, ◌*◌, ◌-◌, ◌==◌, min, ℤ, pos, ◌-ℤ◌, List, [], ◌∷◌, ◌++◌, take, drop, length, codes, Bool, true, false, ◌&&◌, ◌||◌, not, if◌then◌else◌, Option, Some, None}
 use Rattle.std.specs.Char.{is_ascii_digit}
 use Rattle.css_tokens.specs.declared.lexeme.Lexeme.{Lexeme}
 use Rattle.css_tokens.specs.declared.lexeme.Symbol.{Symbol}

@@ -67,7 +67,7 @@ continued (turns.Off, s) more = None
 -- the selectors so far and those that follow, in at most as many turns as counted
 unfoldable pub list_from : ℕ → ℕ → Selecting → List Lexeme → Option Selectors
 list_from zero size s xs = None
-list_from (suc n) size s xs = continued (turn size s xs).0 (λ then. list_from n size then (turn size s xs).1)
+list_from (suc n) size s xs = continued (turn size s xs).0 (λ next. list_from n size next (turn size s xs).1)
 
 -- the selectors of a prelude
 abbrev pub selectors_of : List Lexeme → Option Selectors

@@ -91,24 +91,45 @@ fn test(alloc: Global, rest: &mut Rest) -> Result<Option<Tested>, AllocError>
     pseudo(alloc, at, rest)
 }
 
+fn no_tests(alloc: Global) -> Tests
+    ensures { result ≡ compounds.no_tests }
+{
+    Tests {
+        tests: List::new(alloc),
+        found: None,
+    }
+}
+
+/// With one more test.
+fn with_test(all: Tests, one: Tested) -> Result<Tests, AllocError>
+    ensures { IfOk result (λ t. t ≡ compounds.with_test all one) }
+{
+    let Tests { tests, found } = all;
+    let Tested { test, found: then } = one;
+    let mut tests = tests;
+    tests.push(test)?;
+    Ok(Tests {
+        tests,
+        found: or_found(found, then),
+    })
+}
+
 /// The tests that come next, of which there are at most so many.
 fn all_tests(alloc: Global, size: usize, rest: &mut Rest) -> Result<Option<Tests>, AllocError>
     ensures { IfOk result (λ o. option_map (λ t. (t, rest.new)) o ≡ compounds.tests_from size compounds.no_tests rest.old) }
 {
-    let mut tests = List::new(alloc);
-    let mut found = None;
+    let mut all = no_tests(alloc);
     for _ in 0..size {
         if !begins_test(rest) {
-            return Ok(Some(Tests { tests, found }));
+            return Ok(Some(all));
         }
-        let Some(next) = test(alloc, rest)? else {
+        let next = test(alloc, rest)?;
+        let Some(one) = next else {
             return Ok(None);
         };
-        let Tested { test, found: then } = next;
-        tests.push(test)?;
-        found = or_found(found, then);
+        all = with_test(all, one)?;
     }
-    Ok(Some(Tests { tests, found }))
+    Ok(Some(all))
 }
 
 /// A type or `*`, if one comes next.

@@ -182,7 +182,7 @@ fn followed(
     }
 }
 
-/// Takes a compound selector and what follows it.
+/// Takes a compound selector and what follows it. Off the grammar nothing is taken.
 #[tactic(auto, unfolding(crate::specs::Selecting::turn))]
 fn take_turn(
     alloc: Global,
@@ -192,7 +192,9 @@ fn take_turn(
 ) -> Result<(Turn, Selecting), AllocError>
     ensures { IfOk result (λ x. ((x.0, x.1), rest.new) ≡ selecting.turn size state rest.old) }
 {
+    let before = rest.as_slice();
     let Some(next) = compound(alloc, size, rest)? else {
+        *rest = Rest::new(before);
         return Ok((Turn::Off, state));
     };
     let state = with_compound(state, next)?;
