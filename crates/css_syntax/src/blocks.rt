@@ -134,6 +134,7 @@ fn valued(
 }
 
 /// The declaration that a piece spells, if it spells one.
+#[tactic(auto, unfolding(crate::specs::Blocks::declaration_of))]
 fn declaration(alloc: Global, piece: &[Lexeme]) -> Result<Option<RawDeclaration>, AllocError>
     ensures { IfOk result (λ o. o ≡ blocks.declaration_of piece.now) }
 {

@@ -302,13 +302,12 @@ fn rule_of(frame: Frame) -> u8
     }
 }
 
-/// The first fault at the end, where what is open isn't closed.
-fn at_end(state: Brackets) -> Option<Fault>
-    ensures { result ≡ brackets.at_end state }
+/// The first of a fault and of those of what isn't closed.
+fn left_open(fault: Option<Fault>, opens: &[Open]) -> Option<Fault>
+    ensures { result ≡ brackets.left_open fault opens.now }
 {
-    let Brackets { opens, fault } = state;
     let mut first = fault;
-    for open in opens.as_slice() {
+    for open in opens {
         first = first_fault(
             first,
             Fault {
@@ -318,6 +317,13 @@ fn at_end(state: Brackets) -> Option<Fault>
         );
     }
     first
+}
+
+/// The first fault at the end, where what is open isn't closed.
+fn at_end(state: Brackets) -> Option<Fault>
+    ensures { result ≡ brackets.at_end state }
+{
+    left_open(state.fault, state.opens.as_slice())
 }
 
 fn nothing_open(alloc: Global) -> Brackets

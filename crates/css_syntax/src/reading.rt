@@ -1,6 +1,6 @@
 //! Reading sheets and style attributes.
 
-ghost use Rattle.std.specs.Prelude.{◌≡◌, ◌≤◌, ◌^◌, length};
+ghost use Rattle.std.specs.Prelude.{◌≡◌, ◌<◌, ◌≤◌, ◌^◌, length};
 ghost use Rattle.css_tokens.specs.Gives.{Gives};
 ghost use Rattle.css_syntax.specs.Sheets as sheets;
 ghost use Rattle.css_syntax.specs.Answers.{IsUnlessMemory};

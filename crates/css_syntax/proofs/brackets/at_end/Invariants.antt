@@ -1,6 +1,0 @@
-use Rattle.std.proofs.Common.{◌≡◌, drop}
-use Rattle.css_syntax.specs.Brackets.{left_open}
-use Rattle.css_syntax.proofs.brackets.at_end.Given as goal
-
-abbrev pub invariant-loop-open : goal.invariant-loop-open
-invariant-loop-open l = left_open l.first (drop l.open-index l.opens) ≡ left_open l.fault l.opens
