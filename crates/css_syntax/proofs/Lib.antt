@@ -1,0 +1,2 @@
+pub mod RuleLoop
+pub mod PieceLoop
