@@ -135,7 +135,6 @@ fn decimal_at(text: &[u8]) -> Option<Decimal>
 pub fn read_decimal(text: &[u8]) -> Option<Decimal>
     ensures found { IfSome result (IsDecimal text.now) }
     ensures none { IfNone result ((number : Decimal) → ¬ IsDecimal text.now number) }
-    ensures exact { result ≡ reading.decimal_at text.now }
 {
     decimal_at(text)
 }
