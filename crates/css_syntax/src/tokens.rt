@@ -1,6 +1,7 @@
 //! Tokens of values.
 
 ghost use Rattle.std.specs.Prelude.{◌≡◌, [], map, IfOk};
+ghost use Rattle.mc_base.specs.DecimalReading as reading;
 ghost use Rattle.css_syntax.specs.Tokens as tokens;
 
 use css_data::CssToken;
@@ -14,11 +15,18 @@ pub fn copy(alloc: Global, bytes: &[u8]) -> Result<Text, AllocError>
     Ok(Text::of(Vec::from_slice(alloc, bytes)?))
 }
 
+/// The number that digits write, if they write one.
+fn read(digits: &[u8]) -> Option<Decimal>
+    ensures { result ≡ reading.decimal_at digits.now }
+{
+    read_decimal(digits)
+}
+
 /// The number that digits write.
 fn number(digits: &[u8]) -> Decimal
     ensures { result ≡ tokens.number digits.now }
 {
-    match read_decimal(digits) {
+    match read(digits) {
         Some(number) => number,
         None => Decimal {
             negative: false,
