@@ -1,5 +1,5 @@
 -- The lexeme in front of the places of a text, as it is read: the longest is taken (CSS Syntax 3, section 4.3).
-use Rattle.std.specs.Prelude.{ℕ, zero, suc, ◌==◌, nat_lt, List, [], ◌∷◌, ◌++◌, length, chars, Bool, true, false, ◌&&◌, ◌||◌, not, if◌then◌else◌, Option, Some, None, option_to_list, Result, Ok, Err, encode_utf8, encode_utf8_all}
+use Rattle.std.specs.Prelude.{ℕ, zero, suc, ◌==◌, nat_lt, List, [], ◌∷◌, ◌++◌, length, chars, Bool, false, ◌&&◌, ◌||◌, not, if◌then◌else◌, Option, Some, None, option_to_list, Result, Ok, Err, encode_utf8, encode_utf8_all}
 use Rattle.std.specs.Char.{is_ascii_digit}
 use Rattle.mc_base.specs.SoundText.{sound_len}
 use Rattle.html_grammar.specs.declared.place.Place.{Place}

@@ -1,4 +1,4 @@
-use Rattle.std.proofs.Common.{◌≡◌, ◌-◌, length, chars, Some, None, sym, ◌∙◌}
+use Rattle.std.proofs.Common.{◌≡◌, length, chars, Some, None, sym, ◌∙◌}
 use Rattle.html_grammar.specs.Places.{places_of, first}
 use Rattle.css_tokens.specs.Lexing.{lexemes_from}
 use Rattle.css_tokens.proofs.LexemeLoop.{nothing_left, no_turn_left, goes_on}
