@@ -57,7 +57,9 @@ abbrev pub is_one_of : List (List ℕ) → List ℕ → Bool
 is_one_of words text = list_any (λ word. same text word) words
 
 unfoldable pub is_display_word : List ℕ → Bool
-is_display_word text = is_one_of (codes "inline-block" ∷ codes "flex" ∷ codes "inline-flex" ∷ codes "grid" ∷ codes "inline-grid" ∷ codes "contents" ∷ codes "flow-root" ∷ codes "table" ∷ []) text
+is_display_word text =
+    is_one_of (codes "inline-block" ∷ codes "flex" ∷ codes "inline-flex" ∷ codes "grid" ∷ codes "inline-grid"
+    ∷ codes "contents" ∷ codes "flow-root" ∷ codes "table" ∷ []) text
 
 abbrev pub is_unlaid_display : List ℕ → Bool
 is_unlaid_display text = is_display_word text || (begins_with (codes "table-") text || begins_with (codes "inline-table") text)
@@ -138,7 +140,9 @@ barred_declared barred (Some token) =
 
 unfoldable pub declared_as : Name → List CssToken → Declared
 declared_as (Own property) value = laid (property ∷ []) value (own_value property (significant value))
-declared_as (Short shorthand) value = laid (longhands_of shorthand) value (set_unless (longhands_of shorthand) (shorthand_values shorthand (significant value)) None)
+declared_as (Short shorthand) value =
+    laid (longhands_of shorthand) value
+    (set_unless (longhands_of shorthand) (shorthand_values shorthand (significant value)) None)
 declared_as (Bars barred) value = barred_declared barred (only (significant value))
 
 abbrev pub declared_by : Option Name → List CssToken → Declared

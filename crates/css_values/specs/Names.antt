@@ -119,13 +119,24 @@ construct_of barred.MaxHeight = constructs.MaxHeight
 construct_of barred.Font = constructs.Font
 
 abbrev pub properties : List Property
-properties = Display ∷ FontSize ∷ FontFamily ∷ FontWeight ∷ FontStyle ∷ LineHeight ∷ WhiteSpace ∷ Hyphens ∷ TextAlign ∷ Orphans ∷ Widows ∷ MarginTop ∷ MarginRight ∷ MarginBottom ∷ MarginLeft ∷ PaddingTop ∷ PaddingRight ∷ PaddingBottom ∷ PaddingLeft ∷ BorderTopWidth ∷ BorderRightWidth ∷ BorderBottomWidth ∷ BorderLeftWidth ∷ BorderTopStyle ∷ BorderRightStyle ∷ BorderBottomStyle ∷ BorderLeftStyle ∷ Width ∷ MaxWidth ∷ Height ∷ BoxSizing ∷ ColumnWidth ∷ ColumnCount ∷ ColumnGap ∷ ColumnFill ∷ ColumnSpan ∷ BreakBefore ∷ BreakAfter ∷ BreakInside ∷ BoxDecorationBreak ∷ []
+properties =
+    Display ∷ FontSize ∷ FontFamily ∷ FontWeight ∷ FontStyle ∷ LineHeight ∷ WhiteSpace ∷ Hyphens ∷ TextAlign ∷ Orphans
+    ∷ Widows ∷ MarginTop ∷ MarginRight ∷ MarginBottom ∷ MarginLeft ∷ PaddingTop ∷ PaddingRight ∷ PaddingBottom ∷ PaddingLeft
+    ∷ BorderTopWidth ∷ BorderRightWidth ∷ BorderBottomWidth ∷ BorderLeftWidth ∷ BorderTopStyle ∷ BorderRightStyle
+    ∷ BorderBottomStyle ∷ BorderLeftStyle ∷ Width ∷ MaxWidth ∷ Height ∷ BoxSizing ∷ ColumnWidth ∷ ColumnCount ∷ ColumnGap
+    ∷ ColumnFill ∷ ColumnSpan ∷ BreakBefore ∷ BreakAfter ∷ BreakInside ∷ BoxDecorationBreak ∷ []
 
 abbrev pub shorthands : List Shorthand
-shorthands = Margin ∷ Padding ∷ BorderWidth ∷ BorderStyle ∷ Border ∷ BorderTop ∷ BorderRight ∷ BorderBottom ∷ BorderLeft ∷ Columns ∷ Gap ∷ PageBreakBefore ∷ PageBreakAfter ∷ PageBreakInside ∷ []
+shorthands =
+    Margin ∷ Padding ∷ BorderWidth ∷ BorderStyle ∷ Border ∷ BorderTop ∷ BorderRight ∷ BorderBottom ∷ BorderLeft ∷ Columns
+    ∷ Gap ∷ PageBreakBefore ∷ PageBreakAfter ∷ PageBreakInside ∷ []
 
 abbrev pub barred_properties : List Barred
-barred_properties = barred.Float ∷ barred.Position ∷ barred.Top ∷ barred.Right ∷ barred.Bottom ∷ barred.Left ∷ barred.Overflow ∷ barred.OverflowX ∷ barred.OverflowY ∷ barred.WritingMode ∷ barred.Direction ∷ barred.VerticalAlign ∷ barred.TextIndent ∷ barred.TextTransform ∷ barred.LetterSpacing ∷ barred.WordSpacing ∷ barred.MinWidth ∷ barred.MinHeight ∷ barred.MaxHeight ∷ barred.Font ∷ []
+barred_properties =
+    barred.Float ∷ barred.Position ∷ barred.Top ∷ barred.Right ∷ barred.Bottom ∷ barred.Left ∷ barred.Overflow
+    ∷ barred.OverflowX ∷ barred.OverflowY ∷ barred.WritingMode ∷ barred.Direction ∷ barred.VerticalAlign ∷ barred.TextIndent
+    ∷ barred.TextTransform ∷ barred.LetterSpacing ∷ barred.WordSpacing ∷ barred.MinWidth ∷ barred.MinHeight ∷ barred.MaxHeight
+    ∷ barred.Font ∷ []
 
 unfoldable pub property_named : List ℕ → Option Property
 property_named name = find (λ p. same name (property_name p)) properties
@@ -137,7 +148,9 @@ unfoldable pub barred_named : List ℕ → Option Barred
 barred_named name = find (λ b. same name (barred_name b)) barred_properties
 
 abbrev pub named : List ℕ → Option Name
-named name = or_else (option_map Own (property_named name)) (or_else (option_map Short (shorthand_named name)) (option_map Bars (barred_named name)))
+named name =
+    or_else (option_map Own (property_named name))
+    (or_else (option_map Short (shorthand_named name)) (option_map Bars (barred_named name)))
 
 -- each property is known by its name, and no two have one name
 pub record NamesAreKnown : Type 0 where

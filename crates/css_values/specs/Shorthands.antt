@@ -22,7 +22,9 @@ longhands_of Margin = MarginTop ∷ MarginRight ∷ MarginBottom ∷ MarginLeft 
 longhands_of Padding = PaddingTop ∷ PaddingRight ∷ PaddingBottom ∷ PaddingLeft ∷ []
 longhands_of BorderWidth = BorderTopWidth ∷ BorderRightWidth ∷ BorderBottomWidth ∷ BorderLeftWidth ∷ []
 longhands_of BorderStyle = BorderTopStyle ∷ BorderRightStyle ∷ BorderBottomStyle ∷ BorderLeftStyle ∷ []
-longhands_of Border = BorderTopWidth ∷ BorderRightWidth ∷ BorderBottomWidth ∷ BorderLeftWidth ∷ BorderTopStyle ∷ BorderRightStyle ∷ BorderBottomStyle ∷ BorderLeftStyle ∷ []
+longhands_of Border =
+    BorderTopWidth ∷ BorderRightWidth ∷ BorderBottomWidth ∷ BorderLeftWidth ∷ BorderTopStyle ∷ BorderRightStyle
+    ∷ BorderBottomStyle ∷ BorderLeftStyle ∷ []
 longhands_of BorderTop = BorderTopWidth ∷ BorderTopStyle ∷ []
 longhands_of BorderRight = BorderRightWidth ∷ BorderRightStyle ∷ []
 longhands_of BorderBottom = BorderBottomWidth ∷ BorderBottomStyle ∷ []
@@ -70,12 +72,14 @@ may_join _ _ = true
 -- a width and a count in any order, either of which is `auto` where it is missing (CSS Multi-column Layout 1, section 3.3)
 abbrev pub width_and_count : List Simple → Option (List Simple)
 width_and_count (a ∷ []) = Some (length_or a (Word Auto) ∷ number_or a (Word Auto) ∷ [])
-width_and_count (a ∷ b ∷ []) = if may_join a b then Some (length_or a (length_or b (Word Auto)) ∷ number_or a (number_or b (Word Auto)) ∷ []) else None
+width_and_count (a ∷ b ∷ []) =
+    if may_join a b then Some (length_or a (length_or b (Word Auto)) ∷ number_or a (number_or b (Word Auto)) ∷ []) else None
 width_and_count _ = None
 
 -- the functions that are colours (CSS Color 3, section 4.2)
 unfoldable pub is_colour_function : List ℕ → Bool
-is_colour_function name = same name (codes "rgb") || same name (codes "rgba") || same name (codes "hsl") || same name (codes "hsla")
+is_colour_function name =
+    same name (codes "rgb") || same name (codes "rgba") || same name (codes "hsl") || same name (codes "hsla")
 
 abbrev pub is_colour : CssToken → Bool
 is_colour (tokens.Ident text) = not (is_some (wide_at (tokens.Ident text)))
@@ -114,7 +118,9 @@ open_after n _ = n
 -- a border whose parts follow, where so many brackets of a colour are open: what stands in them is passed over
 abbrev pub line_from : Line → ℕ → List CssToken → Option Line
 line_from line n [] = if n == 0 then Some line else None
-line_from line n (token ∷ rest) = if n == 0 then (with_part line token >>= λ more. line_from more (open_after 0 token) rest) else line_from line (open_after n token) rest
+line_from line n (token ∷ rest) =
+    if n == 0 then (with_part line token >>= λ more. line_from more (open_after 0 token) rest)
+    else line_from line (open_after n token) rest
 
 -- the widths and the styles of all four sides, or of one
 abbrev pub spread : Bool → Simple → Simple → List Simple

@@ -26,7 +26,8 @@ border_width = Length ∷ AsLength Thin 1000 Px ∷ AsLength Medium 3000 Px ∷ 
 
 -- the style of a border
 abbrev pub border_style : List Form
-border_style = Is None ∷ Is Hidden ∷ Is Dotted ∷ Is Dashed ∷ Is Solid ∷ Is Double ∷ Is Groove ∷ Is Ridge ∷ Is Inset ∷ Is Outset ∷ []
+border_style =
+    Is None ∷ Is Hidden ∷ Is Dotted ∷ Is Dashed ∷ Is Solid ∷ Is Double ∷ Is Groove ∷ Is Ridge ∷ Is Inset ∷ Is Outset ∷ []
 
 -- a gap
 abbrev pub column_gap : List Form
@@ -34,7 +35,9 @@ column_gap = Is Normal ∷ Length ∷ Percent ∷ []
 
 -- a break before or after a box
 abbrev pub break_between : List Form
-break_between = Is Auto ∷ Is Avoid ∷ As AvoidColumn Avoid ∷ Is Column ∷ As AvoidPage Auto ∷ As Page Auto ∷ As Left Auto ∷ As Right Auto ∷ As Recto Auto ∷ As Verso Auto ∷ As AvoidRegion Auto ∷ As Region Auto ∷ []
+break_between =
+    Is Auto ∷ Is Avoid ∷ As AvoidColumn Avoid ∷ Is Column ∷ As AvoidPage Auto ∷ As Page Auto ∷ As Left Auto ∷ As Right Auto
+    ∷ As Recto Auto ∷ As Verso Auto ∷ As AvoidRegion Auto ∷ As Region Auto ∷ []
 
 -- a width or a count of columns
 abbrev pub columns : List Form
@@ -53,7 +56,10 @@ unfoldable pub grammar_of : Property → List Form
 -- CSS 2.1, section 9.2.4
 grammar_of properties.Display = Is Inline ∷ Is Block ∷ Is ListItem ∷ Is None ∷ []
 -- CSS 2.1, section 15.7
-grammar_of properties.FontSize = Length ∷ Percent ∷ AsLength XxSmall 9000 Px ∷ AsLength XSmall 10000 Px ∷ AsLength Small 13000 Px ∷ AsLength Medium 16000 Px ∷ AsLength Large 18000 Px ∷ AsLength XLarge 24000 Px ∷ AsLength XxLarge 32000 Px ∷ AsLength Smaller 800 Em ∷ AsLength Larger 1200 Em ∷ []
+grammar_of properties.FontSize =
+    Length ∷ Percent ∷ AsLength XxSmall 9000 Px ∷ AsLength XSmall 10000 Px ∷ AsLength Small 13000 Px
+    ∷ AsLength Medium 16000 Px ∷ AsLength Large 18000 Px ∷ AsLength XLarge 24000 Px ∷ AsLength XxLarge 32000 Px
+    ∷ AsLength Smaller 800 Em ∷ AsLength Larger 1200 Em ∷ []
 -- CSS 2.1, section 15.3: a list of names, not of these forms
 grammar_of properties.FontFamily = []
 -- CSS Fonts 4, section 2.2

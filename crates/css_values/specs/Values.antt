@@ -62,12 +62,15 @@ number_at _ = None
 
 -- a number without a point that is at least 1
 abbrev pub whole_at : CssToken → Option Simple
-whole_at (tokens.Number value whole) = if whole && (not value.negative && nat_le (10 ^ 9) value.billionths) then Some (Number value) else None
+whole_at (tokens.Number value whole) =
+    if whole && (not value.negative && nat_le (10 ^ 9) value.billionths) then Some (Number value) else None
 whole_at _ = None
 
 -- a number from 1 to 1000
 abbrev pub weight_at : CssToken → Option Simple
-weight_at (tokens.Number value whole) = if not value.negative && (nat_le (10 ^ 9) value.billionths && nat_le value.billionths (10 ^ 12)) then Some (Number value) else None
+weight_at (tokens.Number value whole) =
+    if not value.negative && (nat_le (10 ^ 9) value.billionths && nat_le value.billionths (10 ^ 12))
+    then Some (Number value) else None
 weight_at _ = None
 
 abbrev pub zero_at : CssToken → Option Simple
@@ -107,7 +110,9 @@ one_of (form ∷ forms) token = or_else (accepted form token) (one_of forms toke
 
 -- the keywords that every property takes, alone (CSS Cascade 4, section 7.3)
 unfoldable pub wide_at : CssToken → Option Simple
-wide_at token = or_else (when (is_word (codes "inherit") token) Inherit) (or_else (when (is_word (codes "initial") token) Initial) (when (is_word (codes "unset") token) Unset))
+wide_at token =
+    or_else (when (is_word (codes "inherit") token) Inherit)
+    (or_else (when (is_word (codes "initial") token) Initial) (when (is_word (codes "unset") token) Unset))
 
 -- each of the tokens as a value of one of these forms
 abbrev pub values_of : List Form → List CssToken → Option (List Simple)

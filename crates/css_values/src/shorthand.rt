@@ -211,7 +211,8 @@ pub fn shorthand_values(
     shorthand: Shorthand,
     value: &[CssToken],
 ) -> Result<Option<Vec<Simple>>, AllocError>
-    ensures { IfOk result (λ found. option_map (λ v. v.items) found ≡ shorthands.shorthand_values shorthand (significant value.now)) }
+    ensures { IfOk result (λ found. option_map (λ v. v.items) found ≡
+        shorthands.shorthand_values shorthand (significant value.now)) }
 {
     match shorthand {
         Shorthand::Margin => four_sides(alloc, margin(), value),

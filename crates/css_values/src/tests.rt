@@ -33,7 +33,7 @@ fn decimal(thousandths: i32) -> Decimal {
     }
 }
 
-fn token(alloc: Global, token: Token) -> Result<CssToken, AllocError> {
+fn made(alloc: Global, token: Token) -> Result<CssToken, AllocError> {
     Ok(match token {
         Token::Ident(word) => CssToken::Ident {
             text: text(alloc, word)?,
@@ -68,7 +68,7 @@ fn token(alloc: Global, token: Token) -> Result<CssToken, AllocError> {
 fn tokens(alloc: Global, value: &[Token]) -> Result<Vec<CssToken>, AllocError> {
     let mut tokens = Vec::new(alloc);
     for one in value {
-        tokens.push(token(alloc, *one)?)?;
+        tokens.push(made(alloc, *one)?)?;
     }
     Ok(tokens)
 }
