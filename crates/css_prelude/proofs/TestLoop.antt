@@ -1,5 +1,5 @@
 -- Reading tests one after the other, as a loop does.
-use Rattle.std.proofs.Common.{◌≡◌, ℕ, suc, ◌+◌, ◌-◌, ◌≤◌, ◌<◌, List, Option, Some, None, true, false, refl, sym, ap, ◌∙◌, arith}
+use Rattle.std.proofs.Common.{◌≡◌, ℕ, suc, ◌+◌, ◌-◌, ◌≤◌, ◌<◌, List, Option, Some, None, true, false, refl, sym, ◌∙◌, arith}
 use Rattle.css_tokens.specs.declared.lexeme.Lexeme.{Lexeme}
 use Rattle.css_prelude.specs.declared.pseudo.Tested.{Tested}
 use Rattle.css_prelude.specs.declared.compound.Tests.{Tests}

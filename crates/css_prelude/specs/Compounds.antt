@@ -1,7 +1,5 @@
 -- Compound selectors (Selectors 3, section 4): a type or * or neither, and tests, not nothing at all.
 use Rattle.std.specs.Prelude.{ℕ, zero, suc, ◌==◌, List, [], ◌∷◌, ◌++◌, length, Bool, true, false, ◌&&◌, ◌||◌, not, is_some, if◌then◌else◌, Option, Some, None}
-use Rattle.mc_base.specs.declared.refusal.Found.{Found}
-use Rattle.css_data.specs.declared.selector.Test.{Test}
 use Rattle.css_data.specs.declared.selector.Test.TheVariants as tests
 use Rattle.css_tokens.specs.declared.lexeme.Lexeme.{Lexeme}
 use Rattle.css_tokens.specs.Facts.{begins, behind_first}

@@ -1,10 +1,10 @@
 -- The argument of :nth-child (Selectors 3, section 6.6.5.2), read over all that is written in it without white space: odd, even,
 -- a number with an optional sign, or an+b.
-use Rattle.std.specs.Prelude.{ℕ, ◌+◌, ◌*◌, ◌-◌, ◌==◌, min, ℤ, pos, ◌-ℤ◌, List, [], ◌∷◌, ◌++◌, take, drop, length, codes, Bool, true, false, ◌&&◌, ◌||◌, not, if◌then◌else◌, Option, Some, None}
+use Rattle.std.specs.Prelude.{ℕ, ◌+◌, ◌*◌, ◌-◌, ◌==◌, min, ℤ, pos, ◌-ℤ◌, List, [], ◌∷◌, ◌++◌, take, drop, length, codes, Bool, true, false, ◌||◌, if◌then◌else◌, Option, Some, None}
 use Rattle.std.specs.Char.{is_ascii_digit}
 use Rattle.css_tokens.specs.declared.lexeme.Lexeme.{Lexeme}
 use Rattle.css_tokens.specs.declared.lexeme.Symbol.{Symbol}
-use Rattle.css_tokens.specs.declared.lexeme.Symbol.TheVariants.{Ident, Hash, Quoted, Number, Percent, Dimension, Function, Delim, Space, Broken}
+use Rattle.css_tokens.specs.declared.lexeme.Symbol.TheVariants.{Ident, Number, Dimension, Delim, Space}
 use Rattle.css_tokens.specs.Facts.{is_word}
 use Rattle.css_prelude.specs.declared.nth.Step.{Step}
 use Rattle.css_prelude.specs.Options.{◌>>=◌}

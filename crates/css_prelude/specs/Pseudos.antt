@@ -1,6 +1,5 @@
 -- Pseudo-classes and pseudo-elements (Selectors 3, sections 6.6 and 7), behind their first colon.
-use Rattle.std.specs.Prelude.{ℕ, List, [], ◌∷◌, take, drop, codes, Bool, true, false, if◌then◌else◌, Option, Some, None}
-use Rattle.mc_base.specs.declared.refusal.Found.{Found}
+use Rattle.std.specs.Prelude.{ℕ, List, [], ◌∷◌, take, drop, codes, Bool, if◌then◌else◌, Option, Some, None}
 use Rattle.mc_base.specs.declared.refusal.ConstructName.{ConstructName}
 use Rattle.mc_base.specs.declared.refusal.ConstructName.TheVariants as constructs
 use Rattle.css_data.specs.declared.selector.Test.{Test}

@@ -1,5 +1,5 @@
 -- Lists of selectors (Selectors 3, sections 5 and 8): compound ones with a join between two, and selectors with commas.
-use Rattle.std.specs.Prelude.{ℕ, zero, suc, List, [], ◌∷◌, ◌++◌, length, Bool, true, false, if◌then◌else◌, Option, Some, None}
+use Rattle.std.specs.Prelude.{ℕ, zero, suc, List, [], ◌∷◌, ◌++◌, length, Bool, if◌then◌else◌, Option, Some, None}
 use Rattle.css_data.specs.declared.selector.Join.{Join}
 use Rattle.css_data.specs.declared.selector.Join.TheVariants as joins
 use Rattle.css_tokens.specs.declared.lexeme.Lexeme.{Lexeme}

@@ -4,5 +4,6 @@ pub mod Blocks
 pub mod AtRules
 pub mod Opens
 pub mod Brackets
+pub mod Media
 pub mod Rules
 pub mod Sheets

@@ -8,6 +8,7 @@
 mod at_rules;
 mod blocks;
 mod brackets;
+mod media;
 mod reading;
 mod rules;
 #[cfg(test)]
@@ -17,4 +18,5 @@ mod tokens;
 pub use css_data::{
     AttrOp, Compound, CssToken, Join, RawDeclaration, Selector, Sheet, StyleRule, Test,
 };
+pub use media::parse_media;
 pub use reading::{parse_declarations, parse_sheet};

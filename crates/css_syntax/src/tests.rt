@@ -1,4 +1,4 @@
-use crate::{RawDeclaration, Sheet, parse_declarations, parse_sheet};
+use crate::{RawDeclaration, Sheet, parse_declarations, parse_media, parse_sheet};
 use mc_base::{ConstructName, Found, Input, LimitName, Refusal, Rule};
 use std::test::Fail;
 
@@ -197,6 +197,24 @@ fn declarations_are_read(rt: HostRuntime) -> Result<(), Fail> {
         for (declaration, told) in read.as_slice().iter().zip(wanted) {
             assert_eq!(rt; declared(declaration), *told, "{text:?}");
         }
+    }
+    Ok(())
+}
+
+#[test]
+fn media_are_listed(rt: HostRuntime) -> Result<(), Fail> {
+    let cases: [(&[u8], Option<bool>); 8] = [
+        (b"", Some(true)),
+        (b" \r", Some(true)),
+        (b"print , Screen", Some(true)),
+        (b"print", Some(false)),
+        (b"print,", None),
+        (b"tv", None),
+        (b"all /*", None),
+        (b"\xef\xbb\xbfall", None),
+    ];
+    for (text, applies) in cases {
+        assert_eq!(rt; parse_media(rt.alloc(), text)?, applies, "{text:?}");
     }
     Ok(())
 }

@@ -1,4 +1,4 @@
-use Rattle.std.proofs.Common.{◌≡◌, ◌-◌, length}
+use Rattle.std.proofs.Common.{◌≡◌, ◌-◌}
 use Rattle.css_tokens.specs.Facts.{behind_spaces}
 use Rattle.css_prelude.specs.Selecting.{list_from, nothing_yet}
 use Rattle.css_prelude.proofs.selecting.selector_list.Given as goal
