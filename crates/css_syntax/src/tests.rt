@@ -1,11 +1,40 @@
-use crate::{RawDeclaration, Sheet, parse_declarations, parse_media, parse_sheet};
-use mc_base::{ConstructName, Found, Input, LimitName, Refusal, Rule};
+use crate::{parse_declarations, parse_media, parse_sheet};
+use mc_base::{ConstructName, Found, Input, LimitName, NoMemory, Refusal, Rule};
+use std::alloc::Global;
 use std::test::Fail;
 
 /// How many rules a sheet has, and its first construct; or its refusal.
-fn told(read: Result<Sheet, Refusal>) -> Result<(usize, Option<Found>), Refusal> {
-    let sheet = read?;
+fn told(alloc: Global, text: &[u8]) -> Result<(usize, Option<Found>), Refusal> {
+    if text.len() > 1_000_000 {
+        return Err(Refusal::NoMemory);
+    }
+    let sheet = parse_sheet(alloc, text)?;
     Ok((sheet.rules.len(), sheet.construct))
+}
+
+/// The offset of each declaration, how many tokens its value has, and whether it is important.
+fn declared(alloc: Global, text: &[u8]) -> Result<Vec<(u64, usize, bool)>, Refusal> {
+    let mut all = Vec::new(alloc);
+    if text.len() > 1_000_000 {
+        return Ok(all);
+    }
+    let read = parse_declarations(alloc, text)?;
+    for declaration in read.as_slice() {
+        all.push((
+            declaration.offset,
+            declaration.value.len(),
+            declaration.important,
+        ))?;
+    }
+    Ok(all)
+}
+
+/// Whether listed media apply.
+fn listed(alloc: Global, text: &[u8]) -> Result<Option<bool>, NoMemory> {
+    if text.len() > 1_000_000 {
+        return Err(NoMemory);
+    }
+    parse_media(alloc, text)
 }
 
 fn fault(offset: u64, number: u8) -> Result<(usize, Option<Found>), Refusal> {
@@ -58,11 +87,7 @@ fn faults_stand_at_their_bytes(rt: HostRuntime) {
         (b"p{}/**/q(", 7, 5),
     ];
     for (text, offset, number) in cases {
-        assert_eq!(rt;
-            told(parse_sheet(rt.alloc(), text)),
-            fault(offset, number),
-            "{text:?}"
-        );
+        assert_eq!(rt; told(rt.alloc(), text), fault(offset, number), "{text:?}");
     }
 }
 
@@ -84,7 +109,7 @@ fn constructs_stand_at_their_bytes(rt: HostRuntime) {
     ];
     for (text, rules, offset, name) in cases {
         assert_eq!(rt;
-            told(parse_sheet(rt.alloc(), text)),
+            told(rt.alloc(), text),
             construct(rules, offset, name),
             "{text:?}"
         );
@@ -130,11 +155,7 @@ fn rules_are_kept_or_dropped(rt: HostRuntime) {
         (b"p;q{}", 0),
     ];
     for (text, rules) in cases {
-        assert_eq!(rt;
-            told(parse_sheet(rt.alloc(), text)),
-            Ok((rules, None)),
-            "{text:?}"
-        );
+        assert_eq!(rt; told(rt.alloc(), text), Ok((rules, None)), "{text:?}");
     }
 }
 
@@ -144,34 +165,27 @@ fn rules_have_a_limit(rt: HostRuntime) -> Result<(), Fail> {
     for _ in 0..4000 {
         text.extend_from_slice(b"p{}")?;
     }
-    assert_eq!(rt; told(parse_sheet(rt.alloc(), &text)), Ok((4000, None)));
+    assert_eq!(rt; told(rt.alloc(), &text), Ok((4000, None)));
     text.extend_from_slice(b"@media print{3{}}")?;
     let refused = Err(Refusal::Limit {
         name: LimitName::Rules,
         reached: 4001,
         limit: 4000,
     });
-    assert_eq!(rt; told(parse_sheet(rt.alloc(), &text)), refused);
+    assert_eq!(rt; told(rt.alloc(), &text), refused);
     Ok(())
-}
-
-/// The offset of a declaration, how many tokens its value has, and whether it is important.
-fn declared(declaration: &RawDeclaration) -> (u64, usize, bool) {
-    (
-        declaration.offset,
-        declaration.value.len(),
-        declaration.important,
-    )
 }
 
 #[test]
 fn a_rule_has_its_declarations(rt: HostRuntime) -> Result<(), Fail> {
     let sheet = parse_sheet(rt.alloc(), b"a{color:red;width:1px!important}")?;
-    assert_eq!(rt; sheet.rules.len(), 1);
-    let declarations = sheet.rules.as_slice()[0].declarations.as_slice();
-    assert_eq!(rt; declarations.len(), 2);
-    assert_eq!(rt; declared(&declarations[0]), (2, 1, false));
-    assert_eq!(rt; declared(&declarations[1]), (12, 1, true));
+    let mut offsets = Vec::new(rt.alloc());
+    for rule in sheet.rules.as_slice() {
+        for declaration in rule.declarations.as_slice() {
+            offsets.push((declaration.offset, declaration.important))?;
+        }
+    }
+    assert_eq!(rt; offsets.as_slice(), [(2, false), (12, true)].as_slice());
     Ok(())
 }
 
@@ -192,11 +206,8 @@ fn declarations_are_read(rt: HostRuntime) -> Result<(), Fail> {
         (b"\xef\xbb\xbfa:-1.5em/**/+2%", &[(3, 2, false)]),
     ];
     for (text, wanted) in cases {
-        let read = parse_declarations(rt.alloc(), text)?;
-        assert_eq!(rt; read.len(), wanted.len(), "{text:?}");
-        for (declaration, told) in read.as_slice().iter().zip(wanted) {
-            assert_eq!(rt; declared(declaration), *told, "{text:?}");
-        }
+        let read = declared(rt.alloc(), text)?;
+        assert_eq!(rt; read.as_slice(), wanted, "{text:?}");
     }
     Ok(())
 }
@@ -214,7 +225,7 @@ fn media_are_listed(rt: HostRuntime) -> Result<(), Fail> {
         (b"\xef\xbb\xbfall", None),
     ];
     for (text, applies) in cases {
-        assert_eq!(rt; parse_media(rt.alloc(), text)?, applies, "{text:?}");
+        assert_eq!(rt; listed(rt.alloc(), text)?, applies, "{text:?}");
     }
     Ok(())
 }
