@@ -21,3 +21,5 @@ mod places;
 mod printed;
 #[cfg(test)]
 mod reading;
+#[cfg(test)]
+mod regions;
