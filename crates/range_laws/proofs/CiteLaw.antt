@@ -24,9 +24,6 @@ each-all book [] e = All-nil (AllStand book)
 each-all book (us ∷ lists) e = All-cons (AllStand book) us lists (stand-all book us e.0) (each-all book lists e.1)
 
 module _ (d : FlowsData) (r : ℕ) (q : Token) where
-  judged_at : ℕ → List Column
-  judged_at low = judged (all_rows d) d r q low
-
   owned-length : (x : Range) → length (range_owned d r q x) ≡ length (lines_of (judged (all_rows d) d r q x.low))
   unfolding range_owned judged all_rows
   owned-length x =

@@ -36,8 +36,8 @@ module _ (owned : Owned) (inner : Inner) (law : FillsHaveLists owned inner) wher
       (cut h (steps_from inner d f t)).stop
 
 -- columns one after another, up to the first that a test stops
-module _ (make : Token → Column) (f : Flow) (stops : Column → Bool) (lists : Token → List (List Use)) (each : (t : Token) →
-    length (lists t) ≡ length (make t).lines) where
+module _ (make : Token → Column) (f : Flow) (stops : Column → Bool) (lists : Token → List (List Use))
+    (each : (t : Token) → length (lists t) ≡ length (make t).lines) where
   abbrev HaveLists : Token → List Column → Type 0
   HaveLists t cs = length (columns_owned lists t cs) ≡ length (lines_of cs)
 

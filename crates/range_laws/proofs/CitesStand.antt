@@ -61,8 +61,8 @@ module _ (book : List Use) where
         (cut h (steps_from inner d f t)).stop s
 
   -- columns one after another, up to the first that a test stops
-  module _ (make : Token → Column) (f : Flow) (stops : Column → Bool) (lists : Token → List (List Use)) (each : (t : Token) →
-      Stand book (make t).uses → EachStand book (lists t)) where
+  module _ (make : Token → Column) (f : Flow) (stops : Column → Bool) (lists : Token → List (List Use))
+      (each : (t : Token) → Stand book (make t).uses → EachStand book (lists t)) where
     pub chain-stand : (n : ℕ) (t : Token) → Stand book (uses_of (up_to stops (columns_by make f n t))) →
         EachStand book (columns_owned lists t (up_to stops (columns_by make f n t)))
     chain-stand zero t s = subst (λ cs. EachStand book (columns_owned lists t (up_to stops cs))) (sym (by-zero make f t)) tt

@@ -15,12 +15,9 @@ Follow d book (u ∷ us) = Stand book (size_uses d u) × (stands_in book u ≡ f
 
 follow-append : (d : FlowsData) (book xs ys : List Use) → Follow d book xs → Follow d (book ++ xs) ys → Follow d book (xs ++ ys)
 follow-append d book [] ys f g = subst (λ bs. Follow d bs ys) (append-nil book) g
-follow-append d book (x ∷ xs) ys f g = (
-  f.0,
-  f.1,
-  follow-append d (book ++
-      x ∷ []) xs ys f.2 (subst (λ bs. Follow d bs ys) (sym (append_assoc book (x ∷ []) xs)) g),
-)
+follow-append d book (x ∷ xs) ys f g =
+    let h = subst (λ bs. Follow d bs ys) (sym (append_assoc book (x ∷ []) xs)) g in
+    (f.0, f.1, follow-append d (book ++ x ∷ []) xs ys f.2 h)
 
 -- what is entered after a book, and what is true of it
 pub record Entered (d : FlowsData) (b n : ℕ) (book us after : List Use) : Type 0 where

@@ -72,7 +72,7 @@ sizes-to (u ∷ us) (x ∷ first) more e split =
       entry_is = rest.entry_is;
     }
 
--- ---- the entries behind a book
+-- ---- the entries after a book
 
 module _ (d : FlowsData) where
   book-extends : (book : List Use) (r : StackRow) → Extends book (row_book d book r)

@@ -112,7 +112,7 @@ module _ (inner : Inner) (law : FillsChange inner) (s : Step) (row : ℕ × Toke
           same
       go false eb false ec n e = let k = has-rest hi s.need [] needs e in cc
 
--- the stop that the first line tells, and the lines behind it
+-- the stop that the first line tells, and the lines after it
 abbrev head_stop : List ColumnLine → Option ℕ
 head_stop [] = None
 head_stop (l ∷ ls) = l.stop

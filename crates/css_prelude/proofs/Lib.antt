@@ -1,0 +1,2 @@
+pub mod TestLoop
+pub mod ListLoop

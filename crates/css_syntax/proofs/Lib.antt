@@ -1,0 +1,3 @@
+pub mod RuleLoop
+pub mod PieceLoop
+pub mod DigitsRead

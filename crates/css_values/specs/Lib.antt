@@ -1,0 +1,9 @@
+pub mod Options
+pub mod Words
+pub mod Keywords
+pub mod Names
+pub mod Values
+pub mod Table
+pub mod Shorthands
+pub mod Families
+pub mod Declarations
