@@ -21,5 +21,3 @@ mod places;
 mod printed;
 #[cfg(test)]
 mod reading;
-#[cfg(test)]
-mod regions;
