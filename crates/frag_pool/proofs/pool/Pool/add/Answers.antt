@@ -1,0 +1,11 @@
+use Rattle.std.proofs.Common.{All}
+use Rattle.frag_pool.specs.Nodes.{IsLive, ids_of}
+use Rattle.frag_pool.proofs.Closed.{closed-trial_more}
+use Rattle.frag_pool.proofs.pool.Pool.add.Goals as goal
+
+pub invariant_of-self-2 : goal.invariant_of-self-2
+invariant_of-self-2 c =
+    let live : All (IsLive (record { kept = c.self.inside.kept.items; trial = c.self.inside.trial.items })) (ids_of c.args.node) =
+    rw
+    c.self.view_is c.requires in
+    rw c.in_default.ensures.items (closed-trial_more _ c.args.node c.self.invariant live)
