@@ -1,0 +1,7 @@
+mod Best
+mod Chosen
+mod Items
+mod Openings
+mod Pieces
+mod SeamPlaces
+mod Started
