@@ -1,6 +1,5 @@
 -- Each line of a printed tree comes from a fragment: the lines are the nodes of the fragments, one line each and in order (CSS
--- Fragmentation 3,
--- section 2; the printed form is this project's own).
+-- Fragmentation 3, section 2; the printed form is this project's own).
 use Rattle.std.specs.Prelude.{◌≡◌, ℕ, ◌+◌, ◌<◌, List, [], ◌∷◌, ◌++◌, drop, length, map, is_some}
 use Rattle.mc_base.specs.PlainTree.{PlainTree, PlainTrees, atom as atom_tree, piece, row_piece, column as column_tree, no_trees, more_trees}
 use Rattle.flow_list.specs.Data.{AtomKind, Flow, FlowsData, Item, Plain, Line, Void, Image, Bounded, Atom, Row}
@@ -44,10 +43,8 @@ stack_kinds d s = kinds_of (lines_of_stack d (length d.stacks) s 0 0 0)
 -- The law, of sound flows.
 pub record LinesAreNodes (d : FlowsData) : Type 0 where
   -- The lines of a stack are one for itself, where its fragment has a column, and then one for each node in that, in order: each
-  -- column, each
-  -- piece of a box or of a row, and each atom, also in rows within rows. A container with a height gives the lines of its own
-  -- stack, as whole
-  -- as these.
+  -- column, each piece of a box or of a row, and each atom, also in rows within rows. A container with a height gives the lines
+  -- of its own stack, as whole as these.
   pub stack_lines : (s : ℕ) → s < length d.stacks →
       stack_kinds d s ≡ stack s ∷ drop 1 (nodes_of_tree d (stack_kinds d) (flow_of d (stack_of d s).flow) 0 (stack_fragment d s))
   -- the printed tree is that of stack 0
