@@ -25,7 +25,8 @@ abbrev moved : ℕ → ℕ
 moved zero = zero
 moved (suc k) = suc (suc k)
 
-moved-at : (p q : Place) (qs : List Place) (k : ℕ) (r : Place) → slice_get (p ∷ qs) k ≡ Some r → slice_get (p ∷ q ∷ qs) (moved k) ≡ Some r
+moved-at : (p q : Place) (qs : List Place) (k : ℕ) (r : Place) → slice_get (p ∷ qs) k ≡ Some r →
+    slice_get (p ∷ q ∷ qs) (moved k) ≡ Some r
 moved-at p q qs zero r e = e
 moved-at p q qs (suc k) r e = e
 
@@ -69,8 +70,20 @@ best-choice p (q ∷ qs) = go (nat_le q.level p.level) refl (best-choice (cond (
     go : (b : Bool) → nat_le q.level p.level ≡ b → (k : ℕ) × IsChoice (cond b q p ∷ qs) k (best (cond b q p) qs) →
         (k : ℕ) × IsChoice (p ∷ q ∷ qs) k (best (cond b q p) qs)
     go true e (k, c) =
-        let le : q.level ≤ p.level = grind (arith, nat_tests) in
-        (suc k, record { at = c.at; least = later-least p q qs (best q qs) k le c; latest = later-latest p q qs (best q qs) k le c })
+        let le : q.level ≤ p.level = grind (arith, nat_tests) in (
+          suc k,
+          record {
+            at = c.at;
+            least = later-least p q qs (best q qs) k le c;
+            latest = later-latest p q qs (best q qs) k le c;
+          },
+        )
     go false e (k, c) =
-        let lt : p.level < q.level = grind (arith, nat_tests) in
-        (moved k, record { at = first-at p q qs (best p qs) lt k c; least = first-least p q qs (best p qs) lt k c; latest = first-latest p q qs (best p qs) lt k c })
+        let lt : p.level < q.level = grind (arith, nat_tests) in (
+          moved k,
+          record {
+            at = first-at p q qs (best p qs) lt k c;
+            least = first-least p q qs (best p qs) lt k c;
+            latest = first-latest p q qs (best p qs) lt k c;
+          },
+        )

@@ -29,12 +29,22 @@ module _ (inner : Inner) (avoids : Bool) (h : ℕ) (ss : List Step) (j : ℕ) (s
   to-candidate : (k : ℕ) (p : Place) → slice_get places k ≡ Some p → Candidate (suc k) p
   to-candidate k p e = go (get-which (seams_between (up_to ss j s)) within_stop k p e)
     where
-      go : (slice_get (seams_between (up_to ss j s)) k ≡ Some p) ⊎ ((n : ℕ) × (k ≡ length (seams_between (up_to ss j s)) + n) × (slice_get within_stop n ≡ Some p)) → Candidate (suc k) p
+      go : (slice_get (seams_between (up_to ss j s)) k ≡ Some p)
+          ⊎ ((n : ℕ) × (k ≡ length (seams_between (up_to ss j s)) + n) × (slice_get within_stop n ≡ Some p)) → Candidate (suc k) p
       go (inl at) =
           let b = between-to (up_to ss j s) k p at in
           let first = prefix-to ss j s i.among k b.before b.before_is in
           let second = prefix-to ss j s i.among (suc k) b.behind b.behind_is in
-          inl (record { number = k; follows = refl; to_stop = second.0; before = b.before; behind = b.behind; before_is = first.1; behind_is = second.1; is = b.is })
+          inl (record {
+            number = k;
+            follows = refl;
+            to_stop = second.0;
+            before = b.before;
+            behind = b.behind;
+            before_is = first.1;
+            behind_is = second.1;
+            is = b.is;
+          })
       go (inr (n, is, at)) =
           let r = inside-to inner avoids h s s.row refl n p at in
           let zero_n = r.0 in
@@ -51,8 +61,12 @@ module _ (inner : Inner) (avoids : Bool) (h : ℕ) (ss : List Step) (j : ℕ) (s
       let at = between-from (up_to ss j s) c.number c.before c.behind first second ∙ ap Some (sym c.is) in
       (c.number, follows, get-left (seams_between (up_to ss j s)) within_stop c.number p at)
   from-candidate k p (inr c) =
-      let count = seam-count in
-      (j, c.0, get-right (seams_between (up_to ss j s)) within_stop j 0 p (omega arith) (inside-from inner avoids h s s.row refl p c.1))
+      let count = seam-count in (
+        j,
+        c.0,
+        get-right (seams_between (up_to ss j s)) within_stop j 0 p (omega arith)
+            (inside-from inner avoids h s s.row refl p c.1),
+      )
 
   abbrev alone : Place
   alone = alone_place avoids s h (fill_in_room inner s.row (room s h))
@@ -73,9 +87,11 @@ module _ (inner : Inner) (avoids : Bool) (h : ℕ) (ss : List Step) (j : ℕ) (s
   alone_by row = alone_place avoids s h (fill_in_room inner row (room s h))
 
   abbrev filled_place : ℕ × Token → Place
-  filled_place r = let p = inside_place avoids s (room s h) (inner.fill r.0 r.1 (room s h)) in record { level = p.level; end = p.end; extent = p.extent; overflow = true }
+  filled_place r = let p = inside_place avoids s (room s h) (inner.fill r.0 r.1 (room s h)) in
+      record { level = p.level; end = p.end; extent = p.extent; overflow = true }
 
-  alone-is : (row : Option (ℕ × Token)) → s.row ≡ row → ((k : ℕ) (q : Place) → Candidate k q → ⊥) → j ≡ 0 → IsAlone inner avoids h Candidate j s (alone_by row)
+  alone-is : (row : Option (ℕ × Token)) → s.row ≡ row → ((k : ℕ) (q : Place) → Candidate k q → ⊥) → j ≡ 0 →
+      IsAlone inner avoids h Candidate j s (alone_by row)
   alone-is None is none first = record {
     none = none;
     first = first;
@@ -86,7 +102,8 @@ module _ (inner : Inner) (avoids : Bool) (h : ℕ) (ss : List Step) (j : ℕ) (s
   }
   alone-is (Some r) is none first = go (nat_lt (room s h) s.height) refl
     where
-      go : (b : Bool) → nat_lt (room s h) s.height ≡ b → IsAlone inner avoids h Candidate j s (cond b (filled_place r) (whole_place s))
+      go : (b : Bool) → nat_lt (room s h) s.height ≡ b →
+          IsAlone inner avoids h Candidate j s (cond b (filled_place r) (whole_place s))
       go true t = record {
         none = none;
         first = first;
@@ -112,7 +129,8 @@ module _ (inner : Inner) (avoids : Bool) (h : ℕ) (ss : List Step) (j : ℕ) (s
           let n : length places ≡ 0 = ap length e in
           let sum = length-append (seams_between (up_to ss j s)) within_stop in
           let count = seam-count in
-          inr (alone-is s.row refl (λ k q c. let r = from-candidate k q c in let at = subst (λ ps. slice_get ps r.0 ≡ Some q) e r.2 in absurd cc) (omega arith))
+          inr (alone-is s.row refl (λ k q c. let r = from-candidate k q c in
+          let at = subst (λ ps. slice_get ps r.0 ≡ Some q) e r.2 in absurd cc) (omega arith))
       go (p ∷ ps) e =
           let r = best-choice p ps in
           inl (suc r.0, best-of r.0 (best p ps) (subst (λ qs. IsChoice qs r.0 (best p ps)) (sym e) r.1))
@@ -124,17 +142,20 @@ cut-whole h [] fit = refl
 cut-whole h (x ∷ ss) fit = go (nat_lt h x.need) refl (cut-whole h ss (λ k s e. fit (suc k) s e))
   where
     go : (b : Bool) → nat_lt h x.need ≡ b → cut h ss ≡ record { before = ss; stop = None } →
-        cond b (record { before = []; stop = Some x }) (longer x (cut h ss)) ≡ (let c : Cut = record { before = x ∷ ss; stop = None } in c)
+        cond b (record { before = []; stop = Some x }) (longer x (cut h ss))
+        ≡ (let c : Cut = record { before = x ∷ ss; stop = None } in c)
     go true e later = absurd (let le = fit 0 x refl in grind (arith, nat_tests))
     go false e later = ap (longer x) later
 
 last-is : (p : Place) (ss : List Step) (n : ℕ) (last : Step) → suc n ≡ length ss → slice_get ss n ≡ Some last →
     last_place p ss ≡ record { level = 0; end = (last.item + 1) ∷ []; extent = last.need; overflow = false }
 last-is p [] n last e at = absurd (omega arith)
-last-is p (x ∷ []) zero last e at = let same : x ≡ last = cc in ap (λ (s : Step). let q : Place = record { level = 0; end = (s.item + 1) ∷ []; extent = s.need; overflow = false } in q) same
+last-is p (x ∷ []) zero last e at = let same : x ≡ last = cc in
+    ap (λ (s : Step). let q : Place = record { level = 0; end = (s.item + 1) ∷ []; extent = s.need; overflow = false } in q) same
 last-is p (x ∷ []) (suc n) last e at = absurd (omega arith)
 last-is p (x ∷ (y ∷ ss)) zero last e at = absurd (omega arith)
-last-is p (x ∷ (y ∷ ss)) (suc n) last e at = last-is (record { level = 0; end = (x.item + 1) ∷ []; extent = x.need; overflow = false }) (y ∷ ss) n last (omega arith) at
+last-is p (x ∷ (y ∷ ss)) (suc n) last e at =
+    last-is (record { level = 0; end = (x.item + 1) ∷ []; extent = x.need; overflow = false }) (y ∷ ss) n last (omega arith) at
 
 -- ---- a column
 
@@ -149,8 +170,10 @@ find-stop h (x ∷ ss) = go (nat_lt h x.need) refl (find-stop h ss)
     first-fits le all zero s e = let same : x ≡ s = cc in let n : x.need ≡ s.need = ap (λ (y : Step). y.need) same in omega arith
     first-fits le all (suc k) s e = all k s e
 
-    before-stop : (j : ℕ) (s : Step) → x.need ≤ h → IsStop h ss j s → (k : ℕ) (z : Step) → k < suc j → slice_get (x ∷ ss) k ≡ Some z → z.need ≤ h
-    before-stop j s le i zero z lt e = let same : x ≡ z = cc in let n : x.need ≡ z.need = ap (λ (y : Step). y.need) same in omega arith
+    before-stop : (j : ℕ) (s : Step) → x.need ≤ h → IsStop h ss j s → (k : ℕ) (z : Step) → k < suc j →
+        slice_get (x ∷ ss) k ≡ Some z → z.need ≤ h
+    before-stop j s le i zero z lt e = let same : x ≡ z = cc in let n : x.need ≡ z.need = ap (λ (y : Step). y.need) same in
+        omega arith
     before-stop j s le i (suc k) z lt e = i.first k z (omega arith) e
 
     later : x.need ≤ h → AllFit h ss ⊎ SomeStop h ss → AllFit h (x ∷ ss) ⊎ SomeStop h (x ∷ ss)
@@ -158,7 +181,15 @@ find-stop h (x ∷ ss) = go (nat_lt h x.need) refl (find-stop h ss)
     later le (inr (j, s, i)) = inr (suc j, s, record { among = i.among; above = i.above; first = before-stop j s le i })
 
     go : (b : Bool) → nat_lt h x.need ≡ b → AllFit h ss ⊎ SomeStop h ss → AllFit h (x ∷ ss) ⊎ SomeStop h (x ∷ ss)
-    go true e rest = inr (0, x, record { among = refl; above = grind (arith, nat_tests); first = λ k s lt e. absurd (omega arith) })
+    go true e rest = inr (
+      0,
+      x,
+      record {
+        among = refl;
+        above = grind (arith, nat_tests);
+        first = λ k s lt e. absurd (omega arith);
+      },
+    )
     go false e rest = later (grind (arith, nat_tests)) rest
 
 module _ (inner : Inner) (d : FlowsData) (f : Flow) (t : Token) (h : ℕ) where
@@ -191,5 +222,6 @@ module _ (inner : Inner) (d : FlowsData) (f : Flow) (t : Token) (h : ℕ) where
         let is = last-is no_place ss n last count at in
         subst (λ (c : Cut). Whole last (made c)) (sym (cut-whole h ss fit)) (is, ap last_line is);
     named = λ j s i. subst (λ (c : Cut). Named s (made c)) (sym (cut-is h j s ss i)) (_, _, refl, refl);
-    best = λ j s i. subst (λ (c : Cut). Ends j s (made c)) (sym (cut-is h j s ss i)) (chosen inner (avoids_at d f s.item) h ss j s i);
+    best = λ j s i. subst (λ (c : Cut). Ends j s (made c)) (sym (cut-is h j s ss i))
+        (chosen inner (avoids_at d f s.item) h ss j s i);
   }

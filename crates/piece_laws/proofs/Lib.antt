@@ -4,4 +4,7 @@ mod Items
 mod Openings
 mod Pieces
 mod SeamPlaces
+mod Shapes
+mod StackLines
 mod Started
+mod TreeLines

@@ -70,9 +70,11 @@ split-gap [] = refl
 split-gap (x ∷ xs) = go (ends_gap x) (split-gap xs)
   where
     go : (b : Bool) → flat_map of_laid (gap_of xs) ++ flat_map of_laid (behind_gap xs) ≡ flat_map of_laid xs →
-        flat_map of_laid (cond b [] (x ∷ gap_of xs)) ++ flat_map of_laid (cond b (x ∷ xs) (behind_gap xs)) ≡ flat_map of_laid (x ∷ xs)
+        flat_map of_laid (cond b [] (x ∷ gap_of xs)) ++ flat_map of_laid (cond b (x ∷ xs) (behind_gap xs))
+        ≡ flat_map of_laid (x ∷ xs)
     go true e = refl
-    go false e = append_assoc (of_laid x) (flat_map of_laid (gap_of xs)) (flat_map of_laid (behind_gap xs)) ∙ ap (λ us. of_laid x ++ us) e
+    go false e = append_assoc (of_laid x) (flat_map of_laid (gap_of xs)) (flat_map of_laid (behind_gap xs))
+        ∙ ap (λ us. of_laid x ++ us) e
 
 behind-length : (xs : List Laid) → length (behind_gap xs) ≤ length xs
 behind-length [] = omega arith
@@ -83,7 +85,8 @@ behind-length (x ∷ xs) = go (ends_gap x) (behind-length xs)
     go false le = omega arith
 
 abbrev later_places : (n end : ℕ) → List Laid → List Placed
-later_places n end later = elim later as (λ _. List Placed) [ [] ↦ [] | x ∷ more ↦ placed_item end x ++ places_from n (end + laid_height x) more ]
+later_places n end later = elim later as
+    (λ _. List Placed) [ [] ↦ [] | x ∷ more ↦ placed_item end x ++ places_from n (end + laid_height x) more ]
 
 places-open : (n y : ℕ) (xs : List Laid) → length xs < n → flat_map of_placed (places_from n y xs) ≡ flat_map of_laid xs
 unfolding places_from
@@ -93,10 +96,12 @@ places-open (suc n) y xs lt =
     let end = y + gap_height (gap_of xs) (behind_gap xs) in
     flat_map-append of_placed (gap_places y end [] (gap_of xs)) _
     ∙ ap (λ us. us ++ flat_map of_placed (later_places n end (behind_gap xs))) (in-gaps y end [] (gap_of xs))
-    ∙ ap (λ us. flat_map of_laid (gap_of xs) ++ us) (rest (behind_gap xs) end (omega arith) (first-ends xs) (λ z ys lt. places-open n z ys lt))
+    ∙ ap (λ us. flat_map of_laid (gap_of xs) ++ us)
+    (rest (behind_gap xs) end (omega arith) (first-ends xs) (λ z ys lt. places-open n z ys lt))
     ∙ split-gap xs
   where
-    rest : (later : List Laid) (end : ℕ) → length later ≤ n → FirstEnds later → ((z : ℕ) (ys : List Laid) → length ys < n → flat_map of_placed (places_from n z ys) ≡ flat_map of_laid ys) →
+    rest : (later : List Laid) (end : ℕ) → length later ≤ n → FirstEnds later →
+        ((z : ℕ) (ys : List Laid) → length ys < n → flat_map of_placed (places_from n z ys) ≡ flat_map of_laid ys) →
         flat_map of_placed (later_places n end later) ≡ flat_map of_laid later
     rest [] end le ends again = refl
     rest (x ∷ more) end le ends again =
@@ -104,19 +109,22 @@ places-open (suc n) y xs lt =
         ∙ ap (λ us. us ++ flat_map of_placed (places_from n (end + laid_height x) more)) (in-item end x ends)
         ∙ ap (λ us. of_laid x ++ us) (again (end + laid_height x) more (omega arith))
 
-continued-open : (d : FlowsData) (y : ℕ) (boxes : List ℕ) → flat_map of_placed (continued_from d y boxes) ≡ map continued_piece boxes
+continued-open : (d : FlowsData) (y : ℕ) (boxes : List ℕ) →
+    flat_map of_placed (continued_from d y boxes) ≡ map continued_piece boxes
 continued-open d y [] = refl
 continued-open d y (b ∷ boxes) = ap (λ us. continued_piece b ∷ us) (continued-open d (y + (box_of d b).top) boxes)
 
 -- ---- from what is placed to trees
 
-box-splits : (b : ℕ) (ps : List Placed) → flat_map of_placed (inside_box b ps) ++ flat_map of_placed (behind_box b ps) ≡ flat_map of_placed ps
+box-splits : (b : ℕ) (ps : List Placed) →
+    flat_map of_placed (inside_box b ps) ++ flat_map of_placed (behind_box b ps) ≡ flat_map of_placed ps
 box-splits b [] = refl
 box-splits b (opens_at c y starts ∷ ps) = ap (λ us. record { box = c; starts = starts } ∷ us) (box-splits b ps)
 box-splits b (closes_at c y ∷ ps) = go (c == b) (box-splits b ps)
   where
     go : (e : Bool) → flat_map of_placed (inside_box b ps) ++ flat_map of_placed (behind_box b ps) ≡ flat_map of_placed ps →
-        flat_map of_placed (cond e [] (closes_at c y ∷ inside_box b ps)) ++ flat_map of_placed (cond e ps (behind_box b ps)) ≡ flat_map of_placed ps
+        flat_map of_placed (cond e [] (closes_at c y ∷ inside_box b ps)) ++ flat_map of_placed (cond e ps (behind_box b ps))
+        ≡ flat_map of_placed ps
     go true e = refl
     go false e = e
 box-splits b (atom_at k y ∷ ps) = box-splits b ps
@@ -138,7 +146,8 @@ behind-box-length b (p ∷ ps) = go (closes_here b p) (behind-box-length b ps)
     go true le = omega arith
     go false le = omega arith
 
-trees-open : (columns : RowLaid → List PlainTree) (n : ℕ) (ps : List Placed) → length ps ≤ n → pieces_in_trees (plain_trees (trees_of columns n ps)) ≡ flat_map of_placed ps
+trees-open : (columns : RowLaid → List PlainTree) (n : ℕ) (ps : List Placed) → length ps ≤ n →
+    pieces_in_trees (plain_trees (trees_of columns n ps)) ≡ flat_map of_placed ps
 unfolding trees_of pieces_in_tree pieces_in_trees
 trees-open columns zero [] le = refl
 trees-open columns zero (p ∷ ps) le = absurd (omega arith)
@@ -147,7 +156,8 @@ trees-open columns (suc n) (opens_at b y starts ∷ ps) le =
     let inside = inside-length b ps in
     let behind = behind-box-length b ps in
     ap (λ us. record { box = b; starts = starts } ∷ us)
-    (ap (λ us. us ++ pieces_in_trees (plain_trees (trees_of columns n (behind_box b ps)))) (trees-open columns n (inside_box b ps) (omega arith))
+    (ap (λ us. us ++ pieces_in_trees (plain_trees (trees_of columns n (behind_box b ps))))
+    (trees-open columns n (inside_box b ps) (omega arith))
     ∙ ap (λ us. flat_map of_placed (inside_box b ps) ++ us) (trees-open columns n (behind_box b ps) (omega arith))
     ∙ box-splits b ps)
 trees-open columns (suc n) (closes_at b y ∷ ps) le = trees-open columns n ps (omega arith)
@@ -156,7 +166,8 @@ trees-open columns (suc n) (row_at r y ∷ ps) le = trees-open columns n ps (ome
 
 -- the pieces in a column: of the boxes that continue in it, and of those that start in what is laid
 pub column-opens : (columns : RowLaid → List PlainTree) (d : FlowsData) (boxes : List ℕ) (xs : List Laid) →
-    pieces_in_trees (plain_trees (all_trees columns (continued_from d 0 boxes ++ places_from (length xs + 1) (tops d boxes) xs))) ≡ map continued_piece boxes ++ flat_map of_laid xs
+    pieces_in_trees (plain_trees (all_trees columns (continued_from d 0 boxes ++ places_from (length xs + 1) (tops d boxes) xs)))
+    ≡ map continued_piece boxes ++ flat_map of_laid xs
 column-opens columns d boxes xs =
     let ps = continued_from d 0 boxes ++ places_from (length xs + 1) (tops d boxes) xs in
     trees-open columns (length ps) ps (omega arith)

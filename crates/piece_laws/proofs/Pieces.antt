@@ -32,11 +32,17 @@ boxes-of [] [] = refl
 boxes-of [] (y ∷ ys) = ap (λ us. y ∷ us) (boxes-of [] ys)
 boxes-of (x ∷ xs) ys = ap (λ us. x ∷ us) (boxes-of xs ys)
 
-split-starts : (m n : ℕ) (seams : List Seam) → count_of m (starts_in (take n seams)) + count_of m (starts_in (drop n seams)) ≡ count_of m (starts_in seams)
+split-starts : (m n : ℕ) (seams : List Seam) →
+    count_of m (starts_in (take n seams)) + count_of m (starts_in (drop n seams)) ≡ count_of m (starts_in seams)
 split-starts m zero seams = omega arith
 split-starts m (suc n) [] = refl
 split-starts m (suc n) (s ∷ ss) =
-    omega (arith, split-starts m n ss, count-append m (flat_map started s.head) (starts_in (take n ss)), count-append m (flat_map started s.head) (starts_in ss))
+    omega (
+      arith,
+      split-starts m n ss,
+      count-append m (flat_map started s.head) (starts_in (take n ss)),
+      count-append m (flat_map started s.head) (starts_in ss),
+    )
 
 module _ (f : Flow) (m : ℕ) where
   abbrev one : ℕ → ℕ
@@ -46,7 +52,11 @@ module _ (f : Flow) (m : ℕ) where
   open-begun : (k : ℕ) → count_of m (open_at f k) ≤ count_of m f.opened + count_of m (starts_in (take (k + 1) f.seams))
   open-begun k =
       let seams : List Seam = take (k + 1) f.seams in
-      omega (arith, filter-le one (λ b. not (is_among (ends_in seams) b)) (f.opened ++ starts_in seams), count-append m f.opened (starts_in seams))
+      omega (
+        arith,
+        filter-le one (λ b. not (is_among (ends_in seams) b)) (f.opened ++ starts_in seams),
+        count-append m f.opened (starts_in seams),
+      )
 
   across-begun : (k : ℕ) → count_of m (open_across f k) ≤ count_of m f.opened + count_of m (starts_in (take k f.seams))
   across-begun zero = omega arith
@@ -57,7 +67,8 @@ module _ (f : Flow) (m : ℕ) where
       let same = ap (λ n. count_of m (starts_in (take n f.seams))) e in
       omega arith
 
-  continuing-begun : (t : Token) → count_of m (continuing f t) ≤ count_of m f.opened + count_of m (starts_in (take (first_head t) f.seams))
+  continuing-begun : (t : Token) →
+      count_of m (continuing f t) ≤ count_of m f.opened + count_of m (starts_in (take (first_head t) f.seams))
   continuing-begun [] = omega arith
   continuing-begun (k ∷ []) = across-begun k
   continuing-begun (k ∷ (j ∷ rest)) = open-begun k
@@ -106,18 +117,24 @@ module _ (d : FlowsData) (sound : IsSound d) (f : ℕ) (lt : f < length d.flows)
     inside : item_number t < length here.items
     inside = in-items d here t place
 
-    ends-right : (h : Option ℕ) (stop : Option Step) (end : Token) → EndsFor rows here t h stop end → Right d here flow rows t place h stop end
+    ends-right : (h : Option ℕ) (stop : Option Step) (end : Token) → EndsFor rows here t h stop end →
+        Right d here flow rows t place h stop end
     ends-right None stop end e = seam-right d here flow rows t place inside None stop end e
     ends-right (Some h) None end e = seam-right d here flow rows t place inside (Some h) None end e
     ends-right (Some h) (Some s) end (inl e) = seam-right d here flow rows t place inside (Some h) (Some s) end e
     ends-right (Some h) (Some s) end (inr e) =
-        row-right d here flow rows t place inside h s end e (leaves t place e.row e.from (room s h) s.item e.later e.item e.taken_from)
+        row-right d here flow rows t place inside h s end e
+        (leaves t place e.row e.from (room s h) s.item e.later e.item e.taken_from)
 
-    column-boxes : (number : ℕ) (h : Option ℕ) → pieces_in_tree (fragment_of trees rows d number here h t) ≡ map continued_piece (continuing here t) ++ map started_piece (starts_between here t (column_made rows d here h t).end)
+    column-boxes : (number : ℕ) (h : Option ℕ) →
+        pieces_in_tree (fragment_of trees rows d number here h t) ≡ map continued_piece (continuing here t)
+        ++ map started_piece (starts_between here t (column_made rows d here h t).end)
     unfolding pieces_in_tree pieces_in_trees
     column-boxes number h =
-        column-opens trees d (continuing here t) (laid_start d here t ++ laid_to rows d here t h (stop_of rows d here t h) (column_made rows d here h t).end)
-        ∙ ap (λ us. map continued_piece (continuing here t) ++ us) (ends-right h (stop_of rows d here t h) (column_made rows d here h t).end (column-ends rows here t d h inside))
+        column-opens trees d (continuing here t)
+        (laid_start d here t ++ laid_to rows d here t h (stop_of rows d here t h) (column_made rows d here h t).end)
+        ∙ ap (λ us. map continued_piece (continuing here t) ++ us)
+        (ends-right h (stop_of rows d here t h) (column_made rows d here h t).end (column-ends rows here t d h inside))
 
 -- ---- a row's flow
 
@@ -129,18 +146,22 @@ module _ (d : FlowsData) (sound : IsSound d) (r : ℕ) (lt : r < length d.rows) 
   known : (row_of d r).flow < length d.flows
   known = (sound.rows r no_row lt).flow
 
-  pieces-are : (t : Token) (h : Option ℕ) → IsPlaceBefore d (flow_in d r) t → pieces_in_tree (column_fragment d r h t) ≡ map continued_piece (continuing (flow_in d r) t)
+  pieces-are : (t : Token) (h : Option ℕ) → IsPlaceBefore d (flow_in d r) t →
+      pieces_in_tree (column_fragment d r h t) ≡ map continued_piece (continuing (flow_in d r) t)
       ++ map started_piece (starts_between (flow_in d r) t (column_within d (flow_in d r) h t).end)
   unfolding column_fragment all_rows
   pieces-are t h place =
       column-boxes d sound (row_of d r).flow known t place (row_of d r).flow h
-      ∙ ap (λ (c : Column). map continued_piece (continuing (flow_in d r) t) ++ map started_piece (starts_between (flow_in d r) t c.end)) (made-within d (flow_in d r) h t)
+      ∙ ap (λ (c : Column). map continued_piece (continuing (flow_in d r) t)
+      ++ map started_piece (starts_between (flow_in d r) t c.end)) (made-within d (flow_in d r) h t)
 
-  once : (t : Token) (h : Option ℕ) → IsPlaceBefore d (flow_in d r) t → (b : ℕ) → count_of b (map (λ (p : BoxPiece). p.box) (pieces_in_tree (column_fragment d r h t))) ≤ 1
+  once : (t : Token) (h : Option ℕ) → IsPlaceBefore d (flow_in d r) t → (b : ℕ) →
+      count_of b (map (λ (p : BoxPiece). p.box) (pieces_in_tree (column_fragment d r h t))) ≤ 1
   once t h place b =
       let f = flow_in d r in
       let u = (column_within d f h t).end in
-      let is = ap (λ ps. count_of b (map (λ (p : BoxPiece). p.box) ps)) (pieces-are t h place) ∙ ap (count_of b) (boxes-of (continuing f t) (starts_between f t u)) in
+      let is = ap (λ ps. count_of b (map (λ (p : BoxPiece). p.box) ps)) (pieces-are t h place)
+      ∙ ap (count_of b) (boxes-of (continuing f t) (starts_between f t u)) in
       let few = pieces-once f b d (sound.flows (row_of d r).flow no_flow known) t u in
       omega arith
 

@@ -107,28 +107,37 @@ module _ (d : FlowsData) (f : Flow) (sound : IsSoundFlow d f) where
   in-seams k le = let n = sound.seam_count in omega arith
 
   module _ (inner : Inner) where
-    items-start : (s : Strip) (k : ℕ) (q : Token) (n : ℕ) → k + suc n ≤ length f.items → starts (laid_items inner f s k q (suc n)) ≡ marks (heads (k + 1) n)
+    items-start : (s : Strip) (k : ℕ) (q : Token) (n : ℕ) → k + suc n ≤ length f.items →
+        starts (laid_items inner f s k q (suc n)) ≡ marks (heads (k + 1) n)
     unfolding laid_items
     items-start s k q zero le =
         let tail = laid_edges (put s (height_of inner (item_of f k) q)) (seam_of f (k + 1)).tail in
-        skipped (laid_item inner (item_of f k) k q ∷ []) (tail ++ []) (append-nil (of_laid (laid_item inner (item_of f k) k q)) ∙ item-starts inner k q (item_of f k))
-        ∙ last-skipped tail [] refl ∙ tail-starts (put s (height_of inner (item_of f k) q)) (k + 1) (in-seams (k + 1) (omega arith))
+        skipped (laid_item inner (item_of f k) k q ∷ []) (tail ++ []) (append-nil (of_laid (laid_item inner (item_of f k) k q))
+        ∙ item-starts inner k q (item_of f k))
+        ∙ last-skipped tail [] refl ∙ tail-starts (put s (height_of inner (item_of f k) q)) (k + 1)
+        (in-seams (k + 1) (omega arith))
     items-start s k q (suc n) le =
         let tail = laid_edges (put s (height_of inner (item_of f k) q)) (seam_of f (k + 1)).tail in
         let head = laid_edges (strip_behind inner f s k q) (seam_of f (k + 1)).head in
-        let later = laid_items inner f (lay_all (strip_behind inner f s k q) (seam_of f (k + 1)).head) (k + 1) row_start (suc n) in
-        skipped (laid_item inner (item_of f k) k q ∷ []) (tail ++ (head ++ later)) (append-nil (of_laid (laid_item inner (item_of f k) k q)) ∙ item-starts inner k q (item_of f k))
-        ∙ skipped tail (head ++ later) (tail-starts (put s (height_of inner (item_of f k) q)) (k + 1) (in-seams (k + 1) (omega arith)))
-        ∙ starts-on head later (marks (head_at (k + 1))) (marks (heads (k + 1 + 1) n)) (edges-start (strip_behind inner f s k q) (seam_of f (k + 1)).head)
+        let later = laid_items inner f (lay_all (strip_behind inner f s k q) (seam_of f (k + 1)).head) (k + 1) row_start
+        (suc n) in
+        skipped (laid_item inner (item_of f k) k q ∷ []) (tail ++ (head ++ later))
+        (append-nil (of_laid (laid_item inner (item_of f k) k q)) ∙ item-starts inner k q (item_of f k))
+        ∙ skipped tail (head ++ later) (tail-starts (put s (height_of inner (item_of f k) q)) (k + 1)
+        (in-seams (k + 1) (omega arith)))
+        ∙ starts-on head later (marks (head_at (k + 1))) (marks (heads (k + 1 + 1) n))
+        (edges-start (strip_behind inner f s k q) (seam_of f (k + 1)).head)
         (items-start (lay_all (strip_behind inner f s k q) (seam_of f (k + 1)).head) (k + 1) row_start n (omega arith))
         ∙ sym (marks-append (head_at (k + 1)) (heads (k + 1 + 1) n))
         ∙ ap marks (sym (heads-cons (k + 1) n (in-seams (k + 1) (omega arith))))
 
-    before-start : (s : Strip) (k : ℕ) (q : Token) (n : ℕ) → k + n ≤ length f.items → starts (laid_before inner f s k q n) ≡ marks (heads (k + 1) n)
+    before-start : (s : Strip) (k : ℕ) (q : Token) (n : ℕ) → k + n ≤ length f.items →
+        starts (laid_before inner f s k q n) ≡ marks (heads (k + 1) n)
     before-start s k q zero le = refl
     before-start s k q (suc n) le =
         let e : k + suc n ≡ k + 1 + n = omega arith in
-        starts-on (laid_items inner f s k q (suc n)) (laid_edges (strip_after inner f s k q (suc n)) (seam_of f (k + suc n)).head) (marks (heads (k + 1) n)) (marks (head_at (k + suc n)))
+        starts-on (laid_items inner f s k q (suc n)) (laid_edges (strip_after inner f s k q (suc n)) (seam_of f (k + suc n)).head)
+        (marks (heads (k + 1) n)) (marks (head_at (k + suc n)))
         (items-start s k q n le) (edges-start (strip_after inner f s k q (suc n)) (seam_of f (k + suc n)).head)
         ∙ sym (marks-append (heads (k + 1) n) (head_at (k + suc n)))
         ∙ ap (λ m. marks (heads (k + 1) n ++ head_at m)) e
@@ -140,13 +149,19 @@ module _ (d : FlowsData) (f : Flow) (sound : IsSoundFlow d f) where
       abbrev i : ℕ
       i = item_number t
 
-      joined : (u : Token) → IsPlaceBefore d f u → item_number u < length f.items → (body : List Laid) (n total : ℕ) → total ≡ item_number u + 1 + n →
-          starts body ≡ marks (heads (item_number u + 1) n) → starts (laid_start d f u ++ body) ≡ marks (heads (first_head u) (total - first_head u))
+      joined : (u : Token) → IsPlaceBefore d f u → item_number u < length f.items → (body : List Laid) (n total : ℕ) →
+          total ≡ item_number u + 1 + n →
+          starts body ≡ marks (heads (item_number u + 1) n) →
+          starts (laid_start d f u ++ body) ≡ marks (heads (first_head u) (total - first_head u))
       joined [] at lt body n total is e = absurd at
       joined (k ∷ []) at lt body n total is e =
           let count : suc n ≡ total - k = omega arith in
-          starts-on (laid_edges (strip_at (tops d (open_across f k)) (not (k == 0 || is_forced (seam_of f k).level))) (seam_of f k).head) body (marks (head_at k)) (marks (heads (k + 1) n)) (edges-start (strip_at (tops d (open_across f k)) (not (k == 0 || is_forced (seam_of f k).level))) (seam_of f k).head) e
-          ∙ sym (marks-append (head_at k) (heads (k + 1) n)) ∙ ap marks (sym (heads-cons k n (in-seams k (omega arith)))) ∙ ap (λ m. marks (heads k m)) count
+          starts-on (laid_edges (strip_at (tops d (open_across f k)) (not (k == 0 || is_forced (seam_of f k).level)))
+          (seam_of f k).head) body (marks (head_at k)) (marks (heads (k + 1) n))
+          (edges-start (strip_at (tops d (open_across f k)) (not (k == 0 || is_forced (seam_of f k).level)))
+          (seam_of f k).head) e
+          ∙ sym (marks-append (head_at k) (heads (k + 1) n)) ∙ ap marks (sym (heads-cons k n (in-seams k (omega arith))))
+          ∙ ap (λ m. marks (heads k m)) count
       joined (k ∷ (j ∷ rest)) at lt body n total is e =
           let count : n ≡ total - (k + 1) = omega arith in
           e ∙ ap (λ m. marks (heads (k + 1) m)) count
@@ -154,7 +169,8 @@ module _ (d : FlowsData) (f : Flow) (sound : IsSoundFlow d f) where
       abbrev pub Right : Option ℕ → Option Step → Token → Type 0
       Right h stop end = starts (laid_start d f t ++ laid_to inner d f t h stop end) ≡ marks (starts_between f t end)
 
-      pub seam-right : i < length f.items → (h : Option ℕ) (stop : Option Step) (end : Token) → EndsAtSeam inner f t h stop end → Right h stop end
+      pub seam-right : i < length f.items → (h : Option ℕ) (stop : Option Step) (end : Token) → EndsAtSeam inner f t h stop end →
+          Right h stop end
       seam-right lt h stop end e = subst (Right h stop) (sym e.is) (go (e.seam - suc i) (let later = e.later in omega arith))
         where
           body : (n : ℕ) → e.seam - i ≡ suc n → starts (laid_to inner d f t h stop (e.seam ∷ [])) ≡ marks (heads (i + 1) n)
@@ -162,26 +178,32 @@ module _ (d : FlowsData) (f : Flow) (sound : IsSoundFlow d f) where
             where
               pick : (b : Bool) → b ≡ false →
                   starts (cond (b && not (e.seam == 0))
-                  (laid_before inner f (start_strip d f t) i (within t) (e.seam - 1 - i) ++ laid_filled h stop ++ laid_edges (strip_filled h stop) (seam_of f e.seam).tail)
+                  (laid_before inner f (start_strip d f t) i (within t) (e.seam - 1 - i) ++ laid_filled h stop
+                  ++ laid_edges (strip_filled h stop) (seam_of f e.seam).tail)
                   (laid_items inner f (start_strip d f t) i (within t) (e.seam - i))) ≡ marks (heads (i + 1) n)
               pick true un = cc
               pick false un =
                   let known = e.known in
                   let later = e.later in
-                  ap (λ m. starts (laid_items inner f (start_strip d f t) i (within t) m)) is ∙ items-start (start_strip d f t) i (within t) n (omega arith)
+                  ap (λ m. starts (laid_items inner f (start_strip d f t) i (within t) m)) is
+                  ∙ items-start (start_strip d f t) i (within t) n (omega arith)
 
           go : (n : ℕ) → e.seam ≡ i + 1 + n → Right h stop (e.seam ∷ [])
           go n is = joined t place lt (laid_to inner d f t h stop (e.seam ∷ [])) n e.seam is (body n (omega arith))
 
       pub row-right : i < length f.items → (h : ℕ) (s : Step) (end : Token) → (e : EndsInRow inner f t h s end) →
-          ((inner.fill e.row e.from (room s h)).at_end ≡ false → (j : ℕ) × (rest : Token) × ((inner.fill e.row e.from (room s h)).end ≡ j ∷ rest)) → Right (Some h) (Some s) end
-      row-right lt h s end e within_row = subst (Right (Some h) (Some s)) (sym e.is) (go (inner.fill e.row e.from (room s h)).at_end refl)
+          ((inner.fill e.row e.from (room s h)).at_end ≡ false →
+          (j : ℕ) × (rest : Token) × ((inner.fill e.row e.from (room s h)).end ≡ j ∷ rest)) → Right (Some h) (Some s) end
+      row-right lt h s end e within_row =
+          subst (Right (Some h) (Some s)) (sym e.is) (go (inner.fill e.row e.from (room s h)).at_end refl)
         where
-          here : starts (laid_before inner f (start_strip d f t) i (within t) (s.item - i) ++ laid_filled (Some h) (Some s)) ≡ marks (heads (i + 1) (s.item - i))
+          here : starts (laid_before inner f (start_strip d f t) i (within t) (s.item - i) ++ laid_filled (Some h) (Some s))
+              ≡ marks (heads (i + 1) (s.item - i))
           here =
               let later = e.later in
               let known = e.known in
-              last-skipped (laid_before inner f (start_strip d f t) i (within t) (s.item - i)) (laid_filled (Some h) (Some s)) (filled-starts (Some h) (Some s))
+              last-skipped (laid_before inner f (start_strip d f t) i (within t) (s.item - i)) (laid_filled (Some h) (Some s))
+              (filled-starts (Some h) (Some s))
               ∙ before-start (start_strip d f t) i (within t) (s.item - i) (omega arith)
 
           fills : fills_item (Some h) (Some s) s.item ≡ true
@@ -189,21 +211,29 @@ module _ (d : FlowsData) (f : Flow) (sound : IsSoundFlow d f) where
               let same : (s.item == s.item) ≡ true = grind (arith, nat_tests) in
               let some : is_some s.row ≡ true = ap is_some e.step_row in
               let low : nat_lt (room s h) s.height ≡ true = let l = e.low in grind (arith, nat_tests) in
-              ap (λ a. a && is_some s.row && nat_lt (room s h) s.height) same ∙ ap (λ b. b && nat_lt (room s h) s.height) some ∙ low
+              ap (λ a. a && is_some s.row && nat_lt (room s h) s.height) same ∙ ap (λ b. b && nat_lt (room s h) s.height) some
+              ∙ low
 
           other : List Laid
           other = laid_items inner f (start_strip d f t) i (within t) (s.item + 1 - i)
 
           behind : (m : ℕ) → m ≡ s.item → (b z : Bool) → b ≡ true → z ≡ false →
-              starts (cond (b && not z) (laid_before inner f (start_strip d f t) i (within t) (m - i) ++ laid_filled (Some h) (Some s) ++ laid_edges (strip_filled (Some h) (Some s)) (seam_of f (s.item + 1)).tail) other) ≡ marks (heads (i + 1) (s.item - i))
+              starts (cond (b && not z) (laid_before inner f (start_strip d f t) i (within t) (m - i)
+              ++ laid_filled (Some h) (Some s)
+              ++ laid_edges (strip_filled (Some h) (Some s)) (seam_of f (s.item + 1)).tail) other)
+              ≡ marks (heads (i + 1) (s.item - i))
           behind m is true true full past = cc
           behind m is false z full past = cc
           behind m is true false full past =
               let known = e.known in
-              last-skipped (laid_before inner f (start_strip d f t) i (within t) (m - i) ++ laid_filled (Some h) (Some s)) (laid_edges (strip_filled (Some h) (Some s)) (seam_of f (s.item + 1)).tail) (tail-starts (strip_filled (Some h) (Some s)) (s.item + 1) (in-seams (s.item + 1) (omega arith)))
-              ∙ ap (λ n. starts (laid_before inner f (start_strip d f t) i (within t) (n - i) ++ laid_filled (Some h) (Some s))) is ∙ here
+              last-skipped (laid_before inner f (start_strip d f t) i (within t) (m - i) ++ laid_filled (Some h) (Some s))
+              (laid_edges (strip_filled (Some h) (Some s)) (seam_of f (s.item + 1)).tail)
+              (tail-starts (strip_filled (Some h) (Some s)) (s.item + 1) (in-seams (s.item + 1) (omega arith)))
+              ∙ ap (λ n. starts (laid_before inner f (start_strip d f t) i (within t) (n - i)
+              ++ laid_filled (Some h) (Some s))) is ∙ here
 
-          ended : (u : Token) → items_before u ≡ s.item + 1 → starts (laid_to inner d f t (Some h) (Some s) u) ≡ marks (heads (i + 1) (s.item - i)) → Right (Some h) (Some s) u
+          ended : (u : Token) → items_before u ≡ s.item + 1 →
+              starts (laid_to inner d f t (Some h) (Some s) u) ≡ marks (heads (i + 1) (s.item - i)) → Right (Some h) (Some s) u
           ended u before_is e2 =
               let later = e.later in
               joined t place lt (laid_to inner d f t (Some h) (Some s) u) (s.item - i) (items_before u) (omega arith) e2
@@ -212,9 +242,11 @@ module _ (d : FlowsData) (f : Flow) (sound : IsSoundFlow d f) where
           in-row [] some = cc (some.2)
           in-row (j ∷ rest) some = ended (s.item ∷ (j ∷ rest)) refl here
 
-          go : (b : Bool) → (inner.fill e.row e.from (room s h)).at_end ≡ b → Right (Some h) (Some s) (cond b ((s.item + 1) ∷ []) (s.item ∷ (inner.fill e.row e.from (room s h)).end))
+          go : (b : Bool) → (inner.fill e.row e.from (room s h)).at_end ≡ b →
+              Right (Some h) (Some s) (cond b ((s.item + 1) ∷ []) (s.item ∷ (inner.fill e.row e.from (room s h)).end))
           go true is =
               let m : s.item + 1 - 1 ≡ s.item = omega arith in
               let z : (s.item + 1 == 0) ≡ false = grind (arith, nat_tests) in
-              ended ((s.item + 1) ∷ []) refl (behind (s.item + 1 - 1) m (fills_item (Some h) (Some s) (s.item + 1 - 1)) (s.item + 1 == 0) (ap (fills_item (Some h) (Some s)) m ∙ fills) z)
+              ended ((s.item + 1) ∷ []) refl (behind (s.item + 1 - 1) m (fills_item (Some h) (Some s) (s.item + 1 - 1))
+              (s.item + 1 == 0) (ap (fills_item (Some h) (Some s)) m ∙ fills) z)
           go false is = in-row (inner.fill e.row e.from (room s h)).end (within_row is)

@@ -1,5 +1,5 @@
--- The pieces of boxes in the tree of a column: each box that continues in the column or starts in it has one piece there (CSS Fragmentation 3,
--- section 2: a box that breaks has a fragment in each column that holds some of it).
+-- The pieces of boxes in the tree of a column: each box that continues in the column or starts in it has one piece there (CSS
+-- Fragmentation 3, section 2: a box that breaks has a fragment in each column that holds some of it).
 use Rattle.std.specs.Prelude.{◌≡◌, ℕ, ◌+◌, ◌-◌, ◌≤◌, Bool, true, false, List, [], ◌∷◌, ◌++◌, map, take, drop, Option, is_some}
 use Rattle.mc_base.specs.PlainTree.{PlainTree, PlainTrees, atom as atom_tree, piece, row_piece, column as column_tree, no_trees, more_trees}
 use Rattle.flow_list.specs.Data.{Flow, FlowsData}
@@ -27,7 +27,7 @@ unfoldable mutual
   pieces_in_trees no_trees = []
   pieces_in_trees (more_trees tree trees) = pieces_in_tree tree ++ pieces_in_trees trees
 
--- the first seam whose head stands in the column that begins at a place: within a row that is behind it
+-- the first seam whose head stands in the column that begins at a place: within a row that is the one after it
 abbrev pub first_head : Token → ℕ
 first_head [] = 0
 first_head (i ∷ []) = i
@@ -46,8 +46,8 @@ started_piece b = record { box = b; starts = true }
 
 -- The law, of row r of sound flows.
 pub record BoxesHavePieces (d : FlowsData) (r : ℕ) : Type 0 where
-  -- the pieces in the tree of a column are one for each box that continues there, the outermost first, and then one for each box that starts
-  -- between the column's place and its end, in order
+  -- the pieces in the tree of a column are one for each box that continues there, the outermost first, and then one for each box
+  -- that starts between the column's place and its end, in order
   pub column_pieces : (t : Token) (h : Option ℕ) → IsPlaceBefore d (flow_in d r) t →
       pieces_in_tree (column_fragment d r h t) ≡ map continued_piece (continuing (flow_in d r) t)
       ++ map started_piece (starts_between (flow_in d r) t (column_within d (flow_in d r) h t).end)

@@ -1,5 +1,5 @@
--- Where a column ends, told over all breaks where it may: its stop is the first item that needs more than the height, and no break is better
--- than the one chosen (CSS Fragmentation 3, sections 4.4 and 4.5).
+-- Where a column ends, told over all breaks where it may: its stop is the first item that needs more than the height, and no
+-- break is better than the one chosen (CSS Fragmentation 3, sections 4.4 and 4.5).
 use Rattle.std.specs.Prelude.{◌≡◌, ℕ, zero, suc, ◌+◌, ◌<◌, ◌≤◌, Bool, true, false, List, [], ◌∷◌, length, slice_get, Option, Some, None, ◌⊎◌}
 use Rattle.flow_list.specs.Data.{Flow, FlowsData}
 use Rattle.flow_data.specs.Flows.{seam_of}
@@ -8,7 +8,8 @@ use Rattle.flow_list.specs.Column.{avoids_at, column, column_over, ColumnLine, f
 
 -- ---- the items of a column, and its stop
 
--- The items of the column that begins at a place: one after another from that place on, up to the next forced break or the flow's end.
+-- The items of the column that begins at a place: one after another from that place on, up to the next forced break or the flow's
+-- end.
 pub record AreColumnItems (f : Flow) (t : Token) (items : List Step) : Type 0 where
   pub numbered : (k : ℕ) (s : Step) → slice_get items k ≡ Some s → s.item ≡ item_number t + k
   pub level : (k : ℕ) (s : Step) → slice_get items k ≡ Some s → s.level ≡ (seam_of f s.item).level
@@ -43,8 +44,8 @@ pub record IsSeam (items : List Step) (j k : ℕ) (p : Place) : Type 0 where
   pub behind_is : slice_get items k ≡ Some behind
   pub is : p ≡ seam_place before behind
 
--- this place is inside the stop: a row that begins within the height and needs more than the room that is left, and whose fill in that room
--- overflows nowhere
+-- this place is inside the stop: a row that begins within the height and needs more than the room that is left, and whose fill in
+-- that room overflows nowhere
 pub record IsInside (inner : Inner) (avoids : Bool) (h : ℕ) (stop : Step) (p : Place) : Type 0 where
   pub row : ℕ × Token
   pub row_is : stop.row ≡ Some row
@@ -63,9 +64,10 @@ pub record IsBest (Candidate : ℕ → Place → Type 0) (k : ℕ) (p : Place) :
   pub least : (n : ℕ) (q : Place) → Candidate n q → p.level ≤ q.level
   pub latest : (n : ℕ) (q : Place) → Candidate n q → k < n → p.level < q.level
 
--- The column ends nowhere well: there is no place where it may end, the stop is its first item, and it overflows. An atom, and a row no higher
--- than the room, is placed whole; another row is filled as far as the room goes.
-pub record IsAlone (inner : Inner) (avoids : Bool) (h : ℕ) (Candidate : ℕ → Place → Type 0) (j : ℕ) (stop : Step) (p : Place) : Type 0 where
+-- The column ends nowhere well: there is no place where it may end, the stop is its first item, and it overflows. An atom, and a
+-- row no higher than the room, is placed whole; another row is filled as far as the room goes.
+pub record IsAlone (inner : Inner) (avoids : Bool) (h : ℕ) (Candidate : ℕ → Place → Type 0) (j : ℕ) (stop : Step)
+    (p : Place) : Type 0 where
   pub none : (k : ℕ) (q : Place) → Candidate k q → ⊥
   pub first : j ≡ 0
   pub overflow : p.overflow ≡ true
@@ -80,7 +82,7 @@ pub record ColumnIsChosen (inner : Inner) (d : FlowsData) (f : Flow) (t : Token)
   pub items : AreColumnItems f t (steps_from inner d f t)
   -- all items fit, or one is the stop
   pub stop : AllFit h (steps_from inner d f t) ⊎ ((j : ℕ) × (s : Step) × IsStop h (steps_from inner d f t) j s)
-  -- where all fit, the column has no stop, and ends behind the last of them: at a break of level 0, with nothing that overflows
+  -- where all fit, the column has no stop, and ends after the last of them: at a break of level 0, with nothing that overflows
   pub whole : (n : ℕ) (last : Step) → AllFit h (steps_from inner d f t) → suc n ≡ length (steps_from inner d f t) →
       slice_get (steps_from inner d f t) n ≡ Some last →
       (place_in (column inner d f t h) ≡ record { level = 0; end = (last.item + 1) ∷ []; extent = last.need; overflow = false })
@@ -90,5 +92,7 @@ pub record ColumnIsChosen (inner : Inner) (d : FlowsData) (f : Flow) (t : Token)
       (line : ColumnLine) × (more : List ColumnLine) × ((column inner d f t h).lines ≡ line ∷ more) × (line.stop ≡ Some s.item)
   -- and the column ends at the best place where it may end, or it overflows where there is none
   pub best : (j : ℕ) (s : Step) → IsStop h (steps_from inner d f t) j s →
-      ((k : ℕ) × IsBest (IsCandidate inner (avoids_at d f s.item) h (steps_from inner d f t) j s) k (place_in (column inner d f t h)))
-      ⊎ IsAlone inner (avoids_at d f s.item) h (IsCandidate inner (avoids_at d f s.item) h (steps_from inner d f t) j s) j s (place_in (column inner d f t h))
+      ((k : ℕ) × IsBest (IsCandidate inner (avoids_at d f s.item) h (steps_from inner d f t) j s) k
+      (place_in (column inner d f t h)))
+      ⊎ IsAlone inner (avoids_at d f s.item) h (IsCandidate inner (avoids_at d f s.item) h (steps_from inner d f t) j s) j s
+      (place_in (column inner d f t h))
