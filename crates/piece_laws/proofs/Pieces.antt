@@ -1,6 +1,5 @@
 -- Each box that continues in a column of sound data or starts there has one piece in its tree.
-use Rattle.std.proofs.Common.{◌≡◌, ℕ, zero, suc, ◌+◌, ◌-◌, ◌<◌, ◌≤◌, ◌==◌, Bool, true, false, cond, not, List, [], ◌∷◌, ◌++◌, length, map, take, drop, Option, Some, None, refl, sym, subst, ◌∙◌, ap, arith, ◌⊎◌, inl, inr}
-use Rattle.std.proofs.lemmas.List.Sums.{sum_by-append}
+use Rattle.std.proofs.Common.{◌≡◌, ℕ, zero, suc, ◌+◌, ◌-◌, ◌<◌, ◌≤◌, ◌==◌, false, cond, not, List, [], ◌∷◌, ◌++◌, length, map, take, drop, Option, Some, None, refl, sym, subst, ◌∙◌, ap, arith, inl, inr}
 use Rattle.mc_base.specs.PlainTree.{PlainTree}
 use Rattle.flow_list.specs.Data.{Flow, FlowsData, Item, Row, Seam}
 use Rattle.flow_data.specs.Flows.{boxes_in, ended, ends_in, flow_in, flow_of, is_among, item_of, no_flow, no_row, open_at, row_of, seam_of, started, starts_in}
@@ -19,7 +18,7 @@ use Rattle.flow_laws.specs.Holding.{items_before}
 use Rattle.flow_laws.specs.Progress.{contents_to}
 use Rattle.flow_laws.proofs.Places.{in-items, IsReached}
 use Rattle.flow_laws.proofs.HoldingColumns.{holds-at, ItemHolds, place-at, RowHolds}
-use Rattle.flow_laws.proofs.HoldingEnds.{column-ends, EndsFor, EndsInRow, taken}
+use Rattle.flow_laws.proofs.HoldingEnds.{column-ends, EndsFor, taken}
 use Rattle.flow_laws.proofs.HoldingRows.{flow-holds}
 use Rattle.piece_laws.specs.Boxes.{BoxesHavePieces, BoxPiece, continued_piece, first_head, pieces_in_tree, pieces_in_trees, started_piece, starts_between}
 use Rattle.piece_laws.proofs.Openings.{column-opens}

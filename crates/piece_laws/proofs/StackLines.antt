@@ -1,10 +1,10 @@
 -- The lines of a printed tree are the nodes of its fragments: from stack 0 inwards, as each stack names later ones.
-use Rattle.std.proofs.Common.{◌≡◌, ℕ, zero, suc, ◌+◌, ◌<◌, ◌≤◌, List, [], ◌∷◌, ◌++◌, drop, length, get_or, refl, sym, ◌∙◌, ap, subst, arith, ◌⊎◌, inl, inr, All}
+use Rattle.std.proofs.Common.{◌≡◌, ℕ, zero, suc, ◌+◌, ◌<◌, ◌≤◌, List, [], ◌∷◌, drop, length, refl, sym, ◌∙◌, ap, subst, arith, ◌⊎◌, inl, inr, All}
 use Rattle.std.specs.List.{AllByRecursion as Each, flat_map}
 use Rattle.std.proofs.lemmas.Bool.{cases_lt}
 use Rattle.std.proofs.lemmas.List.{get_or_past}
 use Rattle.flow_list.specs.Data.{AtomKind, Flow, FlowsData, Item, Plain, Line, Void, Image, Bounded, Atom, Row}
-use Rattle.flow_data.specs.Flows.{flow_in, flow_of, no_flow, no_item, row_in, row_of, rows_in, stack_of}
+use Rattle.flow_data.specs.Flows.{flow_in, flow_of, no_flow, row_in, row_of, rows_in, stack_of}
 use Rattle.flow_data.specs.Soundness.{flows_within, IsSound, IsSoundItem, NestsAtMost, stack_in, stacks_in}
 use Rattle.flow_list.proofs.PlaceBounds.{Each-append}
 use Rattle.flow_list.specs.Fragments.{stack_fragment}

@@ -1,5 +1,5 @@
 -- The boxes that start in what is laid in a column are those of the heads between its place and its end.
-use Rattle.std.proofs.Common.{◌≡◌, ℕ, zero, suc, ◌+◌, ◌-◌, ◌<◌, ◌≤◌, ◌==◌, Bool, true, false, cond, not, ◌||◌, ◌&&◌, List, [], ◌∷◌, ◌++◌, length, map, take, drop, Option, Some, None, refl, sym, subst, ◌∙◌, ap, arith, append_assoc, inl, inr}
+use Rattle.std.proofs.Common.{◌≡◌, ℕ, zero, suc, ◌+◌, ◌-◌, ◌<◌, ◌≤◌, ◌==◌, Bool, true, false, cond, not, ◌||◌, ◌&&◌, List, [], ◌∷◌, ◌++◌, length, map, take, drop, Option, Some, None, refl, sym, subst, ◌∙◌, ap, arith, append_assoc}
 use Rattle.std.specs.Prelude.{nat_lt, is_some}
 use Rattle.std.specs.List.{flat_map}
 use Rattle.std.proofs.lemmas.Bool.Decides.{nat_tests}
@@ -15,7 +15,7 @@ use Rattle.flow_list.specs.Column.{Inner, is_forced, Step, height_of, strip_behi
 use Rattle.flow_list.specs.Placing.{Laid, laid_edge, laid_edges, margin, solid}
 use Rattle.flow_list.specs.Fragments.{laid_item, laid_items, laid_start, laid_before, laid_filled, filled_row, strip_after, strip_filled, fills_item, laid_to}
 use Rattle.flow_laws.specs.Holding.{items_before}
-use Rattle.flow_laws.proofs.HoldingEnds.{EndsAtSeam, EndsInRow, EndsFor}
+use Rattle.flow_laws.proofs.HoldingEnds.{EndsAtSeam, EndsInRow}
 use Rattle.piece_laws.specs.Boxes.{BoxPiece, first_head, started_piece, starts_between}
 use Rattle.piece_laws.proofs.Openings.{of_laid}
 

@@ -1,5 +1,5 @@
 -- The lines of a tree that is whole are its nodes.
-use Rattle.std.proofs.Common.{◌≡◌, ℕ, ◌+◌, List, [], ◌∷◌, ◌++◌, drop, Option, refl, ◌∙◌, ap}
+use Rattle.std.proofs.Common.{◌≡◌, ℕ, ◌+◌, List, [], ◌∷◌, ◌++◌, drop, refl, ◌∙◌, ap}
 use Rattle.std.specs.Prelude.{is_some}
 use Rattle.mc_base.specs.PlainTree.{PlainTree, PlainTrees, atom as atom_tree, piece, row_piece, column as column_tree, no_trees, more_trees}
 use Rattle.flow_list.specs.Data.{AtomKind, Flow, FlowsData, Item, RowInfo, Plain, Line, Void, Image, Bounded, Atom, Row}

@@ -1,10 +1,10 @@
 -- Where a column ends, told over all breaks where it may: its stop is the first item that needs more than the height, and no
 -- break is better than the one chosen (CSS Fragmentation 3, sections 4.4 and 4.5).
-use Rattle.std.specs.Prelude.{◌≡◌, ℕ, zero, suc, ◌+◌, ◌<◌, ◌≤◌, Bool, true, false, List, [], ◌∷◌, length, slice_get, Option, Some, None, ◌⊎◌}
+use Rattle.std.specs.Prelude.{◌≡◌, ℕ, suc, ◌+◌, ◌<◌, ◌≤◌, Bool, true, false, List, [], ◌∷◌, length, slice_get, Some, None, ◌⊎◌}
 use Rattle.flow_list.specs.Data.{Flow, FlowsData}
 use Rattle.flow_data.specs.Flows.{seam_of}
 use Rattle.flow_list.specs.Tokens.{Token, item_number}
-use Rattle.flow_list.specs.Column.{avoids_at, column, column_over, ColumnLine, fill_in_room, Inner, inner_lines, inside_place, is_cut, is_forced, Place, place_in, rank, room, Step, steps_from, whole_place}
+use Rattle.flow_list.specs.Column.{avoids_at, column, ColumnLine, Inner, inside_place, is_forced, Place, place_in, rank, room, Step, steps_from, whole_place}
 
 -- ---- the items of a column, and its stop
 
