@@ -6,11 +6,17 @@ use Rattle.std.proofs.Math.Nat.{mul-mod_right}
 use Rattle.std.specs.Prelude.{unsigned_abs}
 use Rattle.css_select.specs.Tests.{AreSteps, GoesTheWay, IsStepped}
 
-pub stepped_from : (step offset : ℤ) (number : ℕ) (way : ℤ) → AreSteps step way → way ≡ pos number -ℤ offset → IsStepped step offset number
-stepped_from step offset number way (k, e) is = (k, omega (arith, ints))
+pub stepped_from : (step step' offset : ℤ) (number : ℕ) (way : ℤ) → step' ≡ step → AreSteps step' way → way ≡ pos number -ℤ offset → IsStepped step offset number
+stepped_from step step' offset number way same h is = by (let P : ℤ → Type 0 = λ v. AreSteps v way in subst P same h)
+  where
+    by : AreSteps step way → IsStepped step offset number
+    by (k, e) = (k, omega (arith, ints))
 
-pub from_stepped : (step offset : ℤ) (number : ℕ) (way : ℤ) → IsStepped step offset number → way ≡ pos number -ℤ offset → AreSteps step way
-from_stepped step offset number way (k, e) is = (k, omega (arith, ints))
+pub from_stepped : (step step' offset : ℤ) (number : ℕ) (way : ℤ) → step' ≡ step → IsStepped step offset number → way ≡ pos number -ℤ offset → AreSteps step' way
+from_stepped step step' offset number way same h is = let P : ℤ → Type 0 = λ v. AreSteps v way in subst P (sym same) (by h)
+  where
+    by : IsStepped step offset number → AreSteps step way
+    by (k, e) = (k, omega (arith, ints))
 
 -- the size of the way is a multiple of the step's, and it goes the same way
 pub steps_from_rest : (step way : ℤ) → (step ≡ pos 0 → ⊥) → (pos 0 <ℤ step → pos 0 ≤ℤ way) → (step <ℤ pos 0 → way ≤ℤ pos 0) → unsigned_abs way % unsigned_abs step ≡ 0 → AreSteps step way

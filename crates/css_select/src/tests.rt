@@ -85,7 +85,7 @@ fn selector_of(alloc: Global, notation: &str) -> Result<Selector, AllocError> {
 
 fn id_of(attributes: &[Attribute]) -> &[u8] {
     for attribute in attributes {
-        if attribute.name.as_slice() == b"id" {
+        if attribute.name.as_slice() == b"id".as_slice() {
             return attribute.value.as_slice();
         }
     }
