@@ -1,0 +1,9 @@
+pub mod PlaceLemmas
+pub mod AttributeLemmas
+pub mod Steps
+pub mod Ancestors
+pub mod Nearest
+pub mod Ways
+pub mod Searches
+pub mod UpToLemmas
+pub mod Parents

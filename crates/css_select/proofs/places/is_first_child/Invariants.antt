@@ -1,0 +1,7 @@
+use Rattle.std.proofs.Common.{◌≡◌, take}
+use Rattle.std.specs.Prelude.{count_by}
+use Rattle.css_select.specs.Places.{parent_at, stands_in}
+use Rattle.css_select.proofs.places.is_first_child.Given as goal
+
+abbrev pub invariant-loop-place : goal.invariant-loop-place
+invariant-loop-place l = count_by (stands_in (parent_at l.dom l.node)) (take l.place l.dom.nodes) ≡ 0

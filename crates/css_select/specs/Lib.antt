@@ -1,0 +1,6 @@
+pub mod Places
+pub mod Attributes
+pub mod Tests
+pub mod Matching
+pub mod Walking
+pub mod Specificity
