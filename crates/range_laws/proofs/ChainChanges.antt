@@ -1,7 +1,7 @@
 -- Columns one after another: where one of them changes its lines, they change theirs together.
 use Rattle.std.proofs.Common.{◌≡◌, ℕ, zero, suc, ◌==◌, ◌⊎◌, inl, inr, Bool, true, false, cond, List, [], ◌++◌, refl, subst, sym, ◌∙◌, ap}
 use Rattle.std.specs.List.{list_any}
-use Rattle.flow_data.specs.declared.data.Flow.{Flow}
+use Rattle.flow_list.specs.Data.{Flow}
 use Rattle.flow_list.specs.Tokens.{Token, is_end}
 use Rattle.flow_list.specs.Column.{Column, ColumnLine}
 use Rattle.flow_list.specs.Rows.{columns_by, up_to}

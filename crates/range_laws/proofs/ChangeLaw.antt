@@ -6,7 +6,7 @@ use Rattle.std.proofs.lemmas.Bool.{cases_lt, or_left, or_right}
 use Rattle.std.proofs.lemmas.Bool.Decides.{nat_tests}
 use Rattle.std.proofs.lemmas.List.{get_or_past}
 use Rattle.std.proofs.lemmas.List.Elements.{All-head, All-tail}
-use Rattle.flow_data.specs.declared.data.FlowsData.{FlowsData}
+use Rattle.flow_list.specs.Data.{FlowsData}
 use Rattle.flow_data.specs.Flows.{row_of, no_row}
 use Rattle.flow_data.specs.Soundness.{IsSound}
 use Rattle.flow_laws.specs.Constant.{IsBelowEach}

@@ -4,12 +4,12 @@ use Rattle.std.specs.Prelude.{All}
 use Rattle.std.specs.List.{flat_map}
 use Rattle.std.proofs.lemmas.Bool.Decides.{nat_tests}
 use Rattle.std.proofs.lemmas.List.Elements.{All-nil, All-cons}
-use Rattle.flow_data.specs.declared.data.FlowsData.{FlowsData}
+use Rattle.flow_list.specs.Data.{FlowsData}
 use Rattle.flow_data.specs.Flows.{row_of, flow_in}
 use Rattle.flow_laws.specs.RangeLaws.{told_of, RangesAccount}
 use Rattle.flow_list.specs.Book.{AllStand}
 use Rattle.flow_list.specs.Certificate.{Use, column_owned, owned_to, range_owned, range_uses, uses_of}
-use Rattle.flow_list.specs.Column.{Column, ColumnLine, column}
+use Rattle.flow_list.specs.Column.{ColumnLine, column}
 use Rattle.flow_list.specs.Ranges.{Range, Reason, tall, area, left, bad, over, judged, lines_of}
 use Rattle.flow_list.specs.Rows.{fails, most_columns, rows_to, all_rows}
 use Rattle.flow_list.specs.Tokens.{Token}

@@ -3,7 +3,7 @@ use Rattle.std.proofs.Common.{◌≡◌, ℕ, zero, suc, ◌+◌, ◌<◌, ◌�
 use Rattle.std.proofs.lemmas.Bool.{or_from}
 use Rattle.std.proofs.lemmas.List.{append_assoc, append-nil}
 use Rattle.std.proofs.lemmas.List.Folds.{list_any-append}
-use Rattle.flow_data.specs.declared.data.FlowsData.{FlowsData}
+use Rattle.flow_list.specs.Data.{FlowsData}
 use Rattle.flow_list.specs.Certificate.{Use, same_use, stands_in, size_uses, entered, entered_with}
 use Rattle.range_laws.proofs.Above.{Above, above-less, above-append, not-above}
 use Rattle.range_laws.proofs.Standing.{Stand, stand-more, stand-here}

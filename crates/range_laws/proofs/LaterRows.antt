@@ -1,19 +1,15 @@
 -- The sizes that a row's columns use are those of rows with greater numbers.
 use Rattle.std.proofs.Common.{◌≡◌, ℕ, zero, suc, ◌+◌, ◌-◌, ◌==◌, ◌<◌, ◌≤◌, Bool, true, false, cond, List, [], ◌∷◌, ◌++◌, length, refl, arith, Option, Some, None}
-use Rattle.std.specs.Prelude.{nat_lt}
 use Rattle.std.specs.List.{flat_map}
-use Rattle.flow_data.specs.declared.data.Flow.{Flow}
-use Rattle.flow_data.specs.declared.data.FlowsData.{FlowsData}
-use Rattle.flow_data.specs.declared.data.Item.{Item}
-use Rattle.flow_data.specs.declared.data.Item.TheVariants.{Atom, Row}
-use Rattle.flow_data.specs.Flows.{row_of, flow_in, item_of, seam_of}
-use Rattle.flow_list.specs.Strip.{Strip, lay_all}
-use Rattle.flow_list.specs.Tokens.{Token, row_start, item_number, within, is_end}
-use Rattle.flow_list.specs.Column.{Column, Inner, Step, cut, longer, steps, strip_behind, steps_from, start_strip, row_from, is_forced, room, fills, fill_in_room, inner_uses, row_list, rows_among, column, column_up_to, avoids_at}
+use Rattle.flow_list.specs.Data.{Atom, Flow, FlowsData, Item, Row}
+use Rattle.flow_data.specs.Flows.{row_of, flow_in, item_of}
+use Rattle.flow_list.specs.Tokens.{Token, item_number, within, is_end}
+use Rattle.flow_list.specs.Column.{Column, Inner, Step, cut, steps_from, start_strip, row_from, room, fills, fill_in_room, inner_uses, row_list, rows_among, column, column_up_to, avoids_at}
 use Rattle.flow_list.specs.Rows.{columns, columns_by, up_to, fails, fill_in, rows_to, all_rows, most_columns, left_in}
 use Rattle.flow_list.specs.Ranges.{Range, judged}
 use Rattle.flow_list.specs.RowHeights.{size_of}
 use Rattle.flow_list.specs.Certificate.{Use, uses_of, range_uses, size_ranges, size_uses}
+use Rattle.flow_list.proofs.ColumnParts.{EachFrom, steps-each, through, cut-each, last-each}
 use Rattle.range_laws.proofs.Above.{Above, above-less, above-append, above-front, above-back}
 
 -- the rows that stand in a flow are from b on, and of the data
@@ -25,63 +21,34 @@ row-above : (b n : ℕ) (q : Token) (item : Item) → ((r : ℕ) → item ≡ Ro
 row-above b n q (Atom h kind) each = tt
 row-above b n q (Row r) each = let k = each r refl in (k.0, k.1, tt)
 
-pub steps-above : (inner : Inner) (d : FlowsData) (f : Flow) (b n : ℕ) → HoldsAbove b n f →
-    (s : Strip) (k : ℕ) (q : Token) (m : ℕ) → Above b n (rows_among (steps inner d f s k q m))
-unfolding steps
-steps-above inner d f b n each s k q zero = tt
-steps-above inner d f b n each s k q (suc m) =
-    above-append b n (row_list (row_from (item_of f k) q)) _ (row-above b n q (item_of f k) (each k))
-    (go (is_forced (seam_of f (k + 1)).level) (steps-above inner d f b n each
-    (lay_all (strip_behind inner f s k q) (seam_of f (k + 1)).head) (k + 1) row_start m))
-  where
-    go : (x : Bool) →
-        Above b n (rows_among (steps inner d f (lay_all (strip_behind inner f s k q) (seam_of f (k + 1)).head) (k + 1) row_start
-        m)) →
-        Above b n (rows_among (elim x as (λ _. List Step) [
-          | true ↦ []
-          | false ↦ steps inner d f
-              (lay_all (strip_behind inner f s k q) (seam_of f (k + 1)).head) (k + 1) row_start m
-        ]))
-    go true a = tt
-    go false a = a
+-- the row that an item of a column is, where it is one
+abbrev RowAbove : ℕ → ℕ → ℕ → Step → Type 0
+RowAbove b n k s = Above b n (row_list s.row)
 
-abbrev pub with_stop : List Step → Option Step → List Step
-with_stop before None = before
-with_stop before (Some s) = before ++ s ∷ []
+each-above : (inner : Inner) (d : FlowsData) (f : Flow) (b n : ℕ) → HoldsAbove b n f → (t : Token) →
+    EachFrom (RowAbove b n) (item_number t) (steps_from inner d f t)
+each-above inner d f b n each t =
+    steps-each inner d f (λ s k q m. Unit {0}) (RowAbove b n) (λ s k q m known. row-above b n q (item_of f k) (each k))
+    (λ s k q m known. tt) (start_strip d f t) (item_number t) (within t) (length f.items - item_number t) tt
 
-cut-rows : (b n h : ℕ) (ss : List Step) → Above b n (rows_among ss) →
-    Above b n (rows_among (with_stop (cut h ss).before (cut h ss).stop))
-cut-rows b n h [] a = tt
-cut-rows b n h (x ∷ ss) a =
-    go (nat_lt h x.need) (above-front b n (row_list x.row) (rows_among ss) a)
-    (cut-rows b n h ss (above-back b n (row_list x.row) (rows_among ss) a))
-  where
-    stopped : (o : Option Step) → Above b n (row_list x.row) → Above b n (rows_among (with_stop (cut h ss).before o)) →
-        Above b n (rows_among (with_stop (x ∷ (cut h ss).before) o))
-    stopped None one more = above-append b n (row_list x.row) _ one more
-    stopped (Some s) one more = above-append b n (row_list x.row) _ one more
+rows-above : (b n k : ℕ) (ss : List Step) → EachFrom (RowAbove b n) k ss → Above b n (rows_among ss)
+rows-above b n k [] all = tt
+rows-above b n k (s ∷ ss) all = above-append b n (row_list s.row) (rows_among ss) all.0 (rows-above b n (k + 1) ss all.1)
 
-    go : (c : Bool) → Above b n (row_list x.row) → Above b n (rows_among (with_stop (cut h ss).before (cut h ss).stop)) →
-        Above b n (rows_among (with_stop (cond c (record { before = []; stop = Some x }) (longer x (cut h ss))).before
-        (cond c (record { before = []; stop = Some x }) (longer x (cut h ss))).stop))
-    go true one more = above-append b n (row_list x.row) [] one tt
-    go false one more = stopped (cut h ss).stop one more
+pub steps-above : (inner : Inner) (d : FlowsData) (f : Flow) (b n : ℕ) → HoldsAbove b n f → (t : Token) →
+    Above b n (rows_among (steps_from inner d f t))
+steps-above inner d f b n each t = rows-above b n (item_number t) (steps_from inner d f t) (each-above inner d f b n each t)
 
 -- what the rows that stand in a flow use
 abbrev pub FillsAbove : ℕ → Inner → Type 0
 FillsAbove n inner = (r : ℕ) (q : Token) (a : ℕ) → r < n → Above (r + 1) n (inner.fill r q a).uses
-
-rows-last : (b n : ℕ) (before : List Step) (s : Step) → Above b n (rows_among (before ++ s ∷ [])) → Above b n (row_list s.row)
-rows-last b n [] s a = above-front b n (row_list s.row) [] a
-rows-last b n (x ∷ xs) s a = rows-last b n xs s (above-back b n (row_list x.row) (rows_among (xs ++ s ∷ [])) a)
 
 pub column-above : (inner : Inner) (n : ℕ) → FillsAbove n inner → (d : FlowsData) (f : Flow) (b : ℕ) → HoldsAbove b n f →
     (t : Token) (h : ℕ) → Above b n (column inner d f t h).uses
 unfolding column
 column-above inner n law d f b each t h =
     go (cut h (steps_from inner d f t)).before (cut h (steps_from inner d f t)).stop
-    (cut-rows b n h (steps_from inner d f t) (steps-above inner d f b n each (start_strip d f t) (item_number t) (within t)
-    (length f.items - item_number t)))
+    (cut-each (RowAbove b n) h (item_number t) (steps_from inner d f t) (each-above inner d f b n each t))
   where
     inside : (x : Bool) (s : Step) (o : Option Use) → Above b n (row_list o) →
         Above b n (inner_uses x (fill_in_room inner o (room s h)))
@@ -90,11 +57,12 @@ column-above inner n law d f b each t h =
         (law row.0 row.1 (room s h) a.1)
     inside false s (Some row) a = tt
 
-    go : (before : List Step) (o : Option Step) → Above b n (rows_among (with_stop before o)) →
+    go : (before : List Step) (o : Option Step) → EachFrom (RowAbove b n) (item_number t) (through before o) →
         Above b n (column_up_to inner (avoids_at d f) h before o).uses
-    go before None a = a
-    go before (Some s) a = above-append b n (rows_among (before ++ s ∷ [])) _ a
-        (inside (fills before s h) s s.row (rows-last b n before s a))
+    go before None all = rows-above b n (item_number t) before all
+    go before (Some s) all =
+        above-append b n (rows_among (before ++ s ∷ [])) _ (rows-above b n (item_number t) (before ++ s ∷ []) all)
+        (inside (fills before s h) s s.row (last-each (RowAbove b n) (item_number t) before s all))
 
 pub columns-above : (b n : ℕ) (make : Token → Column) (f : Flow) → ((t : Token) → Above b n (make t).uses) → (m : ℕ) (t : Token) →
     Above b n (uses_of (columns_by make f m t))

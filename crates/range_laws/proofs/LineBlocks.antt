@@ -1,7 +1,6 @@
 -- The lines of columns one after another: each column's own line, and deeper ones after it.
 use Rattle.std.proofs.Common.{◌≡◌, ℕ, ◌+◌, Bool, true, false, List, [], ◌∷◌, ◌++◌, map, refl, sym, ◌∙◌, ap, arith, Option, Some, None}
-use Rattle.flow_data.specs.declared.data.Flow.{Flow}
-use Rattle.flow_data.specs.declared.data.FlowsData.{FlowsData}
+use Rattle.flow_list.specs.Data.{Flow, FlowsData}
 use Rattle.flow_list.specs.Tokens.{Token}
 use Rattle.flow_list.specs.Column.{ColumnLine, Filled, Inner, Step, cut, steps_from, room, is_cut, fill_in_room, inner_lines, deeper, column, column_up_to, avoids_at}
 

@@ -1,22 +1,20 @@
 -- What a row directly in a stack uses are sizes of the data's rows.
-use Rattle.std.proofs.Common.{ℕ, ◌+◌, ◌-◌, ◌<◌, length, Option, Some, None}
+use Rattle.std.proofs.Common.{ℕ, ◌+◌, ◌<◌, length, Option, Some, None}
 use Rattle.std.specs.List.{flat_map}
-use Rattle.flow_data.specs.declared.data.Flow.{Flow}
-use Rattle.flow_data.specs.declared.data.FlowsData.{FlowsData}
+use Rattle.flow_list.specs.Data.{Flow, FlowsData}
 use Rattle.flow_data.specs.Flows.{flow_in}
 use Rattle.flow_list.specs.Certificate.{uses_of, range_uses, row_ranges, row_uses}
-use Rattle.flow_list.specs.Column.{Inner, start_strip, endless_column}
+use Rattle.flow_list.specs.Column.{Inner, endless_column}
 use Rattle.flow_list.specs.RowHeights.{column_within, row_columns, columns_of_row}
 use Rattle.flow_list.specs.Rows.{left_in, rows_to, all_rows}
-use Rattle.flow_list.specs.Tokens.{Token, row_start, item_number, within}
+use Rattle.flow_list.specs.Tokens.{Token, row_start}
 use Rattle.range_laws.proofs.Above.{Above, above-append}
 use Rattle.range_laws.proofs.LaterRows.{HoldsAbove, steps-above, columns-above, column-above, fills-above, ranges-use}
 
 endless-above : (inner : Inner) (d : FlowsData) (f : Flow) (b n : ℕ) → HoldsAbove b n f → (t : Token) →
     Above b n (endless_column inner d f t).uses
 unfolding endless_column
-endless-above inner d f b n each t = steps-above inner d f b n each (start_strip d f t) (item_number t) (within t)
-    (length f.items - item_number t)
+endless-above inner d f b n each t = steps-above inner d f b n each t
 
 module _ (d : FlowsData) (n : ℕ) (later : (r : ℕ) → r < n → HoldsAbove (r + 1) n (flow_in d r)) where
   within-above : (r : ℕ) → r < n → (h : Option ℕ) (t : Token) → Above (r + 1) n (column_within d (flow_in d r) h t).uses

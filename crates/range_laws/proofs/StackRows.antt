@@ -8,13 +8,7 @@ use Rattle.std.proofs.lemmas.List.{map-append}
 use Rattle.std.proofs.lemmas.List.Concat.{flat_map-append}
 use Rattle.std.proofs.lemmas.List.Elements.{All-nil, All-cons, All-append}
 use Rattle.std.proofs.lemmas.List.Sums.{sum_by-cons, sum_by-append, get_or-le-sum_by}
-use Rattle.flow_data.specs.declared.data.Bound.{Bound}
-use Rattle.flow_data.specs.declared.data.Flow.{Flow}
-use Rattle.flow_data.specs.declared.data.FlowsData.{FlowsData}
-use Rattle.flow_data.specs.declared.data.Item.{Item}
-use Rattle.flow_data.specs.declared.data.Item.TheVariants.{Atom, Row}
-use Rattle.flow_data.specs.declared.data.RowInfo.{RowInfo}
-use Rattle.flow_data.specs.declared.data.Stack.{Stack}
+use Rattle.flow_list.specs.Data.{Atom, Bound, Flow, FlowsData, Item, Row, RowInfo, Stack}
 use Rattle.flow_data.specs.Flows.{flow_of, stack_of, item_of, row_in, rows_in, no_item, no_flow, no_stack}
 use Rattle.flow_data.specs.Soundness.{IsSound, IsSoundItem, count_of}
 use Rattle.flow_laws.proofs.HoldingOnce.{one-place, one-at}

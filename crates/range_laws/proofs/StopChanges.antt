@@ -3,8 +3,7 @@ use Rattle.std.proofs.Common.{◌≡◌, ℕ, ◌+◌, ◌-◌, ◌<◌, ◌≤�
 use Rattle.std.specs.Prelude.{nat_lt, nat_le}
 use Rattle.std.proofs.lemmas.Bool.{cases_lt, and_parts, and_left, and_right}
 use Rattle.std.proofs.lemmas.Bool.Decides.{nat_tests}
-use Rattle.flow_data.specs.declared.data.Flow.{Flow}
-use Rattle.flow_data.specs.declared.data.FlowsData.{FlowsData}
+use Rattle.flow_list.specs.Data.{Flow, FlowsData}
 use Rattle.flow_list.specs.Tokens.{Token, item_number, within}
 use Rattle.flow_list.specs.Column.{ColumnLine, Filled, Inner, Step, Cut, cut, steps_from, start_strip, room, is_cut, fill_in_room, inner_lines, deeper, bounds_at, column, column_up_to, avoids_at}
 use Rattle.flow_laws.proofs.StopStays.{cut-from, cut-room}

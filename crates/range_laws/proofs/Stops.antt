@@ -1,21 +1,20 @@
 -- The stop of a column at two heights: the same one below what it needs, else a later one or none.
-use Rattle.std.proofs.Common.{◌≡◌, ℕ, zero, suc, ◌+◌, ◌<◌, ◌≤◌, Bool, true, false, cond, List, [], ◌∷◌, refl, sym, ◌∙◌, ap, arith, Option, Some, None}
+use Rattle.std.proofs.Common.{◌≡◌, ℕ, ◌+◌, ◌<◌, ◌≤◌, Bool, true, false, cond, List, [], ◌∷◌, refl, subst, ap, arith, Option, Some, None}
 use Rattle.std.specs.Prelude.{nat_lt}
 use Rattle.std.proofs.lemmas.Bool.Decides.{nat_tests}
-use Rattle.flow_data.specs.declared.data.Flow.{Flow}
-use Rattle.flow_data.specs.declared.data.FlowsData.{FlowsData}
-use Rattle.flow_data.specs.declared.data.Item.{Item}
-use Rattle.flow_data.specs.declared.data.Item.TheVariants.{Atom, Row}
-use Rattle.flow_data.specs.Flows.{item_of, seam_of}
-use Rattle.flow_list.specs.Strip.{Strip, lay_all}
-use Rattle.flow_list.specs.Tokens.{Token, row_start}
-use Rattle.flow_list.specs.Column.{Inner, Step, cut, longer, steps, strip_behind, row_from, height_of, is_forced}
+use Rattle.flow_list.specs.Data.{Atom, Flow, FlowsData, Item, Row}
+use Rattle.flow_data.specs.Flows.{item_of}
+use Rattle.flow_list.specs.Strip.{Strip}
+use Rattle.flow_list.specs.Tokens.{Token}
+use Rattle.flow_list.specs.Column.{Inner, Step, cut, longer, steps, row_from, height_of}
+use Rattle.flow_list.proofs.ColumnParts.{EachFrom, steps-each, through, cut-each, last-each}
 
--- these items are numbered from k on, and a row's height is its size
+-- an item has this number, and where it is a row its height is its size
+abbrev pub IsGood : Inner → ℕ → Step → Type 0
+IsGood inner k s = (s.item ≡ k) × ((row : ℕ × Token) → s.row ≡ Some row → s.height ≡ inner.size row.0 row.1)
+
 abbrev pub Good : Inner → ℕ → List Step → Type 0
-Good inner k [] = Unit {0}
-Good inner k (s ∷ ss) = (s.item ≡ k) × ((row : ℕ × Token) → s.row ≡ Some row → s.height ≡ inner.size row.0 row.1) ×
-    Good inner (k + 1) ss
+Good inner k ss = EachFrom (IsGood inner) k ss
 
 row-height : (inner : Inner) (q : Token) (item : Item) (row : ℕ × Token) → row_from item q ≡ Some row →
     height_of inner item q ≡ inner.size row.0 row.1
@@ -24,24 +23,9 @@ row-height inner q (Row r) row e = let k : (r, q) ≡ row = cc in ap (λ (w : �
 
 pub steps-good : (inner : Inner) (d : FlowsData) (f : Flow) (s : Strip) (k : ℕ) (q : Token) (n : ℕ) →
     Good inner k (steps inner d f s k q n)
-unfolding steps
-steps-good inner d f s k q zero = tt
-steps-good inner d f s k q (suc n) = (
-  refl,
-  row-height inner q (item_of f k),
-  go (is_forced (seam_of f (k + 1)).level)
-      (steps-good inner d f (lay_all (strip_behind inner f s k q) (seam_of f (k + 1)).head) (k + 1) row_start n),
-)
-  where
-    go : (b : Bool) →
-        Good inner (k + 1) (steps inner d f (lay_all (strip_behind inner f s k q) (seam_of f (k + 1)).head) (k + 1) row_start n) →
-        Good inner (k + 1) (elim b as (λ _. List Step) [
-          | true ↦ []
-          | false ↦ steps inner d f
-              (lay_all (strip_behind inner f s k q) (seam_of f (k + 1)).head) (k + 1) row_start n
-        ])
-    go true g = tt
-    go false g = g
+steps-good inner d f s k q n =
+    steps-each inner d f (λ s k q n. Unit {0}) (IsGood inner) (λ s k q n known. (refl, row-height inner q (item_of f k)))
+    (λ s k q n known. tt) s k q n tt
 
 abbrev pub stop_number : Option Step → Option ℕ
 stop_number None = None
@@ -50,11 +34,11 @@ stop_number (Some s) = Some s.item
 -- the stop is one of these items
 cut-above : (inner : Inner) (h k i : ℕ) (ss : List Step) → Good inner k ss → stop_number (cut h ss).stop ≡ Some i → k ≤ i
 cut-above inner h k i [] g e = absurd cc
-cut-above inner h k i (x ∷ ss) g e = go (nat_lt h x.need) e (λ m. cut-above inner h (k + 1) i ss g.2 m)
+cut-above inner h k i (x ∷ ss) g e = go (nat_lt h x.need) e (λ m. cut-above inner h (k + 1) i ss g.1 m)
   where
     go : (b : Bool) → stop_number (cond b (record { before = []; stop = Some x }) (longer x (cut h ss))).stop ≡ Some i →
         (stop_number (cut h ss).stop ≡ Some i → k + 1 ≤ i) → k ≤ i
-    go true e later = let m : x.item ≡ i = cc in let n = g.0 in omega arith
+    go true e later = let m : x.item ≡ i = cc in let n = g.0.0 in omega arith
     go false e later = let m = later e in omega arith
 
 -- below what the stop needs the same items fit
@@ -78,7 +62,7 @@ pub cut-later : (inner : Inner) (lo hi k : ℕ) (s : Step) (ss : List Step) → 
     (cut lo ss).stop ≡ Some s → s.need ≤ hi → stop_number (cut hi ss).stop ≡ Some s.item → ⊥
 cut-later inner lo hi k s [] g le e fit same = cc
 cut-later inner lo hi k s (x ∷ ss) g le e fit same = go (nat_lt lo x.need) refl (nat_lt hi x.need) refl e same
-    (λ m n. cut-later inner lo hi (k + 1) s ss g.2 le m fit n)
+    (λ m n. cut-later inner lo hi (k + 1) s ss g.1 le m fit n)
   where
     go : (b : Bool) → nat_lt lo x.need ≡ b → (c : Bool) → nat_lt hi x.need ≡ c →
         (cond b (record { before = []; stop = Some x }) (longer x (cut lo ss))).stop ≡ Some s →
@@ -89,21 +73,14 @@ cut-later inner lo hi k s (x ∷ ss) g le e fit same = go (nat_lt lo x.need) ref
     go true eb false ec e same later =
         let m : x ≡ s = cc in
         let n : x.item ≡ s.item = ap (λ (w : Step). w.item) m in
-        let above = cut-above inner hi (k + 1) s.item ss g.2 same in
-        let i = g.0 in
+        let above = cut-above inner hi (k + 1) s.item ss g.1 same in
+        let i = g.0.0 in
         omega arith
     go false eb true ec e same later = grind (arith, nat_tests)
     go false eb false ec e same later = later e same
 
 pub stop-good : (inner : Inner) (lo k : ℕ) (s : Step) (ss : List Step) → Good inner k ss → (cut lo ss).stop ≡ Some s →
     (row : ℕ × Token) → s.row ≡ Some row → s.height ≡ inner.size row.0 row.1
-stop-good inner lo k s [] g e row is = absurd cc
-stop-good inner lo k s (x ∷ ss) g e row is = go (nat_lt lo x.need) e (λ m. stop-good inner lo (k + 1) s ss g.2 m row is)
-  where
-    go : (b : Bool) → (cond b (record { before = []; stop = Some x }) (longer x (cut lo ss))).stop ≡ Some s →
-        ((cut lo ss).stop ≡ Some s → s.height ≡ inner.size row.0 row.1) → s.height ≡ inner.size row.0 row.1
-    go true e later =
-        let m : x ≡ s = cc in
-        let n : x.row ≡ Some row = ap (λ (w : Step). w.row) m ∙ is in
-        sym (ap (λ (w : Step). w.height) m) ∙ g.1 row n
-    go false e later = later e
+stop-good inner lo k s ss g e row is =
+    let all = subst (λ o. EachFrom (IsGood inner) k (through (cut lo ss).before o)) e (cut-each (IsGood inner) lo k ss g) in
+    (last-each (IsGood inner) k (cut lo ss).before s all).1 row is

@@ -6,9 +6,7 @@ use Rattle.std.proofs.lemmas.Bool.{or_from}
 use Rattle.std.proofs.lemmas.List.{append_assoc, append-nil}
 use Rattle.std.proofs.lemmas.List.Elements.{All-nil, All-cons, All-head, All-tail}
 use Rattle.std.proofs.lemmas.List.Folds.{list_any-append}
-use Rattle.flow_data.specs.declared.data.FlowsData.{FlowsData}
-use Rattle.flow_data.specs.declared.data.Item.{Item}
-use Rattle.flow_data.specs.declared.data.Item.TheVariants.{Atom, Row}
+use Rattle.flow_list.specs.Data.{Atom, FlowsData, Item, Row}
 use Rattle.flow_data.specs.Flows.{row_of, flow_in, row_in, no_item, no_row, no_flow}
 use Rattle.flow_data.specs.Soundness.{IsSound, IsInnerRow}
 use Rattle.flow_laws.proofs.SoundRows.{rows-in-range}

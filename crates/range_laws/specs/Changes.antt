@@ -1,7 +1,6 @@
 -- At the least of the heights at which columns may change, their lines do change (this project's own).
 use Rattle.std.specs.Prelude.{◌≢◌, ℕ, ◌≤◌, List, All, Contains}
-use Rattle.flow_data.specs.declared.data.Flow.{Flow}
-use Rattle.flow_data.specs.declared.data.FlowsData.{FlowsData}
+use Rattle.flow_list.specs.Data.{Flow, FlowsData}
 use Rattle.flow_list.specs.Tokens.{Token}
 use Rattle.flow_list.specs.Column.{column}
 use Rattle.flow_list.specs.Rows.{rows_to}

@@ -1,6 +1,6 @@
 -- Each line of columns cites sizes that stand before it (this project's own).
 use Rattle.std.specs.Prelude.{◌≡◌, ℕ, List, [], length, Option, All, ◌⊎◌}
-use Rattle.flow_data.specs.declared.data.FlowsData.{FlowsData}
+use Rattle.flow_list.specs.Data.{FlowsData}
 use Rattle.flow_list.specs.Tokens.{Token}
 use Rattle.flow_list.specs.Rows.{all_rows}
 use Rattle.flow_list.specs.Ranges.{Range, ranges}

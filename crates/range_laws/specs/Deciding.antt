@@ -1,7 +1,7 @@
 -- Ranges whose reasons hold, and that leave no height out, decide the size of a row (this project's own; CSS Multi-column 1,
 -- section 7.1, leaves the height of balanced columns open).
 use Rattle.std.specs.Prelude.{◌≡◌, ℕ, ◌+◌, ◌<◌, true, false, List, Some, All}
-use Rattle.flow_data.specs.declared.data.FlowsData.{FlowsData}
+use Rattle.flow_list.specs.Data.{FlowsData}
 use Rattle.flow_list.specs.Tokens.{Token}
 use Rattle.flow_list.specs.Rows.{fits, all_rows}
 use Rattle.flow_list.specs.Ranges.{Range, RangeRejects}

@@ -2,8 +2,7 @@
 -- entry (this project's own).
 use Rattle.std.specs.Prelude.{◌≡◌, ℕ, ◌<◌, List, [], ◌∷◌, ◌++◌, length, All, ◌⊎◌}
 use Rattle.std.specs.List.{flat_map}
-use Rattle.flow_data.specs.declared.data.FlowsData.{FlowsData}
-use Rattle.flow_data.specs.declared.data.Item.TheVariants.{Row}
+use Rattle.flow_list.specs.Data.{FlowsData, Row}
 use Rattle.flow_data.specs.Flows.{flow_of, stack_of, item_of}
 use Rattle.flow_data.specs.Soundness.{count_of}
 use Rattle.flow_list.specs.Certificate.{Use, Entry, size_entry, row_entry, auto_entry, size_ranges, row_ranges, range_owned, size_uses, row_uses, certificate, book_of}

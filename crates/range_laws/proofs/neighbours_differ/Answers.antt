@@ -1,5 +1,5 @@
 use Rattle.std.proofs.Common.{ℕ, length}
-use Rattle.flow_data.specs.declared.data.FlowsData.{FlowsData}
+use Rattle.flow_list.specs.Data.{FlowsData}
 use Rattle.flow_data.specs.Soundness.{IsSound}
 use Rattle.flow_laws.proofs.Exists.{sizes-least}
 use Rattle.flow_laws.proofs.RowsStay.{breaks-stay}

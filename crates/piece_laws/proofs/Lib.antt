@@ -1,0 +1,10 @@
+mod Best
+mod Chosen
+mod Items
+mod Openings
+mod Pieces
+mod SeamPlaces
+mod Shapes
+mod StackLines
+mod Started
+mod TreeLines
