@@ -6,5 +6,7 @@
 #![tactic(auto)]
 
 mod pool;
+#[cfg(test)]
+mod tests;
 
 pub use pool::{Mark, NodeBack, Pool};
