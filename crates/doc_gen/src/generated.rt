@@ -17,12 +17,12 @@ const MOST: u32 = 5_000;
 pub fn generate(alloc: Global, start: u64, paragraphs: u32) -> Result<Text, Refusal>
     ensures text { IfOk result (λ text. text ≡ document start paragraphs) }
     ensures within { paragraphs ≤ 5000 → IsOkUnless result Refusal.NoMemory }
-    ensures limit { 5000 < paragraphs → IsErrOf result (Refusal.Limit LimitName.Paragraphs paragraphs 5000) }
+    ensures limit { 5000 < paragraphs → IsErrOf result (Refusal.Limit LimitName.Paragraphs 5001 5000) }
 {
     if paragraphs > MOST {
         return Err(Refusal::Limit {
             name: LimitName::Paragraphs,
-            reached: u64::from(paragraphs),
+            reached: u64::from(MOST) + 1,
             limit: u64::from(MOST),
         });
     }
