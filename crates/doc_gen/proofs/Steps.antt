@@ -1,5 +1,5 @@
 -- One more letter, word and paragraph.
-use Rattle.std.proofs.Common.{◌≡◌, ℕ, zero, suc, ◌+◌, ◌*◌, ◌/◌, ◌%◌, ◌^◌, ◌<◌, ◌≤◌, [], ◌∷◌, ◌++◌, refl, sym, arith, add-one, List, ap, ◌∙◌, append_assoc}
+use Rattle.std.proofs.Common.{◌≡◌, ℕ, zero, suc, ◌+◌, ◌*◌, ◌%◌, ◌^◌, ◌≤◌, [], ◌∷◌, ◌++◌, refl, sym, arith, add-one, List, ap, ◌∙◌, append_assoc}
 use Rattle.std.proofs.Math.Nat.{mod-add-mod}
 use Rattle.std.proofs.lemmas.Grind.{common_steps}
 use Rattle.doc_gen.specs.Document.{next_state, draw_of, state_after, letters, word, after_word, word_state, words, paragraph, after_paragraph, heading, after_heading, part_state, parts}
