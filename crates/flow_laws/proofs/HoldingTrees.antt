@@ -11,6 +11,34 @@ use Rattle.flow_list.specs.Strip.{Strip, lay}
 use Rattle.flow_list.specs.Placing.{RowLaid, Laid, margin, solid, wall, opens, closes, atom, row, laid_edge, laid_edges, ends_gap, gap_of, behind_gap, gap_height, Placed, opens_at, closes_at, atom_at, row_at, placed_in_gap, gap_places, placed_item, laid_height, places_from}
 use Rattle.flow_list.specs.Fragments.{closes_here, inside_box, behind_box, bottom_of, trees_of, all_trees, continued_from}
 
+-- ---- what is left is no longer: behind a gap, before the end of a box and behind it
+
+pub behind-length : (xs : List Laid) → length (behind_gap xs) ≤ length xs
+behind-length [] = omega arith
+behind-length (x ∷ xs) = go (ends_gap x) (behind-length xs)
+  where
+    go : (b : Bool) → length (behind_gap xs) ≤ length xs → length (cond b (x ∷ xs) (behind_gap xs)) ≤ length (x ∷ xs)
+    go true le = omega arith
+    go false le = omega arith
+
+pub inside-length : (b : ℕ) (ps : List Placed) → length (inside_box b ps) ≤ length ps
+inside-length b [] = omega arith
+inside-length b (p ∷ ps) = go (closes_here b p) (inside-length b ps)
+  where
+    go : (e : Bool) → length (inside_box b ps) ≤ length ps → length (cond e [] (p ∷ inside_box b ps)) ≤ length (p ∷ ps)
+    go true le = omega arith
+    go false le = omega arith
+
+pub behind-box-length : (b : ℕ) (ps : List Placed) → length (behind_box b ps) ≤ length ps
+behind-box-length b [] = omega arith
+behind-box-length b (p ∷ ps) = go (closes_here b p) (behind-box-length b ps)
+  where
+    go : (e : Bool) → length (behind_box b ps) ≤ length ps → length (cond e ps (behind_box b ps)) ≤ length (p ∷ ps)
+    go true le = omega arith
+    go false le = omega arith
+
+-- ---- what is counted
+
 -- With what each atom counts and each row.
 module _ (X : Type 0) (of_atom : ℕ → List X) (of_row : RowLaid → List X) where
   abbrev pub of_placed : Placed → List X
@@ -64,14 +92,6 @@ module _ (X : Type 0) (of_atom : ℕ → List X) (of_row : RowLaid → List X) w
       go true e = refl
       go false e = append_assoc (of_laid x) (flat_map of_laid (gap_of xs)) (flat_map of_laid (behind_gap xs)) ∙ ap (λ us. of_laid x ++ us) e
 
-  behind-length : (xs : List Laid) → length (behind_gap xs) ≤ length xs
-  behind-length [] = omega arith
-  behind-length (x ∷ xs) = go (ends_gap x) (behind-length xs)
-    where
-      go : (b : Bool) → length (behind_gap xs) ≤ length xs → length (cond b (x ∷ xs) (behind_gap xs)) ≤ length (x ∷ xs)
-      go true le = omega arith
-      go false le = omega arith
-
   places-keep : (n y : ℕ) (xs : List Laid) → length xs < n → flat_map of_placed (places_from n y xs) ≡ flat_map of_laid xs
   unfolding places_from
   places-keep zero y xs lt = absurd (omega arith)
@@ -121,22 +141,6 @@ module _ (X : Type 0) (of_atom : ℕ → List X) (of_row : RowLaid → List X) w
       go false e = e
   box-splits b (atom_at k y ∷ ps) = append_assoc (of_atom k) (flat_map of_placed (inside_box b ps)) (flat_map of_placed (behind_box b ps)) ∙ ap (λ us. of_atom k ++ us) (box-splits b ps)
   box-splits b (row_at r y ∷ ps) = append_assoc (of_row r) (flat_map of_placed (inside_box b ps)) (flat_map of_placed (behind_box b ps)) ∙ ap (λ us. of_row r ++ us) (box-splits b ps)
-
-  inside-length : (b : ℕ) (ps : List Placed) → length (inside_box b ps) ≤ length ps
-  inside-length b [] = omega arith
-  inside-length b (p ∷ ps) = go (closes_here b p) (inside-length b ps)
-    where
-      go : (e : Bool) → length (inside_box b ps) ≤ length ps → length (cond e [] (p ∷ inside_box b ps)) ≤ length (p ∷ ps)
-      go true le = omega arith
-      go false le = omega arith
-
-  behind-box-length : (b : ℕ) (ps : List Placed) → length (behind_box b ps) ≤ length ps
-  behind-box-length b [] = omega arith
-  behind-box-length b (p ∷ ps) = go (closes_here b p) (behind-box-length b ps)
-    where
-      go : (e : Bool) → length (behind_box b ps) ≤ length ps → length (cond e ps (behind_box b ps)) ≤ length (p ∷ ps)
-      go true le = omega arith
-      go false le = omega arith
 
   trees-keep : (read : PlainTrees → List X) (columns : RowLaid → List PlainTree) → Reads read columns → (n : ℕ) (ps : List Placed) → length ps ≤ n → read (plain_trees (trees_of columns n ps)) ≡ flat_map of_placed ps
   unfolding trees_of
