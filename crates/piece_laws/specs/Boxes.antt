@@ -1,6 +1,6 @@
 -- The pieces of boxes in the tree of a column: each box that continues in the column or starts in it has one piece there (CSS
 -- Fragmentation 3, section 2: a box that breaks has a fragment in each column that holds some of it).
-use Rattle.std.specs.Prelude.{◌≡◌, ℕ, ◌+◌, ◌-◌, ◌≤◌, Bool, true, false, List, [], ◌∷◌, ◌++◌, map, take, drop, Option}
+use Rattle.std.specs.Prelude.{◌≡◌, ℕ, ◌-◌, ◌≤◌, Bool, true, false, List, [], ◌∷◌, ◌++◌, map, take, drop, Option}
 use Rattle.mc_base.specs.PlainTree.{PlainTree, PlainTrees, atom as atom_tree, piece, row_piece, column as column_tree, no_trees, more_trees}
 use Rattle.flow_list.specs.Data.{Flow, FlowsData}
 use Rattle.flow_data.specs.Flows.{flow_in, starts_in}
@@ -27,15 +27,9 @@ unfoldable mutual
   pieces_in_trees no_trees = []
   pieces_in_trees (more_trees tree trees) = pieces_in_tree tree ++ pieces_in_trees trees
 
--- the first seam whose head stands in the column that begins at a place: within a row that is the one after it
-abbrev pub first_head : Token → ℕ
-first_head [] = 0
-first_head (i ∷ []) = i
-first_head (i ∷ (j ∷ rest)) = i + 1
-
--- the boxes that start between two places, in order
+-- the boxes that start between two places, in order: the heads of as many seams stand before a place as items begin before it
 abbrev pub starts_between : Flow → Token → Token → List ℕ
-starts_between f t u = starts_in (take (items_before u - first_head t) (drop (first_head t) f.seams))
+starts_between f t u = starts_in (take (items_before u - items_before t) (drop (items_before t) f.seams))
 
 -- a piece in which its box continues, and one in which it starts
 abbrev pub continued_piece : ℕ → BoxPiece
