@@ -83,11 +83,13 @@ module _ (d : FlowsData) (f : Flow) (sound : IsSoundFlow d f) where
       ap (λ us. to_head k ++ us) (edges-cross s (seam_of f (k + 1)).tail)
       ∙ sym (flat_map-append crossing_at (edges_before f (k ∷ row_start)) (seam_of f (k + 1)).tail)
 
-  pub head-adds : (s : Strip) (k : ℕ) → k ≤ length f.items → Adds (to_tail k) (laid_edges s (seam_of f k).head) (to_head k)
-  head-adds s k le =
-      ap (λ us. to_tail k ++ us) (edges-cross s (seam_of f k).head)
-      ∙ sym (flat_map-append crossing_at (edges_before f (k ∷ [])) (seam_of f k).head)
+  pub head-more : (k : ℕ) → k ≤ length f.items → to_tail k ++ crossings (seam_of f k).head ≡ to_head k
+  head-more k le =
+      sym (flat_map-append crossing_at (edges_before f (k ∷ [])) (seam_of f k).head)
       ∙ ap crossings (sym (edges-more d f sound k (in-seams k le)))
+
+  pub head-adds : (s : Strip) (k : ℕ) → k ≤ length f.items → Adds (to_tail k) (laid_edges s (seam_of f k).head) (to_head k)
+  head-adds s k le = ap (λ us. to_tail k ++ us) (edges-cross s (seam_of f k).head) ∙ head-more k le
 
   module _ (inner : Inner) where
     items-add : (s : Strip) (k : ℕ) (q : Token) (n : ℕ) → k + suc n ≤ length f.items →
@@ -146,15 +148,17 @@ module _ (d : FlowsData) (f : Flow) (sound : IsSoundFlow d f) where
         pub crosses : Adds (crossings_before f t) (laid_start d f t ++ laid_to inner d f t h stop end) (crossings_before f end)
         pub there : At d f sound end
         pub later : i < items_before end
+        pub past : i ≤ item_number end
 
       reaches : i < length f.items → (h : Option ℕ) (stop : Option Step) (end : Token) →
           Adds (to_head i) (laid_to inner d f t h stop end) (crossings_before f end) → At d f sound end → i < items_before end →
-          Reaches h stop end
-      reaches lt h stop end adds at later = record {
+          i ≤ item_number end → Reaches h stop end
+      reaches lt h stop end adds at later past = record {
         crosses = adds-both (crossings_before f t) (to_head i) (crossings_before f end) (laid_start d f t)
             (laid_to inner d f t h stop end) (start-adds t place lt) adds;
         there = at;
         later = later;
+        past = past;
       }
 
       pub seam-reaches : i < length f.items → (h : Option ℕ) (stop : Option Step) (end : Token) →
@@ -181,6 +185,7 @@ module _ (d : FlowsData) (f : Flow) (sound : IsSoundFlow d f) where
           go n is =
               let known = e.known in
               reaches lt h stop (e.seam ∷ []) (body n is) (at-item d f sound e.seam (in-seams e.seam known)) (omega arith)
+              (omega arith)
 
       pub row-reaches : i < length f.items → (h : ℕ) (s : Step) (end : Token) → (e : EndsInRow inner f t h s end) →
           ((inner.fill e.row e.from (room s h)).at_end ≡ false →
@@ -231,8 +236,7 @@ module _ (d : FlowsData) (f : Flow) (sound : IsSoundFlow d f) where
               let later = e.later in
               let known = e.known in
               reaches lt (Some h) (Some s) (s.item ∷ (j ∷ rest)) here
-              (at-row d f sound s.item j rest (in-seams s.item (omega arith)))
-              (omega arith)
+              (at-row d f sound s.item j rest (in-seams s.item (omega arith))) (omega arith) (omega arith)
 
           go : (b : Bool) → (inner.fill e.row e.from (room s h)).at_end ≡ b →
               Reaches (Some h) (Some s) (cond b ((s.item + 1) ∷ []) (s.item ∷ (inner.fill e.row e.from (room s h)).end))
@@ -244,5 +248,5 @@ module _ (d : FlowsData) (f : Flow) (sound : IsSoundFlow d f) where
               reaches lt (Some h) (Some s) ((s.item + 1) ∷ [])
               (behind (s.item + 1 - 1) m (fills_item (Some h) (Some s) (s.item + 1 - 1)) (s.item + 1 == 0)
               (ap (fills_item (Some h) (Some s)) m ∙ fills) z)
-              (at-item d f sound (s.item + 1) (in-seams (s.item + 1) (omega arith))) (omega arith)
+              (at-item d f sound (s.item + 1) (in-seams (s.item + 1) (omega arith))) (omega arith) (omega arith)
           go false is = in-row (inner.fill e.row e.from (room s h)).end (within_row is)

@@ -1,6 +1,6 @@
 -- Crossings one after another, and the boxes that are open after them: a box that is gone into becomes the innermost one, and
 -- only the innermost one is gone out of.
-use Rattle.std.proofs.Common.{◌≡◌, ℕ, ◌+◌, ◌≤◌, List, [], ◌∷◌, ◌++◌, map, refl, sym, subst, ◌∙◌, ap, arith, append_assoc, reverse}
+use Rattle.std.proofs.Common.{◌≡◌, ℕ, ◌+◌, List, [], ◌∷◌, ◌++◌, map, refl, sym, subst, ◌∙◌, ap, arith, append_assoc, reverse}
 use Rattle.std.specs.List.{flat_map}
 use Rattle.std.proofs.lemmas.List.{append-nil, reverse-append}
 use Rattle.flow_list.specs.Data.{Edge, Margin, Solid, Wall, Start, End}
@@ -44,6 +44,11 @@ abbrev pub entered : Crossing → List ℕ
 entered (into b starts) = b ∷ []
 entered (out_of b ends) = []
 
+-- and those that they go out of
+abbrev pub left : Crossing → List ℕ
+left (into b starts) = []
+left (out_of b ends) = b ∷ []
+
 pub entered-continued : (bs : List ℕ) → flat_map entered (map continued_into bs) ≡ bs
 entered-continued [] = refl
 entered-continued (b ∷ bs) = ap (λ us. b ∷ us) (entered-continued bs)
@@ -56,14 +61,29 @@ entered-edges (Wall ∷ es) = entered-edges es
 entered-edges (Start b ∷ es) = ap (λ us. b ∷ us) (entered-edges es)
 entered-edges (End b ∷ es) = entered-edges es
 
--- the boxes that are open then were open, or were gone into
-pub leads-few : (m : ℕ) (cs : List Crossing) (boxes after : List ℕ) → Leads boxes cs after →
-    count_of m after ≤ count_of m boxes + count_of m (flat_map entered cs)
-leads-few m [] boxes after e = let same = ap (count_of m) e in omega arith
-leads-few m (into b starts ∷ cs) boxes after h =
-    omega (arith, leads-few m cs (b ∷ boxes) after h, count-cons m b boxes, count-cons m b (flat_map entered cs))
-leads-few m (out_of b ends ∷ cs) [] after h = absurd h
-leads-few m (out_of b ends ∷ cs) (c ∷ boxes) after h = omega (arith, leads-few m cs boxes after h.1, count-cons m c boxes)
+pub left-edges : (es : List Edge) → flat_map left (crossings es) ≡ flat_map ended es
+left-edges [] = refl
+left-edges (Margin m ∷ es) = left-edges es
+left-edges (Solid a ∷ es) = left-edges es
+left-edges (Wall ∷ es) = left-edges es
+left-edges (Start b ∷ es) = left-edges es
+left-edges (End b ∷ es) = ap (λ us. b ∷ us) (left-edges es)
+
+-- the boxes that were open or are gone into then are open, or are gone out of
+pub leads-counts : (m : ℕ) (cs : List Crossing) (boxes after : List ℕ) → Leads boxes cs after →
+    count_of m boxes + count_of m (flat_map entered cs) ≡ count_of m after + count_of m (flat_map left cs)
+leads-counts m [] boxes after e = let same = ap (count_of m) e in omega arith
+leads-counts m (into b starts ∷ cs) boxes after h =
+    omega (arith, leads-counts m cs (b ∷ boxes) after h, count-cons m b boxes, count-cons m b (flat_map entered cs))
+leads-counts m (out_of b ends ∷ cs) [] after h = absurd h
+leads-counts m (out_of b ends ∷ cs) (c ∷ boxes) after h =
+    omega (
+      arith,
+      leads-counts m cs boxes after h.1,
+      ap (λ x. count_of m (x ∷ boxes)) h.0,
+      count-cons m b boxes,
+      count-cons m b (flat_map left cs),
+    )
 
 -- ---- edges that are well nested
 

@@ -1,44 +1,51 @@
--- Pieces of boxes nest in the tree of a column, and of a stack, as their boxes do, and end there where these end.
-use Rattle.std.proofs.Common.{◌≡◌, ℕ, zero, suc, ◌+◌, ◌<◌, ◌≤◌, false, List, [], ◌∷◌, ◌++◌, drop, length, map, Option, Some, None, refl, sym, subst, ◌∙◌, ap, arith, reverse, inl, inr}
+-- The trees of columns and of stacks of sound data have the pieces of their boxes.
+use Rattle.std.proofs.Common.{◌≡◌, ℕ, zero, suc, ◌+◌, ◌<◌, ◌≤◌, false, List, [], ◌∷◌, ◌++◌, length, Option, Some, None, refl, sym, subst, ◌∙◌, ap, arith, inl, inr}
 use Rattle.std.specs.List.{flat_map}
-use Rattle.std.proofs.lemmas.List.{drop_at, take_all}
+use Rattle.std.proofs.lemmas.List.{append-nil}
 use Rattle.mc_base.specs.PlainTree.{PlainTree}
-use Rattle.flow_list.specs.Data.{Bound, Edge, Flow, FlowsData, Item, Margin, Solid, Wall, Start, End, Atom, Row, Seam}
-use Rattle.flow_data.specs.Flows.{ended, flow_in, flow_of, item_of, no_flow, no_seam, open_at, seam_of, stack_of, started}
-use Rattle.flow_data.specs.Soundness.{edges_of, IsSound, IsSoundFlow}
-use Rattle.flow_data.proofs.OpenBoxes.{first-tail}
+use Rattle.flow_list.specs.Data.{Bound, Edge, Flow, FlowsData, Item, Margin, Solid, Wall, Start, End, Atom, Row}
+use Rattle.flow_data.specs.Flows.{ended, flow_in, flow_of, item_of, no_flow, no_seam, seam_of, stack_of, started}
+use Rattle.flow_data.specs.Soundness.{IsSound, IsSoundFlow}
 use Rattle.flow_list.specs.ClonedEdges.{tops}
 use Rattle.flow_list.specs.Tokens.{Token, IsPlaceBefore, item_number, row_start}
 use Rattle.flow_list.specs.Strip.{strip_at, put, lay_all, begins}
 use Rattle.flow_list.specs.Column.{Column, Inner, room, Step}
 use Rattle.flow_list.specs.Rows.{all_rows, rows_to}
 use Rattle.flow_list.specs.RowHeights.{column_within}
-use Rattle.flow_list.specs.Stacks.{height_in_stack, stack_strip}
+use Rattle.flow_list.specs.Stacks.{height_in_stack, stack_extent, stack_strip}
 use Rattle.flow_list.specs.Placing.{Laid, laid_edges, RowLaid}
-use Rattle.flow_list.specs.Fragments.{column_made, continuing, fragment_of, laid_in_stack, laid_start, laid_to, row_fragments, stack_fragment, stack_laid, stop_of}
+use Rattle.flow_list.specs.Fragments.{column_made, fragment_of, laid_in_stack, laid_start, laid_to, row_fragments, stack_fragment, stack_laid, stop_of}
+use Rattle.flow_laws.specs.Holding.{items_before}
 use Rattle.flow_laws.specs.Progress.{contents_to}
 use Rattle.flow_laws.proofs.Places.{in-items, IsReached}
 use Rattle.flow_laws.proofs.HoldingColumns.{holds-at, ItemHolds, place-at, RowHolds}
 use Rattle.flow_laws.proofs.HoldingEnds.{column-ends, EndsFor, taken}
 use Rattle.flow_laws.proofs.HoldingRows.{flow-holds}
-use Rattle.piece_laws.specs.Nesting.{BoxesNest, continued_into, continued_out, Crossing, crossings, crossings_before, crossings_between, StackBoxesNest, walk_of_tree, walk_of_trees}
-use Rattle.piece_laws.proofs.Walking.{column-walk, of_laid}
-use Rattle.piece_laws.proofs.Stacks.{At, at-item, at-row, between-leads, between-once}
-use Rattle.piece_laws.proofs.Between.{Adds, adds-both, adds-none, crossed, head-adds, in-seams, Reaches, row-reaches, seam-reaches, tail-adds, to_head, to_tail}
+use Rattle.piece_laws.specs.Boxes.{BoxesHavePieces, HasPieces, StackHasPieces}
+use Rattle.piece_laws.specs.Nesting.{Crossing, crossings}
+use Rattle.piece_laws.proofs.Walking.{of_laid}
+use Rattle.piece_laws.proofs.Stacks.{At, at-item, at-row, none-last}
+use Rattle.piece_laws.proofs.Between.{Adds, adds-both, adds-none, head-adds, head-more, in-seams, Reaches, row-reaches, seam-reaches, tail-adds, to_head, to_tail}
+use Rattle.piece_laws.proofs.Pieces.{column-has}
 
 -- ---- a column
 
+before-le : (t : Token) → items_before t ≤ item_number t + 1
+before-le [] = omega arith
+before-le (k ∷ []) = omega arith
+before-le (k ∷ (j ∷ rest)) = omega arith
+
 module _ (d : FlowsData) (sound : IsSound d) (f : ℕ) (lt : f < length d.flows) where
-  abbrev pub here : Flow
+  abbrev here : Flow
   here = flow_of d f
 
-  abbrev pub rows : Inner
+  abbrev rows : Inner
   rows = rows_to d (length d.rows)
 
-  abbrev pub trees : RowLaid → List PlainTree
+  abbrev trees : RowLaid → List PlainTree
   trees = row_fragments d (length d.rows)
 
-  abbrev pub flow : IsSoundFlow d (flow_of d f)
+  abbrev flow : IsSoundFlow d (flow_of d f)
   flow = sound.flows f no_flow lt
 
   -- a place that a row leaves in a column is one
@@ -72,48 +79,29 @@ module _ (d : FlowsData) (sound : IsSound d) (f : ℕ) (lt : f < length d.flows)
         row-reaches d here flow rows t place (in-items d here t place) h s end e
         (leaves t place e.row e.from (room s h) s.item e.later e.item e.taken_from)
 
-    module _ (h : Option ℕ) where
-      abbrev pub until : Token
-      until = (column_made rows d here h t).end
+    column-pieces : (h : Option ℕ) → HasPieces here t (column_made rows d here h t).end (fragment_of trees rows d f here h t)
+    column-pieces h =
+        let c = column_made rows d here h t in
+        let lt = in-items d here t place in
+        let r = ends-reach h (stop_of rows d here t h) c.end (column-ends rows here t d h lt) in
+        let before = before-le t in
+        let later = r.later in
+        let past = r.past in
+        column-has d here flow t c.end (at-place t place lt) r.there
+        (laid_start d here t ++ laid_to rows d here t h (stop_of rows d here t h) c.end) r.crosses (omega arith) (omega arith)
+        trees f t c.end c.extent
 
-      abbrev pub laid : List Laid
-      laid = laid_start d here t ++ laid_to rows d here t h (stop_of rows d here t h) until
-
-      pub reaches : Reaches d here flow rows t place h (stop_of rows d here t h) until
-      reaches = ends-reach h (stop_of rows d here t h) until (column-ends rows here t d h (in-items d here t place))
-
-      pub at : At d here flow t
-      at = at-place t place (in-items d here t place)
-
-      -- what is laid crosses what stands between the places
-      pub crossed-is : crossings_between here t until ≡ crossed laid
-      crossed-is =
-          ap (drop (length (crossings_before here t))) (sym reaches.crosses)
-          ∙ drop_at (crossings_before here t) (crossed laid) (length (crossings_before here t)) refl
-
-      pub walk-is : (number : ℕ) → walk_of_tree (fragment_of trees rows d number here h t)
-          ≡ map continued_into (continuing here t)
-          ++ (crossings_between here t until ++ map continued_out (reverse (continuing here until)))
-      unfolding walk_of_tree walk_of_trees
-      walk-is number =
-          column-walk trees d (continuing here t) laid (reverse (continuing here until))
-          (between-once d here flow t until at reaches.there (crossed laid) reaches.crosses)
-          (between-leads d here flow t until at reaches.there (crossed laid) reaches.crosses)
-          ∙ ap (λ cs. map continued_into (continuing here t) ++ (cs ++ map continued_out (reverse (continuing here until))))
-          (sym crossed-is)
-
-pub made-within : (d : FlowsData) (f : Flow) (h : Option ℕ) (t : Token) →
+made-within : (d : FlowsData) (f : Flow) (h : Option ℕ) (t : Token) →
     column_made (all_rows d) d f h t ≡ column_within d f h t
 made-within d f None t = refl
 made-within d f (Some h) t = refl
 
-pub boxes-nest : (d : FlowsData) → IsSound d → (f : ℕ) → f < length d.flows → BoxesNest d f
+pub boxes-have-pieces : (d : FlowsData) → IsSound d → (f : ℕ) → f < length d.flows → BoxesHavePieces d f
 unfolding all_rows
-boxes-nest d sound f lt t h place =
-    walk-is d sound f lt t place h f
-    ∙ ap (λ (c : Column). map continued_into (continuing (flow_of d f) t)
-    ++ (crossings_between (flow_of d f) t c.end ++ map continued_out (reverse (continuing (flow_of d f) c.end))))
-    (made-within d (flow_of d f) h t)
+boxes-have-pieces d sound f lt t h place =
+    let P : Column → Type 0 = λ c. HasPieces (flow_of d f) t c.end
+    (fragment_of (row_fragments d (length d.rows)) (all_rows d) d f (flow_of d f) h t) in
+    subst P (made-within d (flow_of d f) h t) (column-pieces d sound f lt t place h)
 
 -- ---- a stack
 
@@ -157,35 +145,29 @@ module _ (d : FlowsData) (f : Flow) (flow : IsSoundFlow d f) (bound : Bound) whe
   abbrev laid_all : List Laid
   laid_all = laid_edges (strip_at (tops d f.opened) false) (seam_of f 0).head ++ stack_laid d bound f 0 end
 
-  all-adds : Adds (to_tail d f flow 0) laid_all (to_head d f flow end)
+  none-behind : to_head d f flow end ≡ to_tail d f flow end
+  none-behind =
+      sym (head-more d f flow end (omega arith))
+      ∙ ap (λ us. to_tail d f flow end ++ us)
+      (no-crossings (seam_of f end).head (none-last d f flow) (flow.seams end no_seam (in-seams d f flow end (omega arith))).head)
+      ∙ append-nil (to_tail d f flow end)
+
+  all-adds : Adds (to_tail d f flow 0) laid_all (to_tail d f flow end)
   all-adds =
       let e : 0 + end ≡ end = omega arith in
-      adds-both (to_tail d f flow 0) (to_head d f flow 0) (to_head d f flow end)
+      adds-both (to_tail d f flow 0) (to_head d f flow 0) (to_tail d f flow end)
       (laid_edges (strip_at (tops d f.opened) false) (seam_of f 0).head) (stack_laid d bound f 0 end)
       (head-adds d f flow (strip_at (tops d f.opened) false) 0 (omega arith))
-      (stack-adds 0 end (omega arith) ∙ ap (to_head d f flow) e)
+      (stack-adds 0 end (omega arith) ∙ ap (to_head d f flow) e ∙ none-behind)
 
-  all-is : crossed laid_all ≡ crossings (edges_of f)
-  all-is =
-      let none = no-crossings (seam_of f 0).tail (flow.seams 0 no_seam (in-seams d f flow 0 (omega arith))).tail
-      (first-tail d f flow (flat_map ended (seam_of f 0).tail) refl) in
-      let n = flow.seam_count in
-      ap (λ us. us ++ crossed laid_all) (sym none) ∙ all-adds
-      ∙ ap (λ ss. crossings (flat_map (λ (s : Seam). s.tail ++ s.head) ss)) (take_all (end + 1) f.seams (omega arith))
-
-pub stack-boxes-nest : (d : FlowsData) → IsSound d → (s : ℕ) → s < length d.stacks → StackBoxesNest d s
-unfolding stack_fragment walk_of_tree walk_of_trees
-stack-boxes-nest d sound s lt =
+pub stack-has-pieces : (d : FlowsData) → IsSound d → (s : ℕ) → s < length d.stacks → StackHasPieces d s
+unfolding stack_fragment
+stack-has-pieces d sound s lt =
     let number = (stack_of d s).flow in
     let f = flow_of d number in
     let flow = sound.flows number no_flow (sound.stacks s lt).flow in
     let bound = (stack_of d s).bound in
     let n = length f.items in
-    let from = at-item d f flow 0 (in-seams d f flow 0 (omega arith)) in
-    let to = at-row d f flow n 0 [] (in-seams d f flow n (omega arith)) in
-    let all = laid_all d f flow bound in
-    let adds = all-adds d f flow bound in
-    column-walk (row_fragments d (suc (length d.rows))) d f.opened all (reverse (open_at f n))
-    (between-once d f flow row_start (n ∷ row_start) from to (crossed all) adds)
-    (between-leads d f flow row_start (n ∷ row_start) from to (crossed all) adds)
-    ∙ ap (λ cs. map continued_into f.opened ++ (cs ++ map continued_out (reverse (open_at f n)))) (all-is d f flow bound)
+    column-has d f flow row_start (n ∷ []) (at-item d f flow 0 (in-seams d f flow 0 (omega arith)))
+    (at-item d f flow n (in-seams d f flow n (omega arith))) (laid_all d f flow bound) (all-adds d f flow bound)
+    (omega arith) (omega arith) (row_fragments d (suc (length d.rows))) number row_start (n ∷ []) (stack_extent d bound f)

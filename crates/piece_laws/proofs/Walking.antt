@@ -137,7 +137,7 @@ behind-few m b (p ∷ ps) =
     cond_both (closes_here b p) ps (behind_box b ps) (λ qs. count_of m (boxes_of qs) ≤ count_of m (boxes_of (p ∷ ps)))
     (λ _. omega (arith, boxes-cons m p ps)) (λ _. omega (arith, behind-few m b ps, boxes-cons m p ps))
 
--- In what is placed behind its start box b ends: what stands in it leaves no box open, and what is behind its end leads on.
+-- In what is placed after its start box b ends: what stands in it leaves no box open, and what is after its end leads on.
 record Ends (b : ℕ) (inner outer : List ℕ) (ps : List Placed) (after : List ℕ) : Type 0 where
   bottom : is_some (bottom_of b ps) ≡ true
   inside : Leads inner (flat_map of_placed (inside_box b ps)) []
@@ -214,7 +214,7 @@ ends-or-stays b (atom_at k y ∷ ps) inner outer after none new h =
 ends-or-stays b (row_at r y ∷ ps) inner outer after none new h =
     past b inner inner outer (row_at r y) ps after refl (λ cs to l. l) (ends-or-stays b ps inner outer after none new h)
 
--- the walk of a piece and of the trees behind it, from that of what stands in it
+-- the walk of a piece and of the trees after it, from that of what stands in it and of those
 piece-walk : (b : ℕ) (ps : List Placed) (after : List ℕ) (a z : List Crossing) → EndsOrStays b [] [] ps after →
     ((to : List ℕ) → Leads [] (flat_map of_placed (inside_box b ps)) to →
     a ≡ flat_map of_placed (inside_box b ps) ++ map continued_out to) →

@@ -1,16 +1,14 @@
--- Where the pieces of boxes end in a column, and how they stand one in another: the column's tree is walked, into each piece
--- and out of it again (CSS Fragmentation 3, section 2: a box that breaks has a fragment in each column that holds some of it).
-use Rattle.std.specs.Prelude.{◌≡◌, ℕ, ◌+◌, Bool, true, false, List, [], ◌∷◌, ◌++◌, drop, flat_map, is_some, length, map, Option, reverse, take}
+-- How the pieces of boxes stand one in another in a column: its tree is walked, into each piece and out of it again (CSS
+-- Fragmentation 3, section 2: a box that breaks has a fragment in each column that holds some of it).
+use Rattle.std.specs.Prelude.{◌≡◌, ℕ, ◌+◌, Bool, true, false, List, [], ◌∷◌, ◌++◌, drop, flat_map, is_some, length, map, reverse, take}
 use Rattle.mc_base.specs.PlainTree.{PlainTree, PlainTrees, atom as atom_tree, piece, row_piece, column as column_tree, no_trees, more_trees}
-use Rattle.flow_list.specs.Data.{Edge, Flow, FlowsData, Seam, Margin, Solid, Wall, Start, End}
-use Rattle.flow_data.specs.Flows.{flow_of, open_at, seam_of, stack_of}
-use Rattle.flow_data.specs.Soundness.{edges_of}
-use Rattle.flow_list.specs.Tokens.{Token, IsPlaceBefore}
-use Rattle.flow_list.specs.Rows.{all_rows}
-use Rattle.flow_list.specs.RowHeights.{column_within}
-use Rattle.flow_list.specs.Fragments.{continuing, fragment_of, row_fragments, stack_fragment}
+use Rattle.flow_list.specs.Data.{Edge, Flow, Seam, Margin, Solid, Wall, Start, End}
+use Rattle.flow_data.specs.Flows.{seam_of}
+use Rattle.flow_list.specs.Tokens.{Token}
+use Rattle.flow_list.specs.Fragments.{continuing}
 
--- A crossing: into a box, which starts there or continues, or out of it, where it ends or continues later.
+-- A crossing: into a box, which starts there or continues from an earlier column, or out of it, where it ends or continues in a
+-- later one.
 pub data Crossing : Type 0 where
   into : (box : ℕ) (starts : Bool) → Crossing
   out_of : (box : ℕ) (ends : Bool) → Crossing
@@ -59,23 +57,10 @@ continued_into b = into b false
 abbrev pub continued_out : ℕ → Crossing
 continued_out b = out_of b false
 
--- the fragment of the column of flow number f that begins at t, at a height or without end
-abbrev pub column_tree_of : FlowsData → (f : ℕ) → Option ℕ → Token → PlainTree
-column_tree_of d f h t = fragment_of (row_fragments d (length d.rows)) (all_rows d) d f (flow_of d f) h t
-
--- The law, of flow f of sound data. The walk of a column's tree goes into the boxes that continue there from an earlier column,
--- the outermost first; then it crosses the starts and ends of boxes between the column's place and its end, in order; then it
--- goes out of the boxes that continue in the next column, the innermost first. So a piece has a bottom exactly where its box ends
--- in the column, and stands in the piece of the innermost of the boxes that its box stands in.
-abbrev pub BoxesNest : FlowsData → (f : ℕ) → Type 0
-BoxesNest d f = (t : Token) (h : Option ℕ) → IsPlaceBefore d (flow_of d f) t →
-    let u = (column_within d (flow_of d f) h t).end in
-    walk_of_tree (column_tree_of d f h t) ≡ map continued_into (continuing (flow_of d f) t)
-    ++ (crossings_between (flow_of d f) t u ++ map continued_out (reverse (continuing (flow_of d f) u)))
-
--- The same of the tree of stack s, which has all the edges of its flow.
-abbrev pub StackBoxesNest : FlowsData → (s : ℕ) → Type 0
-StackBoxesNest d s =
-    let f = flow_of d (stack_of d s).flow in
-    walk_of_tree (stack_fragment d s) ≡ map continued_into f.opened
-    ++ (crossings (edges_of f) ++ map continued_out (reverse (open_at f (length f.items))))
+-- In this tree the pieces of what stands between places t and u of flow f stand one in another as their boxes do. Its walk goes
+-- into the boxes that continue at t, the outermost first; then it crosses the starts and ends of boxes between the places, in
+-- order; then it goes out of the boxes that continue at u, the innermost first. So each piece stands in that of the innermost box
+-- around its own box, and a piece is left with a bottom exactly where its box ends.
+abbrev pub Nest : Flow → (t u : Token) → PlainTree → Type 0
+Nest f t u tree = walk_of_tree tree ≡ map continued_into (continuing f t)
+    ++ (crossings_between f t u ++ map continued_out (reverse (continuing f u)))

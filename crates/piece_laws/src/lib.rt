@@ -10,10 +10,9 @@ ghost use Rattle.flow_data.specs.declared.data.FlowsData.{FlowsData};
 ghost use Rattle.flow_list.specs.Column.{Inner};
 ghost use Rattle.flow_list.specs.Tokens.{Token};
 ghost use Rattle.flow_data.specs.Soundness.{IsSound};
-ghost use Rattle.piece_laws.specs.Boxes.{BoxesHavePieces};
+ghost use Rattle.piece_laws.specs.Boxes.{BoxesHavePieces, StackHasPieces};
 ghost use Rattle.piece_laws.specs.Choice.{ColumnIsChosen};
 ghost use Rattle.piece_laws.specs.Lines.{LinesAreNodes};
-ghost use Rattle.piece_laws.specs.Nesting.{BoxesNest, StackBoxesNest};
 
 /// A column's items are those up to the next forced break or the end. Its stop is the first of them that needs more than the
 /// height. Without one the column ends after its last item. With one it ends at a break where it may end: no such break has a
@@ -29,19 +28,12 @@ pub fn lines_are_nodes()
     ensures { (d : FlowsData) → IsSound d → LinesAreNodes d }
 {}
 
-/// In sound flows the pieces of boxes in the tree of a column are one for each box that continues there from an earlier column,
-/// and then one for each box that starts between the column's place and its end, in order, and each says which of both it is.
-/// No box has two.
+/// In sound flows the tree of a column has one piece for each box that continues there from an earlier column, and then one for
+/// each box that starts between the column's place and its end, in order. Each piece says whether its box starts there, and has
+/// a bottom exactly where its box ends there. No box has two. The pieces stand one in another as their boxes do: a walk of the
+/// tree, into each piece and out of it, passes the starts and ends of boxes in the order of the flow. This holds of the columns
+/// of each flow, from each place on, and of the tree of each stack.
 pub fn boxes_have_pieces()
-    ensures { (d : FlowsData) → IsSound d → (r : ℕ) → r < length d.rows → BoxesHavePieces d r }
-{}
-
-/// In sound flows the pieces of boxes stand one in another as their boxes do, and a piece has a bottom exactly where its box ends
-/// in the column. A walk of a column's tree, into each piece and out of it, goes into the boxes that continue there from an
-/// earlier column, then crosses the starts and ends of boxes between the column's place and its end, in the order of the flow,
-/// and then goes out of the boxes that continue in the next column. This holds of the columns of each flow, from each place on,
-/// and of the tree of each stack.
-pub fn boxes_nest()
-    ensures columns { (d : FlowsData) → IsSound d → (f : ℕ) → f < length d.flows → BoxesNest d f }
-    ensures stacks { (d : FlowsData) → IsSound d → (s : ℕ) → s < length d.stacks → StackBoxesNest d s }
+    ensures columns { (d : FlowsData) → IsSound d → (f : ℕ) → f < length d.flows → BoxesHavePieces d f }
+    ensures stacks { (d : FlowsData) → IsSound d → (s : ℕ) → s < length d.stacks → StackHasPieces d s }
 {}
