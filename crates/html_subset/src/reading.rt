@@ -16,7 +16,6 @@ ghost use Rattle.html_subset.specs.OneTree.{IsTheOneOf};
 ghost use Rattle.html_subset.specs.WellFormed.{IsWellFormed};
 
 use crate::building::{Builder, Finished};
-use crate::cursor::Cursor;
 use crate::facts::{construct_of, late_of};
 use crate::fault::ReadError;
 use crate::tokens::token_at;
@@ -24,6 +23,7 @@ use html_grammar::{Dom, DomNode, Fault, NodeKind, Place};
 use mc_base::{Found, Input, LimitName, List, Refusal, Rule, nonzero_len};
 use std::alloc::Global;
 use std::str;
+use text_cursor::Cursor;
 
 /// What reading comes to: the nodes, and the first construct that isn't laid out.
 #[derive(Drop)]

@@ -7,10 +7,10 @@ ghost use Rattle.html_grammar.specs.Lexing as lex;
 ghost use Rattle.html_grammar.specs.References.{named_in, named_character};
 
 use crate::characters::{Class, begins, begins_with, word};
-use crate::cursor::Cursor;
 use crate::names::same;
 use html_grammar::Meaning;
 use std::alloc::{AllocError, Global};
+use text_cursor::Cursor;
 
 /// A number with one more digit, cut at one above the greatest character.
 fn grown(value: u32, radix: u32, digit: char) -> u32

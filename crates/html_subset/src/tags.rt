@@ -5,13 +5,13 @@ ghost use Rattle.html_grammar.specs.Lexing as lex;
 ghost use Rattle.html_subset.specs.Gives.{Gives};
 
 use crate::characters::{Class, begins, begins_with, key, offset, skip, tag_name};
-use crate::cursor::Cursor;
 use crate::fault::ReadError;
 use crate::values::assigned_at;
 use html_grammar::{Attribute, Fault, ReadAttribute, ReadAttributes, Token};
 use mc_base::List;
 use std::alloc::{AllocError, Global};
 use std::collections::BTreeMap;
+use text_cursor::Cursor;
 
 /// An attribute, in a tag that begins at a byte.
 #[tactic(auto, unfolding(html_grammar::specs::Lexing::attribute_at))]

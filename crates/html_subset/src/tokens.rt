@@ -10,7 +10,6 @@ ghost use Rattle.html_subset.specs.Gives.{Gives, Fails};
 use crate::characters::{
     Class, begins, begins_folded, begins_text, begins_with, offset, past, push, skip, tag_name,
 };
-use crate::cursor::Cursor;
 use crate::fault::ReadError;
 use crate::names::{is_raw, same};
 use crate::references::meaning;
@@ -18,6 +17,7 @@ use crate::tags::{attributes, end_tag, is_doubled};
 use html_grammar::{Fault, Meaning, Piece, Place, ReadAttributes, Spelled, Tag, Token};
 use mc_base::Text;
 use std::alloc::{AllocError, Global};
+use text_cursor::Cursor;
 
 /// Goes on to where these characters come, or to the end.
 fn find_text(cursor: &mut Cursor, wanted: &[u8])

@@ -7,12 +7,12 @@ ghost use Rattle.html_subset.specs.Classes.{test_of};
 ghost use Rattle.html_subset.specs.Gives.{Gives};
 
 use crate::characters::{Class, begins, begins_with, offset, passes, push};
-use crate::cursor::Cursor;
 use crate::fault::ReadError;
 use crate::references::meaning;
 use html_grammar::{Fault, Meaning, Place, ReadAttribute, Value};
 use mc_base::Text;
 use std::alloc::{AllocError, Global};
+use text_cursor::Cursor;
 
 /// The first of two places that come one after the other.
 fn first_of(first: Option<u64>, then: u64) -> Option<u64>

@@ -1,6 +1,6 @@
 use Rattle.std.proofs.Common.{chars}
-use Rattle.html_subset.proofs.PlaceLemmas.{behind_none, behind_plain, behind_last, behind_return, behind_pair}
-use Rattle.html_subset.proofs.cursor.behind.Goals as goal
+use Rattle.text_cursor.proofs.PlaceLemmas.{behind_none, behind_plain, behind_last, behind_return, behind_pair}
+use Rattle.text_cursor.proofs.cursor.behind.Goals as goal
 
 pub returns-in_default-clause-places : goal.returns-in_default-clause-places
 returns-in_default-clause-places c = behind_none (chars c.args.rest.now) c.args.at c.in_default.ensures.value

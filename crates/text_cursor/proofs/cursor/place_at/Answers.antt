@@ -1,6 +1,6 @@
 use Rattle.std.proofs.Common.{sym, chars}
-use Rattle.html_subset.proofs.PlaceLemmas.{first_none, first_feed, first_plain}
-use Rattle.html_subset.proofs.cursor.place_at.Goals as goal
+use Rattle.text_cursor.proofs.PlaceLemmas.{first_none, first_feed, first_plain}
+use Rattle.text_cursor.proofs.cursor.place_at.Goals as goal
 
 pub returns-in_err-first : goal.returns-in_err-first
 returns-in_err-first c = rw c.from_residual.ensures (sym (first_none (chars c.args.rest.now) c.args.at c.in_err-first.ensures.value))

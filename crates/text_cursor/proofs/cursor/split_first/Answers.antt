@@ -1,7 +1,7 @@
 use Rattle.std.proofs.Common.{◌≡◌, ◌+◌, ◌++◌, length, ap, ◌∙◌, length-append}
 use Rattle.std.specs.Prelude.{encode_utf8}
 use Rattle.std.proofs.lemmas.Str.{chars_past_char, length-encode}
-use Rattle.html_subset.proofs.cursor.split_first.Goals as goal
+use Rattle.text_cursor.proofs.cursor.split_first.Goals as goal
 
 pub returns-clause-value : goal.returns-clause-value
 returns-clause-value c =

@@ -1,6 +1,6 @@
 use Rattle.std.proofs.Common.{chars}
-use Rattle.css_tokens.proofs.PlaceLemmas.{all_none, all_marked, all_plain}
-use Rattle.css_tokens.proofs.cursor.Cursor.new.Goals as goal
+use Rattle.text_cursor.proofs.PlaceLemmas.{all_none, all_marked, all_plain}
+use Rattle.text_cursor.proofs.cursor.Cursor.new.Goals as goal
 
 pub returns-in_default : goal.returns-in_default
 returns-in_default c = all_none (chars c.args.text.now) c.in_default.ensures.value
