@@ -10,7 +10,6 @@ ghost use Rattle.html_subset.specs.Classes.{test_of};
 use mc_base::Text;
 use std::alloc::{AllocError, Global};
 use text_cursor::Cursor;
-
 pub use text_cursor::{begins, offset, push};
 
 /// A kind of characters.
@@ -20,13 +19,13 @@ pub enum Class {
     Space,
     /// An ASCII letter, with which a tag's name begins.
     Letter,
-    /// What a tag's name has behind its first letter.
+    /// What a tag's name has after its first letter.
     Name,
     /// What an attribute's name has.
     Key,
     /// What a value without quotes has.
     Bare,
-    /// What stands behind the name in the end tag of raw text.
+    /// What stands after the name in the end tag of raw text.
     PastName,
     /// An ASCII letter or digit.
     Word,
@@ -209,7 +208,7 @@ pub fn begins_folded(cursor: &Cursor, wanted: &[u8]) -> bool
     true
 }
 
-/// What stands behind the next characters, so many of them.
+/// What stands after the next characters, so many of them.
 pub fn past<'a>(cursor: &Cursor<'a>, count: usize) -> Cursor<'a>
     ensures { result ≡ drop count cursor.now }
 {

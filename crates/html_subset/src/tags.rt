@@ -32,7 +32,7 @@ fn attribute_at<'a>(
     assigned_at(alloc, size, tag, at, name, rest)
 }
 
-/// The next attribute, or None behind the tag's end.
+/// The next attribute, or None after the tag's end.
 #[tactic(auto, unfolding(html_grammar::specs::Lexing::piece_at))]
 fn piece_at<'a>(
     alloc: Global,
@@ -135,7 +135,7 @@ pub fn is_doubled(alloc: Global, attributes: &[Attribute]) -> Result<bool, Alloc
     Ok(false)
 }
 
-/// An end tag behind its `</`.
+/// An end tag after its `</`.
 #[tactic(auto, unfolding(html_grammar::specs::Lexing::end_at))]
 pub fn end_tag<'a>(
     alloc: Global,
