@@ -14,6 +14,34 @@ use Rattle.flow_list.specs.Placing.{gap_of, behind_gap, gap_height, Placed, open
 use Rattle.flow_list.specs.Placing.{gap_places, placed_item, laid_height, places_from}
 use Rattle.flow_list.specs.Fragments.{closes_here, inside_box, behind_box, bottom_of, trees_of, all_trees, continued_from}
 
+-- ---- what is left is no longer: after a gap, before the end of a box and after it
+
+pub behind-length : (xs : List Laid) → length (behind_gap xs) ≤ length xs
+behind-length [] = omega arith
+behind-length (x ∷ xs) = go (ends_gap x) (behind-length xs)
+  where
+    go : (b : Bool) → length (behind_gap xs) ≤ length xs → length (cond b (x ∷ xs) (behind_gap xs)) ≤ length (x ∷ xs)
+    go true le = omega arith
+    go false le = omega arith
+
+pub inside-length : (b : ℕ) (ps : List Placed) → length (inside_box b ps) ≤ length ps
+inside-length b [] = omega arith
+inside-length b (p ∷ ps) = go (closes_here b p) (inside-length b ps)
+  where
+    go : (e : Bool) → length (inside_box b ps) ≤ length ps → length (cond e [] (p ∷ inside_box b ps)) ≤ length (p ∷ ps)
+    go true le = omega arith
+    go false le = omega arith
+
+pub behind-box-length : (b : ℕ) (ps : List Placed) → length (behind_box b ps) ≤ length ps
+behind-box-length b [] = omega arith
+behind-box-length b (p ∷ ps) = go (closes_here b p) (behind-box-length b ps)
+  where
+    go : (e : Bool) → length (behind_box b ps) ≤ length ps → length (cond e ps (behind_box b ps)) ≤ length (p ∷ ps)
+    go true le = omega arith
+    go false le = omega arith
+
+-- ---- what is counted
+
 -- With what each atom counts and each row.
 module _ (X : Type 0) (of_atom : ℕ → List X) (of_row : RowLaid → List X) where
   abbrev pub of_placed : Placed → List X
@@ -68,14 +96,6 @@ module _ (X : Type 0) (of_atom : ℕ → List X) (of_row : RowLaid → List X) w
       go true e = refl
       go false e = append_assoc (of_laid x) (flat_map of_laid (gap_of xs)) (flat_map of_laid (behind_gap xs))
           ∙ ap (λ us. of_laid x ++ us) e
-
-  behind-length : (xs : List Laid) → length (behind_gap xs) ≤ length xs
-  behind-length [] = omega arith
-  behind-length (x ∷ xs) = go (ends_gap x) (behind-length xs)
-    where
-      go : (b : Bool) → length (behind_gap xs) ≤ length xs → length (cond b (x ∷ xs) (behind_gap xs)) ≤ length (x ∷ xs)
-      go true le = omega arith
-      go false le = omega arith
 
   places-keep : (n y : ℕ) (xs : List Laid) → length xs < n → flat_map of_placed (places_from n y xs) ≡ flat_map of_laid xs
   unfolding places_from
@@ -142,22 +162,6 @@ module _ (X : Type 0) (of_atom : ℕ → List X) (of_row : RowLaid → List X) w
       (flat_map of_placed (behind_box b ps)) ∙ ap (λ us. of_atom k ++ us) (box-splits b ps)
   box-splits b (row_at r y ∷ ps) = append_assoc (of_row r) (flat_map of_placed (inside_box b ps))
       (flat_map of_placed (behind_box b ps)) ∙ ap (λ us. of_row r ++ us) (box-splits b ps)
-
-  inside-length : (b : ℕ) (ps : List Placed) → length (inside_box b ps) ≤ length ps
-  inside-length b [] = omega arith
-  inside-length b (p ∷ ps) = go (closes_here b p) (inside-length b ps)
-    where
-      go : (e : Bool) → length (inside_box b ps) ≤ length ps → length (cond e [] (p ∷ inside_box b ps)) ≤ length (p ∷ ps)
-      go true le = omega arith
-      go false le = omega arith
-
-  behind-box-length : (b : ℕ) (ps : List Placed) → length (behind_box b ps) ≤ length ps
-  behind-box-length b [] = omega arith
-  behind-box-length b (p ∷ ps) = go (closes_here b p) (behind-box-length b ps)
-    where
-      go : (e : Bool) → length (behind_box b ps) ≤ length ps → length (cond e ps (behind_box b ps)) ≤ length (p ∷ ps)
-      go true le = omega arith
-      go false le = omega arith
 
   trees-keep : (read : PlainTrees → List X) (columns : RowLaid → List PlainTree) → Reads read columns → (n : ℕ) (ps : List Placed)
       → length ps ≤ n → read (plain_trees (trees_of columns n ps)) ≡ flat_map of_placed ps
