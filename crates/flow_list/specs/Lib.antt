@@ -10,6 +10,7 @@ pub mod Entries
 pub mod FileFlows
 pub mod Folds
 pub mod Fragments
+pub mod Keys
 pub mod Looks
 pub mod Placing
 pub mod Ranges

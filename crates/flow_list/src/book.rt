@@ -5,7 +5,9 @@ ghost use Rattle.std.specs.Option.{option_copied};
 ghost use Rattle.flow_list.specs.Certificate.{stands_in};
 ghost use Rattle.flow_list.specs.Entries.{entry_for, uses_in};
 
+use crate::place::Place;
 use crate::range::Range;
+use indexmap::IndexMap;
 use mc_base::{List, Token, Units};
 use std::alloc::Global;
 use std::marker::Model;
@@ -22,16 +24,20 @@ pub struct SizeEntry {
 /// A book of sizes. Contracts see its entries, in the order in which they were entered.
 #[derive(Drop)]
 pub struct Book {
-    entries: Vec<SizeEntry>,
+    sizes: IndexMap<Place, SizeEntry>,
 }
 
 impl Model for Book {
-    ghost use Rattle.std.specs.Prelude.{List as Items};
+    ghost use Rattle.std.specs.Prelude.{◌≡◌, List as Items, map};
+    ghost use Rattle.indexmap.specs.IndexMap.{keys, values};
+    ghost use Rattle.flow_list.specs.Entries.{place_of};
     ghost use Rattle.flow_list.specs.declared.book.SizeEntry.{SizeEntry as Entry};
 
     ghost Value = { Items Entry };
 
-    ghost view = { λ b. b.entries.items };
+    ghost view = { λ b. values b.sizes };
+
+    ghost invariant = { λ b. keys b.sizes ≡ map place_of (values b.sizes) };
 }
 
 impl Book {
@@ -40,7 +46,7 @@ impl Book {
         ensures { result ≡ [] }
     {
         Book {
-            entries: Vec::new(alloc),
+            sizes: IndexMap::new(alloc),
         }
     }
 
@@ -48,9 +54,11 @@ impl Book {
     pub fn find(&self, row: u32, from: &Token) -> Option<&SizeEntry>
         ensures { option_copied result ≡ entry_for self.now (row, from.now) }
     {
-        self.entries
-            .iter()
-            .find(|entry| entry.row == row && entry.from.cmp(from).is_eq())
+        let place = Place {
+            row,
+            from: from.copy(),
+        };
+        self.sizes.get(&place)
     }
 
     /// Adds the entry of a row and a place that has none, at the end. Want of memory hands the entry back, and the book is
@@ -61,8 +69,12 @@ impl Book {
         ensures err { OnErr result (self.new ≡ self.old) }
         ensures back { IfErr result (λ back. back ≡ entry) }
     {
-        if let Err(failed) = self.entries.push(entry) {
-            return Err(failed.value);
+        let place = Place {
+            row: entry.row,
+            from: entry.from.copy(),
+        };
+        if let Err(failed) = self.sizes.insert(place, entry) {
+            return Err(failed.value.1);
         }
         Ok(())
     }
@@ -71,7 +83,7 @@ impl Book {
     pub fn count(&self) -> u64
         ensures { result ≡ length self.now }
     {
-        self.entries.len() as u64
+        self.sizes.len() as u64
     }
 
     /// Entry `i`, counted from 0.
@@ -79,6 +91,6 @@ impl Book {
         requires { i < length self.now }
         ensures { slice_get self.now i ≡ Some result.now }
     {
-        &self.entries[i as usize]
+        &self.sizes[i as usize]
     }
 }

@@ -12,6 +12,7 @@ mod build;
 mod flat_row;
 mod flows;
 mod laid;
+mod place;
 mod range;
 mod read;
 mod tally;
