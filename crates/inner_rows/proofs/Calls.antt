@@ -1,5 +1,5 @@
 -- Calls one after another: what the book is after both, and what is kept stays true.
-use Rattle.std.proofs.Common.{◌≡◌, Bool, true, List, [], ◌∷◌, ◌++◌, map, refl, sym, ◌∙◌, ap, append_assoc, All}
+use Rattle.std.proofs.Common.{◌≡◌, Bool, true, false, List, [], ◌∷◌, ◌++◌, map, refl, sym, ◌∙◌, ap, append_assoc, All}
 use Rattle.std.specs.Prelude.{ℕ, ◌||◌}
 use Rattle.std.specs.List.{list_any}
 use Rattle.std.proofs.lemmas.List.{append-nil}
@@ -56,7 +56,8 @@ stands-longer a b u longer there =
 
 pub all-stand-longer : (a b : List SizeEntry) (us : List Use) → Extends a b → AllStand (uses_in a) us → AllStand (uses_in b) us
 all-stand-longer a b us longer there =
-    All-weaker (λ u. stands_in (uses_in b) u ≡ true) (λ u. stands-longer a b u longer) us there
+    All-weaker (λ u. stands_in (uses_in a) u ≡ true) (λ u. stands_in (uses_in b) u ≡ true)
+    (λ u. stands-longer a b u longer) us there
 
 -- a fill that is kept stays true where the book and the kept nodes grow
 pub kept-fill-stays : (d : FlowsData) (b c : List SizeEntry) (p q : Nodes) (r : ℕ) (from : Token) (h : ℕ) (out : Filled) →
