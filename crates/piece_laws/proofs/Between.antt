@@ -1,5 +1,6 @@
 -- What is laid in a column crosses the starts and ends of boxes between its place and its end, in order.
-use Rattle.std.proofs.Common.{◌≡◌, ℕ, zero, suc, ◌+◌, ◌-◌, ◌<◌, ◌≤◌, ◌==◌, Bool, true, false, cond, not, ◌||◌, ◌&&◌, List, [], ◌∷◌, ◌++◌, length, Option, Some, None, refl, sym, subst, ◌∙◌, ap, arith, append_assoc}
+use Rattle.std.proofs.Common.{◌≡◌, ℕ, zero, suc, ◌+◌, ◌-◌, ◌<◌, ◌≤◌, ◌==◌, Bool, true, false, cond, not, ◌||◌, ◌&&◌, List, []}
+use Rattle.std.proofs.Common.{◌∷◌, ◌++◌, length, Option, Some, None, refl, sym, subst, ◌∙◌, ap, arith, append_assoc}
 use Rattle.std.specs.Prelude.{nat_lt, is_some}
 use Rattle.std.specs.List.{flat_map}
 use Rattle.std.proofs.lemmas.Bool.{cond_both}
@@ -14,7 +15,8 @@ use Rattle.flow_list.specs.Tokens.{Token, row_start, item_number, within, IsPlac
 use Rattle.flow_list.specs.Strip.{Strip, strip_at, put, lay, lay_all}
 use Rattle.flow_list.specs.Column.{Inner, is_forced, Step, height_of, strip_behind, start_strip, room}
 use Rattle.flow_list.specs.Placing.{Laid, laid_edge, laid_edges, margin, solid}
-use Rattle.flow_list.specs.Fragments.{laid_item, laid_items, laid_start, laid_before, laid_filled, filled_row, strip_after, strip_filled, fills_item, laid_to}
+use Rattle.flow_list.specs.Fragments.{laid_item, laid_items, laid_start, laid_before, laid_filled, filled_row, strip_after}
+use Rattle.flow_list.specs.Fragments.{strip_filled, fills_item, laid_to}
 use Rattle.flow_laws.specs.Holding.{items_before}
 use Rattle.flow_laws.proofs.HoldingEnds.{EndsAtSeam, EndsInRow}
 use Rattle.piece_laws.specs.Nesting.{Crossing, crossing_at, crossings, crossings_before, edges_before}

@@ -1,5 +1,6 @@
 -- The trees of columns and of stacks of sound data have the pieces of their boxes.
-use Rattle.std.proofs.Common.{◌≡◌, ℕ, zero, suc, ◌+◌, ◌<◌, ◌≤◌, false, List, [], ◌∷◌, ◌++◌, length, Option, Some, None, refl, sym, subst, ◌∙◌, ap, arith, inl, inr}
+use Rattle.std.proofs.Common.{◌≡◌, ℕ, zero, suc, ◌+◌, ◌<◌, ◌≤◌, false, List, [], ◌∷◌, ◌++◌, length, Option, Some, None, refl, sym}
+use Rattle.std.proofs.Common.{subst, ◌∙◌, ap, arith, inl, inr}
 use Rattle.std.specs.List.{flat_map}
 use Rattle.std.proofs.lemmas.List.{append-nil}
 use Rattle.mc_base.specs.PlainTree.{PlainTree}
@@ -14,7 +15,8 @@ use Rattle.flow_list.specs.Rows.{all_rows, rows_to}
 use Rattle.flow_list.specs.RowHeights.{column_within}
 use Rattle.flow_list.specs.Stacks.{height_in_stack, stack_extent, stack_strip}
 use Rattle.flow_list.specs.Placing.{Laid, laid_edges, RowLaid}
-use Rattle.flow_list.specs.Fragments.{column_made, fragment_of, laid_in_stack, laid_start, laid_to, row_fragments, stack_fragment, stack_laid, stop_of}
+use Rattle.flow_list.specs.Fragments.{column_made, fragment_of, laid_in_stack, laid_start, laid_to, row_fragments, stack_fragment}
+use Rattle.flow_list.specs.Fragments.{stack_laid, stop_of}
 use Rattle.flow_laws.specs.Holding.{items_before}
 use Rattle.flow_laws.specs.Progress.{contents_to}
 use Rattle.flow_laws.proofs.Places.{in-items, IsReached}
@@ -25,7 +27,8 @@ use Rattle.piece_laws.specs.Boxes.{BoxesHavePieces, HasPieces, StackHasPieces}
 use Rattle.piece_laws.specs.Nesting.{Crossing, crossings}
 use Rattle.piece_laws.proofs.Walking.{of_laid}
 use Rattle.piece_laws.proofs.Stacks.{At, at-item, at-row, none-last}
-use Rattle.piece_laws.proofs.Between.{Adds, adds-both, adds-none, head-adds, head-more, in-seams, Reaches, row-reaches, seam-reaches, tail-adds, to_head, to_tail}
+use Rattle.piece_laws.proofs.Between.{Adds, adds-both, adds-none, head-adds, head-more, in-seams, Reaches, row-reaches}
+use Rattle.piece_laws.proofs.Between.{seam-reaches, tail-adds, to_head, to_tail}
 use Rattle.piece_laws.proofs.Pieces.{column-has}
 
 -- ---- a column

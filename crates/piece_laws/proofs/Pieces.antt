@@ -1,10 +1,12 @@
 -- A column in which is laid what stands between two places of a sound flow has the pieces of its boxes.
-use Rattle.std.proofs.Common.{◌≡◌, ℕ, ◌+◌, ◌-◌, ◌<◌, ◌≤◌, Bool, true, false, List, [], ◌∷◌, ◌++◌, length, map, take, drop, refl, sym, subst, ◌∙◌, ap, arith, reverse}
+use Rattle.std.proofs.Common.{◌≡◌, ℕ, ◌+◌, ◌-◌, ◌<◌, ◌≤◌, Bool, true, false, List, [], ◌∷◌, ◌++◌, length, map, take, drop, refl}
+use Rattle.std.proofs.Common.{sym, subst, ◌∙◌, ap, arith, reverse}
 use Rattle.std.specs.Prelude.{is_some}
 use Rattle.std.specs.List.{flat_map, AllByRecursion as Each}
 use Rattle.std.proofs.lemmas.List.{append-nil, append_cancel_left, drop-take, drop_at, take-append-drop, take-take}
 use Rattle.std.proofs.lemmas.List.Concat.{flat_map-append}
-use Rattle.mc_base.specs.PlainTree.{PlainTree, PlainTrees, atom as atom_tree, piece, row_piece, column as column_tree, no_trees, more_trees, plain_trees}
+use Rattle.mc_base.specs.PlainTree.{PlainTree, PlainTrees, atom as atom_tree, piece, row_piece, column as column_tree, no_trees}
+use Rattle.mc_base.specs.PlainTree.{more_trees, plain_trees}
 use Rattle.flow_list.specs.Data.{Flow, FlowsData, Seam}
 use Rattle.flow_data.specs.Flows.{ended, ends_in, is_among, started, starts_in}
 use Rattle.flow_data.specs.Soundness.{count_of, IsSoundFlow}
@@ -16,7 +18,8 @@ use Rattle.flow_list.specs.Fragments.{all_trees, continued_from, continuing}
 use Rattle.flow_list.proofs.PlaceBounds.{Each-append}
 use Rattle.flow_laws.specs.Holding.{items_before}
 use Rattle.piece_laws.specs.Boxes.{box_piece, BoxPiece, ends_between, HasPieces, pieces_in_tree, pieces_in_trees, starts_between}
-use Rattle.piece_laws.specs.Nesting.{continued_into, continued_out, Crossing, crossings_before, crossings_between, into, out_of, walk_of_tree, walk_of_trees}
+use Rattle.piece_laws.specs.Nesting.{continued_into, continued_out, Crossing, crossings_before, crossings_between, into, out_of}
+use Rattle.piece_laws.specs.Nesting.{walk_of_tree, walk_of_trees}
 use Rattle.piece_laws.proofs.Leads.{entered, left}
 use Rattle.piece_laws.proofs.Walking.{column-walk}
 use Rattle.piece_laws.proofs.Between.{Adds, crossed}

@@ -1,6 +1,7 @@
 -- The boxes that are open at each place of a sound flow, the innermost last, are those to which the starts and ends of boxes
 -- before it lead.
-use Rattle.std.proofs.Common.{◌≡◌, ℕ, zero, suc, ◌+◌, ◌<◌, ◌≤◌, ◌||◌, Bool, true, false, cond, List, [], ◌∷◌, ◌++◌, get_or, length, take, drop, refl, sym, subst, ◌∙◌, ap, arith, add-one, append_assoc, reverse}
+use Rattle.std.proofs.Common.{◌≡◌, ℕ, zero, suc, ◌+◌, ◌<◌, ◌≤◌, ◌||◌, Bool, true, false, cond, List, [], ◌∷◌, ◌++◌, get_or}
+use Rattle.std.proofs.Common.{length, take, drop, refl, sym, subst, ◌∙◌, ap, arith, add-one, append_assoc, reverse}
 use Rattle.std.specs.Prelude.{◌==◌, Contains, not, SomeIndex}
 use Rattle.std.specs.List.{flat_map}
 use Rattle.std.proofs.lemmas.List.{append-nil, drop_more, reverse-append, reverse-reverse, take-take, take_more}
@@ -18,7 +19,8 @@ use Rattle.flow_list.specs.ClonedEdges.{open_across}
 use Rattle.flow_list.specs.Fragments.{continuing}
 use Rattle.flow_laws.specs.Holding.{items_before}
 use Rattle.piece_laws.specs.Nesting.{Crossing, crossing_at, crossings, crossings_before}
-use Rattle.piece_laws.proofs.Leads.{entered, entered-edges, head-leads, left, left-edges, HeadLeads, Leads, leads-counts, leads-on, leads-rest, tail-leads, TailLeads}
+use Rattle.piece_laws.proofs.Leads.{entered, entered-edges, head-leads, left, left-edges, HeadLeads, Leads, leads-counts}
+use Rattle.piece_laws.proofs.Leads.{leads-on, leads-rest, tail-leads, TailLeads}
 
 -- ---- all but some of these
 

@@ -1,5 +1,6 @@
 -- The walk of a column's tree crosses what is placed there, and what is laid, in order; last it goes out of what stays open.
-use Rattle.std.proofs.Common.{◌≡◌, ℕ, zero, suc, ◌+◌, ◌<◌, ◌≤◌, ◌==◌, Bool, true, false, cond, List, [], ◌∷◌, ◌++◌, length, map, refl, sym, subst, ◌∙◌, ap, arith, append_assoc, reverse, ◌⊎◌, inl, inr}
+use Rattle.std.proofs.Common.{◌≡◌, ℕ, zero, suc, ◌+◌, ◌<◌, ◌≤◌, ◌==◌, Bool, true, false, cond, List, [], ◌∷◌, ◌++◌, length, map}
+use Rattle.std.proofs.Common.{refl, sym, subst, ◌∙◌, ap, arith, append_assoc, reverse, ◌⊎◌, inl, inr}
 use Rattle.std.specs.Prelude.{is_some}
 use Rattle.std.proofs.lemmas.Bool.{cond_both}
 use Rattle.std.proofs.lemmas.Bool.Decides.{nat_tests}
@@ -12,7 +13,9 @@ use Rattle.flow_data.specs.Flows.{box_of}
 use Rattle.flow_data.specs.Soundness.{count_of}
 use Rattle.flow_data.proofs.Counts.{count-append, count-cons, count-self, count-yes}
 use Rattle.flow_list.specs.ClonedEdges.{tops}
-use Rattle.flow_list.specs.Placing.{RowLaid, Laid, margin, solid, wall, opens, closes, atom, row, ends_gap, gap_of, behind_gap, gap_height, Placed, opens_at, closes_at, atom_at, row_at, placed_in_gap, gap_places, placed_item, laid_height, places_from}
+use Rattle.flow_list.specs.Placing.{RowLaid, Laid, margin, solid, wall, opens, closes, atom, row, ends_gap, gap_of, behind_gap}
+use Rattle.flow_list.specs.Placing.{gap_height, Placed, opens_at, closes_at, atom_at, row_at, placed_in_gap, gap_places}
+use Rattle.flow_list.specs.Placing.{placed_item, laid_height, places_from}
 use Rattle.flow_list.specs.Fragments.{closes_here, inside_box, behind_box, bottom_of, trees_of, all_trees, continued_from}
 use Rattle.flow_laws.proofs.HoldingTrees.{behind-box-length, behind-length, inside-length}
 use Rattle.piece_laws.specs.Nesting.{continued_into, continued_out, Crossing, into, out_of, walk_of_tree, walk_of_trees}

@@ -1,8 +1,10 @@
 -- The pieces of boxes in the tree of a column: each box that continues in the column or starts in it has one piece there, and the
 -- pieces stand one in another as the boxes do (CSS Fragmentation 3, section 2: a box that breaks has a fragment in each column
 -- that holds some of it).
-use Rattle.std.specs.Prelude.{◌≡◌, ℕ, ◌+◌, ◌-◌, ◌≤◌, Bool, true, false, List, [], ◌∷◌, ◌++◌, is_some, length, map, take, drop, Option}
-use Rattle.mc_base.specs.PlainTree.{PlainTree, PlainTrees, atom as atom_tree, piece, row_piece, column as column_tree, no_trees, more_trees}
+use Rattle.std.specs.Prelude.{◌≡◌, ℕ, ◌+◌, ◌-◌, ◌≤◌, Bool, true, false, List, [], ◌∷◌, ◌++◌, is_some, length, map, take, drop}
+use Rattle.std.specs.Prelude.{Option}
+use Rattle.mc_base.specs.PlainTree.{PlainTree, PlainTrees, atom as atom_tree, piece, row_piece, column as column_tree, no_trees}
+use Rattle.mc_base.specs.PlainTree.{more_trees}
 use Rattle.flow_list.specs.Data.{Flow, FlowsData}
 use Rattle.flow_data.specs.Flows.{ends_in, flow_of, is_among, stack_of, starts_in}
 use Rattle.flow_data.specs.Soundness.{count_of}

@@ -1,7 +1,9 @@
 -- How the pieces of boxes stand one in another in a column: its tree is walked, into each piece and out of it again (CSS
 -- Fragmentation 3, section 2: a box that breaks has a fragment in each column that holds some of it).
-use Rattle.std.specs.Prelude.{◌≡◌, ℕ, ◌+◌, Bool, true, false, List, [], ◌∷◌, ◌++◌, drop, flat_map, is_some, length, map, reverse, take}
-use Rattle.mc_base.specs.PlainTree.{PlainTree, PlainTrees, atom as atom_tree, piece, row_piece, column as column_tree, no_trees, more_trees}
+use Rattle.std.specs.Prelude.{◌≡◌, ℕ, ◌+◌, Bool, true, false, List, [], ◌∷◌, ◌++◌, drop, flat_map, is_some, length, map, reverse}
+use Rattle.std.specs.Prelude.{take}
+use Rattle.mc_base.specs.PlainTree.{PlainTree, PlainTrees, atom as atom_tree, piece, row_piece, column as column_tree, no_trees}
+use Rattle.mc_base.specs.PlainTree.{more_trees}
 use Rattle.flow_list.specs.Data.{Edge, Flow, Seam, Margin, Solid, Wall, Start, End}
 use Rattle.flow_data.specs.Flows.{seam_of}
 use Rattle.flow_list.specs.Tokens.{Token}
