@@ -14,22 +14,23 @@ use std::marker::Model;
 ///
 /// A property whose winning declaration isn't laid out has `Value::Initial` here. Contracts see the list of the values.
 #[derive(Drop)]
-pub struct Winning {
-    values: List<Option<Value>>,
+pub struct Winning<'a> {
+    values: List<Option<&'a Value>>,
 }
 
-impl Model for Winning {
-    ghost use Rattle.std.specs.Prelude.{List as Items, Option};
+impl<'a> Model for Winning<'a> {
+    ghost use Rattle.std.specs.Prelude.{List as Items, Option, map};
+    ghost use Rattle.std.specs.Option.{option_copied};
     ghost use Rattle.css_values.specs.declared.declared.Value.{Value as PropertyValue};
 
     ghost Value = { Items (Option PropertyValue) };
 
-    ghost view = { λ w. w.values };
+    ghost view = { λ w. map option_copied w.values };
 }
 
 /// The place of a property in the table, from 0.
 #[tactic(auto, unfolding(crate::specs::Winners::place))]
-pub fn place(property: Property) -> usize
+fn place(property: Property) -> usize
     ensures { result ≡ winners.place property }
 {
     match property {
@@ -76,9 +77,9 @@ pub fn place(property: Property) -> usize
     }
 }
 
-impl Winning {
+impl<'a> Winning<'a> {
     /// Nothing wins for any property. It takes no memory.
-    pub fn new(alloc: Global) -> Winning
+    pub fn new(alloc: Global) -> Self
         ensures { result ≡ [] }
     {
         Winning {
@@ -87,8 +88,8 @@ impl Winning {
     }
 
     /// Sets what wins for the next property of the table. After want of memory nothing is changed.
-    pub fn push(&mut self, value: Option<Value>) -> Result<(), NoMemory>
-        ensures ok { OnOk result (self.new ≡ self.old ++ value ∷ []) }
+    pub fn push(&mut self, value: Option<&'a Value>) -> Result<(), NoMemory>
+        ensures ok { OnOk result (self.new ≡ self.old ++ option_copied value.entry ∷ []) }
         ensures err { OnErr result (self.new ≡ self.old) }
     {
         self.values.push(value)?;
@@ -96,11 +97,11 @@ impl Winning {
     }
 
     /// The winning value of a property, if it has one.
-    pub fn get(&self, property: Property) -> Option<&Value>
+    pub fn get(&self, property: Property) -> Option<&'a Value>
         ensures { option_copied result ≡ winner self.now property }
     {
         match self.values.as_slice().get(place(property)) {
-            Some(value) => value.as_ref(),
+            Some(value) => *value,
             None => None,
         }
     }
