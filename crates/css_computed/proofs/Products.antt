@@ -4,6 +4,6 @@ use Rattle.std.proofs.Math.Nat.{mul-le-mul}
 
 pub product_fits : (a b : ℕ) → a < 2 ^ 64 → b < 2 ^ 64 → a * b < 2 ^ 128
 product_fits a b small also =
-    let n = 2 ^ 64 - 1 in
-    let most : a * b ≤ n * n = mul-le-mul {n₁ = a} {m₁ = n} {n₂ = b} {m₂ = n} (omega arith) (omega arith) in
-    omega arith
+    let most : a * b ≤ (2 ^ 64 - 1) * (2 ^ 64 - 1) =
+        mul-le-mul {n₁ = a} {m₁ = b} {n₂ = 2 ^ 64 - 1} {m₂ = 2 ^ 64 - 1} (omega arith) (omega arith)
+    in omega arith
