@@ -1,4 +1,5 @@
 -- A style has one field for each property of the table, named by it.
+use Rattle.std.specs.Prelude.{◌≡◌}
 use Rattle.css_values.specs.declared.declared.Property.{Property}
 use Rattle.css_values.specs.declared.declared.Property.TheVariants as properties
 use Rattle.css_computed.specs.declared.style.Computed.{Computed}
@@ -91,3 +92,7 @@ style_by value = record {
   break_inside = value properties.BreakInside;
   box_decoration_break = value properties.BoxDecorationBreak;
 }
+
+-- the field of each property in the style that has these values is the property's value
+abbrev pub FieldsAreNamed : Type 0
+FieldsAreNamed = (value : Property → Computed) (property : Property) → field property (style_by value) ≡ value property

@@ -7,6 +7,7 @@
 
 mod computing;
 mod copying;
+mod laws;
 mod length;
 mod parts;
 mod style;
@@ -17,5 +18,6 @@ mod value;
 mod winning;
 
 pub use computing::style_of;
+pub use laws::fields_are_named;
 pub use style::{Computed, Style};
 pub use winning::Winning;
