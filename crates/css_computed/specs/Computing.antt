@@ -1,6 +1,6 @@
 -- The computed value of each property of an element (CSS 2.1, section 6.1; CSS Cascade 4, sections 4.4 and 7), from what wins
 -- for it, its parent's style, which the root hasn't, and the root's font size, which the root itself hasn't.
-use Rattle.std.specs.Prelude.{◌≡◌, ℕ, ◌*◌, Bool, true, false, ◌||◌, List, codes, Option, Some, None, if◌then◌else◌, unwrap_or}
+use Rattle.std.specs.Prelude.{ℕ, ◌*◌, Bool, true, false, ◌||◌, List, codes, Option, Some, None, if◌then◌else◌, unwrap_or}
 use Rattle.std.specs.Str.{bytes_eq}
 use Rattle.mc_base.specs.declared.decimal.Decimal.{Decimal}
 use Rattle.css_values.specs.declared.declared.Property.{Property}
@@ -16,12 +16,12 @@ use Rattle.css_computed.specs.Styles.{field}
 use Rattle.css_computed.specs.Table.{table, number}
 use Rattle.css_computed.specs.Lengths.{length_of, percent_of}
 
--- `inherit`: the parent's value, and at the root the initial one (CSS Cascade 4, section 7.2)
+-- `inherit`: the parent's value, and at the root the initial one (CSS Cascade 4, sections 7.2 and 7.3.2)
 abbrev pub inherited_value : Property → Option Style → Computed
 inherited_value property None = (table property).initial
 inherited_value property (Some parent) = field property parent
 
--- `unset`, and what holds where nothing wins (CSS Cascade 4, sections 7.1 to 7.3)
+-- `unset`, and what holds where nothing wins (CSS Cascade 4, sections 7.1, 7.2 and 7.3.3)
 abbrev pub unset_value : Property → Option Style → Computed
 unset_value property parent =
     if (table property).inherited then inherited_value property parent else (table property).initial
@@ -57,6 +57,7 @@ value_at property parent sizes (Some (values.Percent value)) = percent_value pro
 value_at property parent sizes (Some (values.Number value)) = Number value
 value_at property parent sizes (Some (values.Names names)) = Names names
 
+-- a length, or this one where the value is none, which no declaration sets where it is asked for
 abbrev pub length_or : ℕ → Computed → ℕ
 length_or other (Length units) = units
 length_or other _ = other
@@ -65,6 +66,7 @@ length_or other _ = other
 abbrev pub medium : ℕ
 medium = 16 * 64
 
+-- the font size of the parent
 abbrev pub parent_size : Option Style → ℕ
 parent_size None = medium
 parent_size (Some parent) = length_or medium parent.font_size
@@ -74,7 +76,7 @@ parent_size (Some parent) = length_or medium parent.font_size
 abbrev pub outer_sizes : Option Style → Option ℕ → FontSizes
 outer_sizes parent root = record { em = parent_size parent; rem = unwrap_or root medium }
 
--- the element's font size
+-- the element's font size (CSS 2.1, section 15.7)
 abbrev pub own_size : List (Option Value) → Option Style → Option ℕ → ℕ
 own_size winning parent root =
     length_or medium (value_at properties.FontSize parent (outer_sizes parent root) (winner winning properties.FontSize))

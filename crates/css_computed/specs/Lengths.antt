@@ -1,5 +1,5 @@
 -- Lengths in whole units, 64 to a px, rounded down (CSS Values and Units 3, sections 5.1 and 5.2). A greater one than 2^62
--- counts as 2^62. `em` and `rem` stand for font sizes: which ones, the property says.
+-- counts as 2^62. `em` and `rem` stand for font sizes: which ones, the property says. No number here is negative.
 use Rattle.std.specs.Prelude.{ℕ, ◌*◌, ◌/◌, ◌^◌, min, List, codes, if◌then◌else◌}
 use Rattle.std.specs.Str.{bytes_eq}
 use Rattle.mc_base.specs.declared.decimal.Decimal.{Decimal}
@@ -10,7 +10,7 @@ use Rattle.css_computed.specs.declared.length.Scale.{Scale}
 abbrev pub scale : ℕ → ℕ → Scale
 scale over under = record { over = over; under = under }
 
--- what 1 of a unit of length is: 1in is 96px and 2.54cm, 1pt is 1/72in, and 1pc is 12pt
+-- what 1 of a unit of length is: 1in is 96px and 2.54cm, 1pt is 1/72in, 1pc is 12pt, and what is left is `px`
 unfoldable pub scale_of : FontSizes → List ℕ → Scale
 scale_of sizes unit =
     if bytes_eq unit (codes "em") then scale sizes.em 1 else (

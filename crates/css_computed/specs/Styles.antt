@@ -1,4 +1,4 @@
--- A style has one field for each property of the table, named by it.
+-- A style has one field for each property of the table, named by it with `_` for `-`.
 use Rattle.std.specs.Prelude.{◌≡◌}
 use Rattle.css_values.specs.declared.declared.Property.{Property}
 use Rattle.css_values.specs.declared.declared.Property.TheVariants as properties

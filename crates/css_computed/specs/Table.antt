@@ -34,7 +34,7 @@ table properties.FontSize = row (px 16) yes
 table properties.FontFamily = row (Names []) yes
 table properties.FontWeight = row (number 400000) yes
 table properties.FontStyle = row (Word (codes "normal")) yes
--- CSS 2.1, section 10.8.1: `normal` is the number 1.2
+-- CSS 2.1, section 10.8.1: `normal`, for which a number is left open there, is 1.2
 table properties.LineHeight = row (number 1200) yes
 -- CSS 2.1, section 16.6
 table properties.WhiteSpace = row (Word (codes "normal")) yes
