@@ -1,5 +1,6 @@
 -- Characters in front that pass a test, and what stands behind them.
-use Rattle.std.proofs.Common.{◌≡◌, ℕ, zero, suc, ◌+◌, ◌≤◌, List, [], ◌∷◌, ◌++◌, length, Bool, true, false, cond, refl, sym, ap, ◌∙◌, arith, length-append}
+use Rattle.std.proofs.Common.{◌≡◌, ℕ, zero, suc, ◌+◌, ◌≤◌, List, [], ◌∷◌, ◌++◌, length, Bool, true, false, cond, refl, sym, ap}
+use Rattle.std.proofs.Common.{◌∙◌, arith, length-append}
 use Rattle.std.specs.Prelude.{encode_utf8_all}
 use Rattle.std.proofs.lemmas.Bool.{true≢false, eq-eqb, eqb-true, ne_eqb}
 use Rattle.std.proofs.lemmas.Str.{encodes-append}
@@ -24,9 +25,11 @@ span test (p ∷ ps) = by_test (span test ps) (test p.character) refl
     by_test : Span test ps → (b : Bool) → test p.character ≡ b → Span test (p ∷ ps)
     by_test s true is = record {
       front = p ∷ s.front;
-      whole = ap (λ (x : List Place). p ∷ x) s.whole ∙ sym (ap (λ (b : Bool). (p ∷ s.front) ++ cond b (behind_while test ps) (p ∷ ps)) is);
+      whole = ap (λ (x : List Place). p ∷ x) s.whole
+          ∙ sym (ap (λ (b : Bool). (p ∷ s.front) ++ cond b (behind_while test ps) (p ∷ ps)) is);
       passes = (is, s.passes);
-      codes_are = ap (λ (b : Bool). cond b (p.character ∷ codes_while test ps) []) is ∙ ap (λ (x : List ℕ). p.character ∷ x) s.codes_are;
+      codes_are = ap (λ (b : Bool). cond b (p.character ∷ codes_while test ps) []) is
+          ∙ ap (λ (x : List ℕ). p.character ∷ x) s.codes_are;
       stops = ap (λ (b : Bool). begins_with test (cond b (behind_while test ps) (p ∷ ps))) is ∙ s.stops;
     }
     by_test s false is = record {
@@ -37,24 +40,33 @@ span test (p ∷ ps) = by_test (span test ps) (test p.character) refl
       stops = ap (λ (b : Bool). begins_with test (cond b (behind_while test ps) (p ∷ ps))) is ∙ is;
     }
 
-stopped : (test : ℕ → Bool) (rest : List Place) → begins_with test rest ≡ false → (codes_while test rest ≡ []) × (behind_while test rest ≡ rest)
+stopped : (test : ℕ → Bool) (rest : List Place) → begins_with test rest ≡ false
+    → (codes_while test rest ≡ []) × (behind_while test rest ≡ rest)
 stopped test [] h = (refl, refl)
-stopped test (p ∷ ps) h = (ap (λ (b : Bool). cond b (p.character ∷ codes_while test ps) []) h, ap (λ (b : Bool). cond b (behind_while test ps) (p ∷ ps)) h)
+stopped test (p ∷ ps) h = (
+  ap (λ (b : Bool). cond b (p.character ∷ codes_while test ps) []) h,
+  ap (λ (b : Bool). cond b (behind_while test ps) (p ∷ ps)) h,
+)
 
 -- what doesn't pass stays
 pub stays : (test : ℕ → Bool) (rest : List Place) → begins_with test rest ≡ false → behind_while test rest ≡ rest
 stays test rest h = (stopped test rest h).1
 
-pub codes_back : (test : ℕ → Bool) (front rest : List Place) → Passes test front → begins_with test rest ≡ false → codes_while test (front ++ rest) ≡ codes_of front
+pub codes_back : (test : ℕ → Bool) (front rest : List Place) → Passes test front → begins_with test rest ≡ false
+    → codes_while test (front ++ rest) ≡ codes_of front
 codes_back test [] rest h stops = (stopped test rest stops).0
-codes_back test (p ∷ front) rest h stops = ap (λ (b : Bool). cond b (p.character ∷ codes_while test (front ++ rest)) []) h.0 ∙ ap (λ (x : List ℕ). p.character ∷ x) (codes_back test front rest h.1 stops)
+codes_back test (p ∷ front) rest h stops = ap (λ (b : Bool). cond b (p.character ∷ codes_while test (front ++ rest)) []) h.0
+    ∙ ap (λ (x : List ℕ). p.character ∷ x) (codes_back test front rest h.1 stops)
 
 -- past characters that pass, whatever stands behind them
-pub behind_through : (test : ℕ → Bool) (front rest : List Place) → Passes test front → behind_while test (front ++ rest) ≡ behind_while test rest
+pub behind_through : (test : ℕ → Bool) (front rest : List Place) → Passes test front
+    → behind_while test (front ++ rest) ≡ behind_while test rest
 behind_through test [] rest h = refl
-behind_through test (p ∷ front) rest h = ap (λ (b : Bool). cond b (behind_while test (front ++ rest)) (p ∷ (front ++ rest))) h.0 ∙ behind_through test front rest h.1
+behind_through test (p ∷ front) rest h = ap (λ (b : Bool). cond b (behind_while test (front ++ rest)) (p ∷ (front ++ rest))) h.0
+    ∙ behind_through test front rest h.1
 
-pub behind_back : (test : ℕ → Bool) (front rest : List Place) → Passes test front → begins_with test rest ≡ false → behind_while test (front ++ rest) ≡ rest
+pub behind_back : (test : ℕ → Bool) (front rest : List Place) → Passes test front → begins_with test rest ≡ false
+    → behind_while test (front ++ rest) ≡ rest
 behind_back test front rest h stops = behind_through test front rest h ∙ stays test rest stops
 
 pub same_length : (front rest ps : List Place) → ps ≡ front ++ rest → length ps ≡ length front + length rest
@@ -88,7 +100,8 @@ pub begins_other : (test : ℕ → Bool) (d : ℕ) (ps : List Place) → begins_
 begins_other test d [] h g = refl
 begins_other test d (p ∷ ps) h g = other_char test p.character d h g
 
-pub some_pass : (test : ℕ → Bool) (front rest ps : List Place) → ps ≡ front ++ rest → Passes test front → begins_with test rest ≡ false → begins_with test ps ≡ true → SomePass test front
+pub some_pass : (test : ℕ → Bool) (front rest ps : List Place) → ps ≡ front ++ rest → Passes test front
+    → begins_with test rest ≡ false → begins_with test ps ≡ true → SomePass test front
 some_pass test [] rest ps e h stops g = absurd (true≢false (sym g ∙ ap (begins_with test) e ∙ stops))
 some_pass test (p ∷ front) rest ps e h stops g = h
 

@@ -1,6 +1,7 @@
 -- The forms of tokens (CSS Syntax 3, section 4): which characters spell which token. Numbers have no exponent here, escapes
 -- stand in strings alone, and white space is space, tab and line feed.
-use Rattle.std.specs.Prelude.{◌≡◌, ◌⊎◌, ℕ, List, [], ◌∷◌, ◌++◌, ◌==◌, Bool, true, false, ◌&&◌, ◌||◌, not, Option, Some, None, encode_utf8_all}
+use Rattle.std.specs.Prelude.{◌≡◌, ◌⊎◌, ℕ, List, [], ◌∷◌, ◌++◌, ◌==◌, Bool, true, false, ◌&&◌, ◌||◌, not, Option, Some, None}
+use Rattle.std.specs.Prelude.{encode_utf8_all}
 use Rattle.std.specs.Char.{is_ascii_digit}
 use Rattle.html_grammar.specs.declared.place.Place.{Place}
 use Rattle.html_grammar.specs.Places.{place_or, begins_with, begins}
@@ -9,13 +10,14 @@ use Rattle.html_grammar.specs.Spelling.{codes_of, Passes, SomePass, NoneBegins}
 use Rattle.css_tokens.specs.Characters.{is_name, is_start, is_sign}
 use Rattle.css_tokens.specs.declared.lexeme.Lexeme.{Lexeme}
 use Rattle.css_tokens.specs.declared.lexeme.Symbol.{Symbol}
-use Rattle.css_tokens.specs.declared.lexeme.Symbol.TheVariants.{Ident, Hash, Quoted, Number, Percent, Dimension, Function, Delim, Space, Broken}
+use Rattle.css_tokens.specs.declared.lexeme.Symbol.TheVariants.{Ident, Hash, Quoted, Number, Percent, Dimension, Function, Delim}
+use Rattle.css_tokens.specs.declared.lexeme.Symbol.TheVariants.{Space, Broken}
 
 -- the bytes of characters
 abbrev pub text_of : List Place → List ℕ
 text_of ps = encode_utf8_all (codes_of ps)
 
--- an identifier: name characters of which the first is no digit; behind a first - stands a second one that is no digit
+-- an identifier: name characters of which the first is no digit; after a first - stands a second one that is no digit
 abbrev pub IsIdent : List Place → Type 0
 IsIdent [] = ⊥
 IsIdent (p ∷ ps) = (is_start p.character ≡ true) × Passes is_name ps × (p.character ≡ 45 → begins_with is_start ps ≡ true)
@@ -30,7 +32,7 @@ abbrev pub IsFraction : List Place → Type 0
 IsFraction [] = Unit {0}
 IsFraction (p ∷ ps) = (p.character ≡ 46) × SomePass is_ascii_digit ps
 
--- a number: a sign or none, digits, and a fraction or none; digits stand before the point or behind it
+-- a number: a sign or none, digits, and a fraction or none; digits stand before the point or after it
 pub record IsNumber (one : List Place) : Type 0 where
   pub sign : List Place
   pub digits : List Place
@@ -45,7 +47,7 @@ abbrev pub is_quote : ℕ → Bool
 is_quote c = (c == 34) || (c == 39)
 
 -- What stands in a string: characters but its quote, a line feed and a backslash, each by itself; and a backslash with any
--- character behind it.
+-- character after it.
 pub data Part : Type 0 where
   Plain : (p : Place) → Part
   Escaped : (slash p : Place) → Part
@@ -94,7 +96,7 @@ abbrev pub ends_comment : List Place → Bool
 ends_comment [] = false
 ends_comment (p ∷ ps) = (p.character == 42) && begins 47 ps
 
--- a comment: /* up to the first */ behind it
+-- a comment: /* up to the first */ after it
 pub record IsComment (one : List Place) : Type 0 where
   pub slash : Place
   pub star : Place
@@ -123,15 +125,19 @@ pub record IsOpenComment (one rest : List Place) : Type 0 where
 abbrev pub is_other : ℕ → Bool
 is_other c = not (is_space c) && (not (is_ascii_digit c) && (not (is_quote c) && (not (is_start c) || (c == 45))))
 
--- These characters spell this token. What stands behind them matters only where the text ends in a string or a comment.
+-- These characters spell this token. What stands after them matters only where the text ends in a string or a comment.
 abbrev pub IsForm : Symbol → List Place → List Place → Type 0
 IsForm (Ident text) one rest = IsIdent one × (text ≡ text_of one)
-IsForm (Hash text) one rest = (hash : Place) × (name : List Place) × (one ≡ hash ∷ name) × (hash.character ≡ 35) × SomePass is_name name × (text ≡ text_of name)
+IsForm (Hash text) one rest = (hash : Place) × (name : List Place) × (one ≡ hash ∷ name) × (hash.character ≡ 35)
+    × SomePass is_name name × (text ≡ text_of name)
 IsForm (Quoted text) one rest = IsString text one
 IsForm (Number digits) one rest = IsNumber one × (digits ≡ text_of one)
-IsForm (Percent digits) one rest = (number : List Place) × (sign : Place) × (one ≡ number ++ sign ∷ []) × IsNumber number × (sign.character ≡ 37) × (digits ≡ text_of number)
-IsForm (Dimension digits unit) one rest = (number : List Place) × (name : List Place) × (one ≡ number ++ name) × IsNumber number × IsIdent name × (digits ≡ text_of number) × (unit ≡ text_of name)
-IsForm (Function name paren) one rest = (named : List Place) × (p : Place) × (one ≡ named ++ p ∷ []) × IsIdent named × (p.character ≡ 40) × (name ≡ text_of named) × (paren ≡ p.at)
+IsForm (Percent digits) one rest = (number : List Place) × (sign : Place) × (one ≡ number ++ sign ∷ []) × IsNumber number
+    × (sign.character ≡ 37) × (digits ≡ text_of number)
+IsForm (Dimension digits unit) one rest = (number : List Place) × (name : List Place) × (one ≡ number ++ name) × IsNumber number
+    × IsIdent name × (digits ≡ text_of number) × (unit ≡ text_of name)
+IsForm (Function name paren) one rest = (named : List Place) × (p : Place) × (one ≡ named ++ p ∷ []) × IsIdent named
+    × (p.character ≡ 40) × (name ≡ text_of named) × (paren ≡ p.at)
 IsForm (Delim c) one rest = (p : Place) × (one ≡ p ∷ []) × (p.character ≡ c) × (is_other c ≡ true)
 IsForm Space one rest = SomePass is_space one
 IsForm (Broken rule) one rest = (IsOpenComment one rest × (rule ≡ 2)) ⊎ (IsOpenString one rest × (rule ≡ 3))

@@ -12,7 +12,8 @@ use Rattle.css_laws.specs.Forms.{IsPiece}
 -- the token or comment that stands first: it has its form, and nothing longer has one
 pub record IsNext (x : Option Lexeme) (one rest : List Place) : Type 0 where
   pub form : IsPiece x one rest
-  pub longest : (y : Option Lexeme) (longer more : List Place) → one ++ rest ≡ longer ++ more → IsPiece y longer more → length longer ≤ length one
+  pub longest : (y : Option Lexeme) (longer more : List Place) → one ++ rest ≡ longer ++ more → IsPiece y longer more
+      → length longer ≤ length one
 
 -- the characters are these tokens and comments, one after the other
 abbrev pub AreCut : List (Option Lexeme) → List Place → Type 0
