@@ -1,7 +1,8 @@
 //! What the tokens of a style sheet are, by their forms, and the laws that tie them to the reader's functions.
 //!
 //! It stands on css_tokens, whose functions on lists its laws are about, and on html_grammar for the characters of a text. The
-//! files of `specs/` say which characters spell which token, and that the longest is taken; they name no state of a reader.
+//! files of `specs/` say which characters spell which token, that the longest is taken, and which tokens are component values;
+//! they name no state of a reader.
 //! Each function here promises one law, does nothing, and takes no memory.
 #![tactic(auto)]
 

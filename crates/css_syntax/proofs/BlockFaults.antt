@@ -1,21 +1,25 @@
 -- The first fault of component values is the one that is found, and all tokens are values.
-use Rattle.std.proofs.Common.{◌≡◌, ℕ, zero, suc, ◌+◌, ◌-◌, ◌≤◌, List, [], ◌∷◌, ◌++◌, map, take, length, Bool, true, false, cond, not, ◌&&◌, ◌||◌}
+use Rattle.std.proofs.Common.{◌≡◌, ℕ, ◌-◌, List, [], ◌∷◌, ◌++◌, map, take, length, Bool, true, false, cond, ◌||◌}
 use Rattle.std.proofs.Common.{refl, sym, ap, subst, ◌∙◌, append_assoc, arith, length-append, inl, inr}
 use Rattle.std.specs.Prelude.{◌⊎◌, ◌==◌, Option, Some, None, slice_get}
-use Rattle.std.proofs.lemmas.Bool.{true≢false, eq-eqb, eqb-true}
+use Rattle.std.proofs.lemmas.Bool.{eqb-true}
 use Rattle.css_tokens.specs.declared.lexeme.Fault.{Fault}
 use Rattle.css_tokens.specs.declared.lexeme.Lexeme.{Lexeme}
 use Rattle.css_tokens.specs.declared.lexeme.Symbol.{Symbol}
-use Rattle.css_tokens.specs.declared.lexeme.Symbol.TheVariants.{Ident, Hash, Quoted, Number, Percent, Dimension, Function, Delim, Space, Broken}
-use Rattle.css_tokens.specs.Facts.{delim_in, is_this, is_delim, is_closer, closer, closer_in, closer_of, broken_in, broken_of, sign_of}
-use Rattle.css_laws.specs.Values.{Values, Nil, One, Closed, Open, written, IsWhole, closes_around, AreValues, fault_by, fault_of, faults_in, Among, IsFirst}
+use Rattle.css_tokens.specs.declared.lexeme.Symbol.TheVariants.{Ident, Hash, Quoted, Number, Percent, Dimension, Function, Delim}
+use Rattle.css_tokens.specs.declared.lexeme.Symbol.TheVariants.{Space, Broken}
+use Rattle.css_tokens.specs.Facts.{delim_in, is_this, is_delim, is_closer, closer, closer_in, closer_of, broken_in, broken_of}
+use Rattle.css_tokens.specs.Facts.{sign_of}
+use Rattle.css_laws.specs.Values.{Values, Nil, One, Closed, Open, written, IsWhole, closes_around, AreValues, fault_by, fault_of}
+use Rattle.css_laws.specs.Values.{faults_in, Among}
 use Rattle.css_syntax.specs.declared.brackets.Brackets.{Brackets}
-use Rattle.css_syntax.specs.declared.brackets.Frame.{Frame}
 use Rattle.css_syntax.specs.declared.brackets.Frame.TheVariants as frames
 use Rattle.css_syntax.specs.declared.brackets.Open as opens
 use Rattle.css_syntax.specs.Opens.{innermost, popped}
-use Rattle.css_syntax.specs.Brackets.{first_fault, with_fault, opened, closed, closes, closing_step, unbroken_step, bracket_by, bracket_step, rule_of, left_open, at_end, nothing_open, bracketed, block_fault}
-use Rattle.css_syntax.proofs.Folding.{fault_as, Same, Told, told_same, told_more, in_front, behind, either, same_swap, same_itself, same_then}
+use Rattle.css_syntax.specs.Brackets.{first_fault, with_fault, closed, closes, closing_step, unbroken_step, bracket_by}
+use Rattle.css_syntax.specs.Brackets.{bracket_step, rule_of, left_open, at_end, nothing_open, bracketed, block_fault}
+use Rattle.css_syntax.proofs.Folding.{fault_as, Same, Told, told_same, told_more, in_front, behind, either, same_swap}
+use Rattle.css_syntax.proofs.Folding.{same_itself}
 
 -- What is open.
 
@@ -111,7 +115,8 @@ kinds c d h = by_round (d == 40) h
     by_square true e = is_this_kind 93 refl refl e
     by_square false e = by_curly (d == 123) e
 
-    by_round : (b : Bool) → cond b (Some 41) (cond (d == 91) (Some 93) (cond (d == 123) (Some 125) None)) ≡ Some c → (closer c ≡ None) × (is_kind c ≡ true)
+    by_round : (b : Bool) → cond b (Some 41) (cond (d == 91) (Some 93) (cond (d == 123) (Some 125) None)) ≡ Some c
+        → (closer c ≡ None) × (is_kind c ≡ true)
     by_round true e = is_this_kind 41 refl refl e
     by_round false e = by_square (d == 91) e
 
@@ -148,7 +153,8 @@ closing_sign a b c h d =
 
 -- Steps.
 
-step_one : (s : Brackets) (x : Lexeme) (around : Option ℕ) → Matches around s.opens → closer_of x ≡ None → closes_around around x ≡ false → bracket_step s x ≡ after s (fault_of x)
+step_one : (s : Brackets) (x : Lexeme) (around : Option ℕ) → Matches around s.opens → closer_of x ≡ None
+    → closes_around around x ≡ false → bracket_step s x ≡ after s (fault_of x)
 unfolding bracket_step
 step_one s x around m none closes_none = by_broken (broken_of x)
   where
@@ -163,11 +169,13 @@ step_one s x around m none closes_none = by_broken (broken_of x)
     by_broken (Some rule) = refl
     by_broken None = ap (unbroken_step s x) none ∙ by_closer (is_closer x)
 
-step_open : (s : Brackets) (x : Lexeme) (c : ℕ) → closer_of x ≡ Some c → bracket_step s x ≡ state_as (s.opens ++ bracket_as (sign_of x) c ∷ []) s.fault
+step_open : (s : Brackets) (x : Lexeme) (c : ℕ) → closer_of x ≡ Some c
+    → bracket_step s x ≡ state_as (s.opens ++ bracket_as (sign_of x) c ∷ []) s.fault
 unfolding bracket_step
 step_open s x c h = ap (bracket_by s x) (not_broken x c h) ∙ ap (unbroken_step s x) h
 
-step_close : (os : List opens.Open) (o : Option Fault) (at c : ℕ) (b : Lexeme) → Sign b → is_delim c b ≡ true → bracket_step (state_as (os ++ bracket_as at c ∷ []) o) b ≡ state_as os o
+step_close : (os : List opens.Open) (o : Option Fault) (at c : ℕ) (b : Lexeme) → Sign b → is_delim c b ≡ true
+    → bracket_step (state_as (os ++ bracket_as at c ∷ []) o) b ≡ state_as os o
 unfolding bracket_step
 step_close os o at c b sign d =
     let s = state_as (os ++ bracket_as at c ∷ []) o in
@@ -177,7 +185,8 @@ step_close os o at c b sign d =
     ∙ ap (λ (x : List opens.Open). state_as x o) (popped_push os (bracket_as at c))
 
 -- Values in which nothing stays open leave what is open, and add their faults.
-pub whole_read : (vs : Values) (around : Option ℕ) (s : Brackets) (rest : List Lexeme) → AreValues around vs → IsWhole vs → Matches around s.opens
+pub whole_read : (vs : Values) (around : Option ℕ) (s : Brackets) (rest : List Lexeme) → AreValues around vs → IsWhole vs
+    → Matches around s.opens
     → bracketed s (written vs ++ rest) ≡ bracketed (after s (faults_in vs)) rest
 whole_read Nil around s rest h w m = refl
 whole_read (One x more) around s rest h w m =
@@ -194,7 +203,8 @@ whole_read (Closed a inside b more) around s rest h w m =
     ∙ whole_read inside (Some c) inner (b ∷ tail) h.2 h.3 (matches_push s.opens (sign_of a) c)
     ∙ ap (λ (t : Brackets). bracketed t tail) (step_close s.opens (folded s.fault (faults_in inside)) (sign_of a) c b sign h.4)
     ∙ whole_read more around (after s (faults_in inside)) rest h.5 w m
-    ∙ ap (λ (f : Option Fault). bracketed (state_as s.opens f) rest) (sym (folded_append s.fault (faults_in inside) (faults_in more)))
+    ∙ ap (λ (f : Option Fault). bracketed (state_as s.opens f) rest)
+    (sym (folded_append s.fault (faults_in inside) (faults_in more)))
 whole_read (Open a inside) around s rest h w m = absurd w
 
 -- What is open at the end.
@@ -231,7 +241,8 @@ same_middle fs g gs = record { there = λ f a. there f (either f fs (g ∷ gs) a
 
 pub folded_told : (o : Option Fault) (gs fs : List Fault) → Told o fs → Told (folded o gs) (gs ++ fs)
 folded_told o [] fs h = h
-folded_told o (g ∷ gs) fs h = told_same (folded (first_fault o g) gs) (gs ++ (g ∷ fs)) (g ∷ (gs ++ fs)) (same_middle gs g fs) (folded_told (first_fault o g) gs (g ∷ fs) (told_more o g fs h))
+folded_told o (g ∷ gs) fs h = told_same (folded (first_fault o g) gs) (gs ++ (g ∷ fs)) (g ∷ (gs ++ fs)) (same_middle gs g fs)
+    (folded_told (first_fault o g) gs (g ∷ fs) (told_more o g fs h))
 
 same_parts : (a b c d : List Fault) → Same a b → Same c d → Same (a ++ c) (b ++ d)
 same_parts a b c d s t = record { there = λ f x. there f (either f a c x); back = λ f x. back f (either f b d x) }
@@ -247,19 +258,24 @@ same_parts a b c d s t = record { there = λ f x. there f (either f a c x); back
 -- faults found before, in the other order
 same_turned : (os a b fs : List Fault) → Same (os ++ (b ++ (a ++ fs))) (os ++ ((a ++ b) ++ fs))
 same_turned os a b fs = same_parts os os (b ++ (a ++ fs)) ((a ++ b) ++ fs) (same_itself os)
-    (subst (λ (x : List Fault). Same x ((a ++ b) ++ fs)) (append_assoc b a fs) (same_parts (b ++ a) (a ++ b) fs fs (same_swap b a) (same_itself fs)))
+    (subst (λ (x : List Fault). Same x ((a ++ b) ++ fs)) (append_assoc b a fs)
+    (same_parts (b ++ a) (a ++ b) fs fs (same_swap b a) (same_itself fs)))
 
 -- all of what is open, what was found before, and what is at fault in the values is told
-pub tail_read : (vs : Values) (around : Option ℕ) (s : Brackets) (fs : List Fault) → AreValues around vs → Matches around s.opens → Told s.fault fs
+pub tail_read : (vs : Values) (around : Option ℕ) (s : Brackets) (fs : List Fault) → AreValues around vs → Matches around s.opens
+    → Told s.fault fs
     → Told (at_end (bracketed s (written vs))) (open_faults s.opens ++ (faults_in vs ++ fs))
 tail_read Nil around s fs h m t =
-    subst (λ (o : Option Fault). Told o (open_faults s.opens ++ fs)) (sym (left_folded s.fault s.opens)) (folded_told s.fault (open_faults s.opens) fs t)
+    subst (λ (o : Option Fault). Told o (open_faults s.opens ++ fs)) (sym (left_folded s.fault s.opens))
+    (folded_told s.fault (open_faults s.opens) fs t)
 tail_read (One x more) around s fs h m t =
     let f = fault_of x in
     let found = tail_read more around (after s f) (f ++ fs) h.2 m (folded_told s.fault f fs t) in
     let step = step_one s x around m h.0 h.1 in
-    subst (λ (u : Brackets). Told (at_end (bracketed u (written more))) (open_faults s.opens ++ ((f ++ faults_in more) ++ fs))) (sym step)
-    (told_same (at_end (bracketed (after s f) (written more))) _ _ (same_turned (open_faults s.opens) f (faults_in more) fs) found)
+    subst (λ (u : Brackets). Told (at_end (bracketed u (written more))) (open_faults s.opens ++ ((f ++ faults_in more) ++ fs)))
+    (sym step)
+    (told_same (at_end (bracketed (after s f) (written more))) _ _ (same_turned (open_faults s.opens) f (faults_in more) fs)
+    found)
 tail_read (Closed a inside b more) around s fs h m t =
     let c = h.0 in
     let f = faults_in inside in
@@ -267,19 +283,23 @@ tail_read (Closed a inside b more) around s fs h m t =
     let sign = closing_sign a b c h.1 h.4 in
     let found = tail_read more around (after s f) (f ++ fs) h.5 m (folded_told s.fault f fs t) in
     let step : bracketed s (a ∷ (written inside ++ (b ∷ written more))) ≡ bracketed (after s f) (written more) =
-        ap (λ (u : Brackets). bracketed u (written inside ++ (b ∷ written more))) (step_open s a c h.1)
-        ∙ whole_read inside (Some c) inner (b ∷ written more) h.2 h.3 (matches_push s.opens (sign_of a) c)
-        ∙ ap (λ (u : Brackets). bracketed u (written more)) (step_close s.opens (folded s.fault f) (sign_of a) c b sign h.4) in
+    ap (λ (u : Brackets). bracketed u (written inside ++ (b ∷ written more))) (step_open s a c h.1)
+    ∙ whole_read inside (Some c) inner (b ∷ written more) h.2 h.3 (matches_push s.opens (sign_of a) c)
+    ∙ ap (λ (u : Brackets). bracketed u (written more)) (step_close s.opens (folded s.fault f) (sign_of a) c b sign h.4) in
     subst (λ (u : Brackets). Told (at_end u) (open_faults s.opens ++ ((f ++ faults_in more) ++ fs))) (sym step)
-    (told_same (at_end (bracketed (after s f) (written more))) _ _ (same_turned (open_faults s.opens) f (faults_in more) fs) found)
+    (told_same (at_end (bracketed (after s f) (written more))) _ _ (same_turned (open_faults s.opens) f (faults_in more) fs)
+    found)
 tail_read (Open a inside) around s fs h m t =
     let c = h.0 in
     let o = bracket_as (sign_of a) c in
     let g = fault_as (sign_of a) 4 in
     let found = tail_read inside (Some c) (state_as (s.opens ++ o ∷ []) s.fault) fs h.2 (matches_push s.opens (sign_of a) c) t in
-    let lists : open_faults (s.opens ++ o ∷ []) ++ (faults_in inside ++ fs) ≡ open_faults s.opens ++ ((g ∷ faults_in inside) ++ fs) =
-        ap (λ (x : List Fault). x ++ (faults_in inside ++ fs)) (open_append s.opens o) ∙ append_assoc (open_faults s.opens) (g ∷ []) (faults_in inside ++ fs) in
-    subst (λ (u : Brackets). Told (at_end (bracketed u (written inside))) (open_faults s.opens ++ ((g ∷ faults_in inside) ++ fs))) (sym (step_open s a c h.1))
+    let lists : open_faults (s.opens ++ o ∷ []) ++ (faults_in inside ++ fs)
+    ≡ open_faults s.opens ++ ((g ∷ faults_in inside) ++ fs) =
+    ap (λ (x : List Fault). x ++ (faults_in inside ++ fs)) (open_append s.opens o)
+    ∙ append_assoc (open_faults s.opens) (g ∷ []) (faults_in inside ++ fs) in
+    subst (λ (u : Brackets). Told (at_end (bracketed u (written inside))) (open_faults s.opens ++ ((g ∷ faults_in inside) ++ fs)))
+    (sym (step_open s a c h.1))
     (subst (Told (at_end (bracketed (state_as (s.opens ++ o ∷ []) s.fault) (written inside)))) lists found)
 
 append_none : (fs : List Fault) → Same (fs ++ []) fs
@@ -291,7 +311,8 @@ append_none fs = record { there = λ f a. there f (either f fs [] a); back = λ 
 
 -- the first fault of a block is the one that is found
 pub block_told : (vs : Values) → AreValues None vs → Told (block_fault (written vs)) (faults_in vs)
-block_told vs h = told_same (block_fault (written vs)) (faults_in vs ++ []) (faults_in vs) (append_none (faults_in vs)) (tail_read vs None nothing_open [] h (λ x. refl) (λ f a. a))
+block_told vs h = told_same (block_fault (written vs)) (faults_in vs ++ []) (faults_in vs) (append_none (faults_in vs))
+    (tail_read vs None nothing_open [] h (λ x. refl) (λ f a. a))
 
 -- All tokens are values.
 
@@ -303,32 +324,49 @@ around_of (c ∷ cs) = Some c
 abbrev Rest : List ℕ → List Lexeme → Type 0
 Rest [] xs = (vs : Values) × AreValues None vs × (written vs ≡ xs)
 Rest (c ∷ cs) xs = (vs : Values) × AreValues (Some c) vs
-    × ((written vs ≡ xs) ⊎ (IsWhole vs × (b : Lexeme) × (more : List Lexeme) × (xs ≡ written vs ++ (b ∷ more)) × (is_delim c b ≡ true) × Rest cs more))
+    × ((written vs ≡ xs) ⊎ (IsWhole vs × (b : Lexeme) × (more : List Lexeme) × (xs ≡ written vs ++ (b ∷ more))
+    × (is_delim c b ≡ true) × Rest cs more))
 
 -- with something in front
 grow : (cs : List ℕ) (front xs : List Lexeme) (g : Values → Values) → ((ws : Values) → written (g ws) ≡ front ++ written ws)
-    → ((ws : Values) → AreValues (around_of cs) ws → AreValues (around_of cs) (g ws)) → ((ws : Values) → IsWhole ws → IsWhole (g ws)) → Rest cs xs → Rest cs (front ++ xs)
+    → ((ws : Values) → AreValues (around_of cs) ws → AreValues (around_of cs) (g ws))
+    → ((ws : Values) → IsWhole ws → IsWhole (g ws)) → Rest cs xs → Rest cs (front ++ xs)
 grow [] front xs g eq keeps whole r = (g r.0, keeps r.0 r.1, eq r.0 ∙ ap (λ (y : List Lexeme). front ++ y) r.2)
 grow (c ∷ cs) front xs g eq keeps whole r = (g r.0, keeps r.0 r.1, by_end r.2)
   where
-    by_end : (written r.0 ≡ xs) ⊎ (IsWhole r.0 × (b : Lexeme) × (more : List Lexeme) × (xs ≡ written r.0 ++ (b ∷ more)) × (is_delim c b ≡ true) × Rest cs more)
-        → (written (g r.0) ≡ front ++ xs) ⊎ (IsWhole (g r.0) × (b : Lexeme) × (more : List Lexeme) × (front ++ xs ≡ written (g r.0) ++ (b ∷ more)) × (is_delim c b ≡ true) × Rest cs more)
+    by_end : (written r.0 ≡ xs) ⊎ (IsWhole r.0 × (b : Lexeme) × (more : List Lexeme) × (xs ≡ written r.0 ++ (b ∷ more))
+        × (is_delim c b ≡ true) × Rest cs more)
+        → (written (g r.0) ≡ front ++ xs)
+        ⊎ (IsWhole (g r.0) × (b : Lexeme) × (more : List Lexeme) × (front ++ xs ≡ written (g r.0) ++ (b ∷ more))
+        × (is_delim c b ≡ true) × Rest cs more)
     by_end (inl e) = inl (eq r.0 ∙ ap (λ (y : List Lexeme). front ++ y) e)
-    by_end (inr e) = inr (whole r.0 e.0, e.1, e.2,
-      ap (λ (y : List Lexeme). front ++ y) e.3 ∙ sym (append_assoc front (written r.0) (e.1 ∷ e.2)) ∙ ap (λ (y : List Lexeme). y ++ (e.1 ∷ e.2)) (sym (eq r.0)), e.4, e.5)
+    by_end (inr e) = inr (
+      whole r.0 e.0,
+      e.1,
+      e.2,
+      ap (λ (y : List Lexeme). front ++ y) e.3 ∙ sym (append_assoc front (written r.0) (e.1 ∷ e.2))
+          ∙ ap (λ (y : List Lexeme). y ++ (e.1 ∷ e.2)) (sym (eq r.0)),
+      e.4,
+      e.5,
+    )
 
-with_open : (cs : List ℕ) (x : Lexeme) (k : ℕ) (xs : List Lexeme) (vs : Values) → closer_of x ≡ Some k → AreValues (Some k) vs → written vs ≡ xs → Rest cs (x ∷ xs)
+with_open : (cs : List ℕ) (x : Lexeme) (k : ℕ) (xs : List Lexeme) (vs : Values) → closer_of x ≡ Some k → AreValues (Some k) vs
+    → written vs ≡ xs → Rest cs (x ∷ xs)
 with_open [] x k xs vs e are w = (Open x vs, (k, e, are), ap (λ (y : List Lexeme). x ∷ y) w)
 with_open (c ∷ cs) x k xs vs e are w = (Open x vs, (k, e, are), inl (ap (λ (y : List Lexeme). x ∷ y) w))
 
-with_one : (cs : List ℕ) (x : Lexeme) (xs : List Lexeme) → closer_of x ≡ None → closes_around (around_of cs) x ≡ false → Rest cs xs → Rest cs (x ∷ xs)
+with_one : (cs : List ℕ) (x : Lexeme) (xs : List Lexeme) → closer_of x ≡ None → closes_around (around_of cs) x ≡ false
+    → Rest cs xs → Rest cs (x ∷ xs)
 with_one cs x xs e n r = grow cs (x ∷ []) xs (One x) (λ ws. refl) (λ ws are. (e, n, are)) (λ ws w. w) r
 
-with_closed : (cs : List ℕ) (x : Lexeme) (k : ℕ) (xs : List Lexeme) (vs : Values) (b : Lexeme) (more : List Lexeme) → closer_of x ≡ Some k → AreValues (Some k) vs → IsWhole vs
+with_closed : (cs : List ℕ) (x : Lexeme) (k : ℕ) (xs : List Lexeme) (vs : Values) (b : Lexeme) (more : List Lexeme)
+    → closer_of x ≡ Some k → AreValues (Some k) vs → IsWhole vs
     → xs ≡ written vs ++ (b ∷ more) → is_delim k b ≡ true → Rest cs more → Rest cs (x ∷ xs)
 with_closed cs x k xs vs b more e are whole w d r =
     let front = x ∷ (written vs ++ b ∷ []) in
-    let grown = grow cs front more (Closed x vs b) (λ ws. ap (λ (y : List Lexeme). x ∷ y) (sym (append_assoc (written vs) (b ∷ []) (written ws)))) (λ ws a. (k, e, are, whole, d, a)) (λ ws a. a) r in
+    let grown = grow cs front more (Closed x vs b)
+    (λ ws. ap (λ (y : List Lexeme). x ∷ y) (sym (append_assoc (written vs) (b ∷ []) (written ws))))
+    (λ ws a. (k, e, are, whole, d, a)) (λ ws a. a) r in
     subst (Rest cs) (ap (λ (y : List Lexeme). x ∷ y) (append_assoc (written vs) (b ∷ []) more ∙ sym w)) grown
 
 rest_more : (x : Lexeme) (xs : List Lexeme) → ((cs : List ℕ) → Rest cs xs) → (cs : List ℕ) → Rest cs (x ∷ xs)
@@ -337,7 +375,8 @@ rest_more x xs below cs = by_opening (closer_of x) refl
     by_inside : (k : ℕ) → closer_of x ≡ Some k → (r : Rest (k ∷ cs) xs) → Rest cs (x ∷ xs)
     by_inside k e r = by_end r.2
       where
-        by_end : (written r.0 ≡ xs) ⊎ (IsWhole r.0 × (b : Lexeme) × (more : List Lexeme) × (xs ≡ written r.0 ++ (b ∷ more)) × (is_delim k b ≡ true) × Rest cs more) → Rest cs (x ∷ xs)
+        by_end : (written r.0 ≡ xs) ⊎ (IsWhole r.0 × (b : Lexeme) × (more : List Lexeme) × (xs ≡ written r.0 ++ (b ∷ more))
+            × (is_delim k b ≡ true) × Rest cs more) → Rest cs (x ∷ xs)
         by_end (inl w) = with_open cs x k xs r.0 e r.1 w
         by_end (inr w) = with_closed cs x k xs r.0 w.1 w.2 e r.1 w.0 w.3 w.4 w.5
 

@@ -1,6 +1,6 @@
 -- The first of faults, found one by one.
-use Rattle.std.proofs.Common.{◌≡◌, ℕ, zero, suc, ◌+◌, ◌≤◌, ◌<◌, List, [], ◌∷◌, ◌++◌, length, Bool, true, false, cond, not, ◌&&◌, ◌||◌, nat_lt}
-use Rattle.std.proofs.Common.{refl, sym, ap, subst, ◌∙◌, arith, inl, inr}
+use Rattle.std.proofs.Common.{◌≡◌, ℕ, List, [], ◌∷◌, ◌++◌, Bool, true, false, cond, ◌&&◌, ◌||◌, nat_lt}
+use Rattle.std.proofs.Common.{refl, ap, ◌∙◌, arith, inl, inr}
 use Rattle.std.specs.Prelude.{◌⊎◌, ◌==◌, Option, Some, None}
 use Rattle.css_tokens.specs.declared.lexeme.Fault.{Fault}
 use Rattle.css_laws.specs.Values.{is_before, Among, IsFirst}
@@ -33,17 +33,20 @@ none_itself f = by_numbers f.at f.rule
 pub total : (f g : Fault) → is_before f g ≡ true → is_before g f ≡ false
 total f g h = by_numbers f.at f.rule g.at g.rule h
   where
-    by_numbers : (a r b s : ℕ) → (nat_lt a b || ((a == b) && nat_lt r s)) ≡ true → (nat_lt b a || ((b == a) && nat_lt s r)) ≡ false
+    by_numbers : (a r b s : ℕ) → (nat_lt a b || ((a == b) && nat_lt r s)) ≡ true
+        → (nat_lt b a || ((b == a) && nat_lt s r)) ≡ false
     by_numbers a r b s h = grind (arith, h)
 
 goes_on : (e f g : Fault) → is_before f g ≡ false → is_before e f ≡ false → is_before e g ≡ false
 goes_on e f g h k = by_numbers e.at e.rule f.at f.rule g.at g.rule h k
   where
-    by_numbers : (c t a r b s : ℕ) → (nat_lt a b || ((a == b) && nat_lt r s)) ≡ false → (nat_lt c a || ((c == a) && nat_lt t r)) ≡ false
+    by_numbers : (c t a r b s : ℕ) → (nat_lt a b || ((a == b) && nat_lt r s)) ≡ false
+        → (nat_lt c a || ((c == a) && nat_lt t r)) ≡ false
         → (nat_lt c b || ((c == b) && nat_lt t s)) ≡ false
     by_numbers c t a r b s h k = grind (arith, h, k)
 
-one_more : (f g : Fault) (fs : List Fault) → IsFirst f fs → (b : Bool) → is_before f g ≡ b → Told (cond b (Some f) (Some g)) (g ∷ fs)
+one_more : (f g : Fault) (fs : List Fault) → IsFirst f fs → (b : Bool) → is_before f g ≡ b
+    → Told (cond b (Some f) (Some g)) (g ∷ fs)
 one_more f g fs h true e = record { among = inr h.among; none_before = by_among }
   where
     by_among : (k : Fault) → (k ≡ g) ⊎ Among k fs → is_before k f ≡ false
@@ -101,7 +104,8 @@ same_then fs gs hs a b = record { there = λ f x. b.there f (a.there f x); back 
 pub first_once : (f g : Fault) (fs : List Fault) → IsFirst f fs → IsFirst g fs → f ≡ g
 first_once f g fs h k = by_numbers f.at f.rule g.at g.rule (k.none_before f h.among) (h.none_before g k.among)
   where
-    by_numbers : (a r b s : ℕ) → (nat_lt a b || ((a == b) && nat_lt r s)) ≡ false → (nat_lt b a || ((b == a) && nat_lt s r)) ≡ false
+    by_numbers : (a r b s : ℕ) → (nat_lt a b || ((a == b) && nat_lt r s)) ≡ false
+        → (nat_lt b a || ((b == a) && nat_lt s r)) ≡ false
         → fault_as a r ≡ fault_as b s
     by_numbers a r b s h k =
         let e : a ≡ b = grind (arith, h, k) in
