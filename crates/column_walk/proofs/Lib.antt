@@ -1,0 +1,5 @@
+pub mod Chain
+pub mod Filled
+pub mod Parting
+pub mod Shortages
+pub mod Stopped
