@@ -30,20 +30,21 @@ without n (x ∷ xs) = cond (x == n) (without n xs) (x ∷ without n xs)
 without-length : (n : ℕ) (xs : List ℕ) → length (without n xs) + count_of n xs ≡ length xs
 unfolding without
 without-length n [] = refl
-without-length n (x ∷ xs) = go (x == n) refl
+without-length n (x ∷ xs) = go (x == n) refl (without-length n xs)
   where
-    go : (b : Bool) → (x == n) ≡ b → length (cond b (without n xs) (x ∷ without n xs)) + count_of n (x ∷ xs) ≡ suc (length xs)
-    go true e = let r = without-length n xs in let c = count-cons n x xs ∙ ap (λ b. cond b 1 0 + count_of n xs) e in omega arith
-    go false e = let r = without-length n xs in let c = count-cons n x xs ∙ ap (λ b. cond b 1 0 + count_of n xs) e in omega arith
+    go : (b : Bool) → (x == n) ≡ b → length (without n xs) + count_of n xs ≡ length xs →
+        length (cond b (without n xs) (x ∷ without n xs)) + count_of n (x ∷ xs) ≡ suc (length xs)
+    go true e r = let c = count-cons n x xs ∙ ap (λ b. cond b 1 0 + count_of n xs) e in omega arith
+    go false e r = let c = count-cons n x xs ∙ ap (λ b. cond b 1 0 + count_of n xs) e in omega arith
 
 without-count : (n m : ℕ) (xs : List ℕ) → count_of m (without n xs) ≤ count_of m xs
 unfolding without
 without-count n m [] = omega arith
-without-count n m (x ∷ xs) = go (x == n)
+without-count n m (x ∷ xs) = go (x == n) (without-count n m xs)
   where
-    go : (b : Bool) → count_of m (cond b (without n xs) (x ∷ without n xs)) ≤ count_of m (x ∷ xs)
-    go true = let r = without-count n m xs in let c = count-cons m x xs in omega arith
-    go false = let r = without-count n m xs in let c = count-cons m x xs in let e = count-cons m x (without n xs) in omega arith
+    go : (b : Bool) → count_of m (without n xs) ≤ count_of m xs → count_of m (cond b (without n xs) (x ∷ without n xs)) ≤ count_of m (x ∷ xs)
+    go true r = let c = count-cons m x xs in omega arith
+    go false r = let c = count-cons m x xs in let e = count-cons m x (without n xs) in omega arith
 
 without-below : (n : ℕ) (xs : List ℕ) → All (λ x. x < suc n) xs → All (λ x. x < n) (without n xs)
 unfolding without

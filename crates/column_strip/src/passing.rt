@@ -55,16 +55,16 @@ fn into_item(flows: &Flows, flow: u32, k: u32, across: OpenBoxes) -> OpenBoxes
 }
 
 /// The boxes open across the seam after item `k`, where these are open at it.
-fn out_of_item(flows: &Flows, flow: u32, k: u32, open: OpenBoxes) -> OpenBoxes
+fn out_of_item(flows: &Flows, flow: u32, k: u32, here: OpenBoxes) -> OpenBoxes
     requires flow { flow < length flows.now.flows }
     requires item { k < length (flow_of flows.now flow).items }
-    requires open { IsOpen flows.now (flow_of flows.now flow) k open }
+    requires here { IsOpen flows.now (flow_of flows.now flow) k here }
     ensures { IsAcross flows.now (flow_of flows.now flow) (k + 1) result }
 {
     // Sealed flows are sound.
     let _counts = flow_counts(flows);
     let seam = seam_at(flows, flow, k + 1);
-    open.after_tail(flows, seam.tail.as_slice())
+    here.after_tail(flows, seam.tail.as_slice())
 }
 
 /// The boxes open at a flow's start.
@@ -89,8 +89,8 @@ pub fn across_seam(flows: &Flows, flow: u32, k: u32) -> OpenBoxes
     }
     let mut across = opened_boxes(flows, flow);
     for j in 0..k {
-        let open = into_item(flows, flow, j, across);
-        across = out_of_item(flows, flow, j, open);
+        let here = into_item(flows, flow, j, across);
+        across = out_of_item(flows, flow, j, here);
     }
     across
 }

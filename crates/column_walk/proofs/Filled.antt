@@ -1,5 +1,5 @@
 -- What a row that is filled answers, and what is known of it.
-use Rattle.std.proofs.Common.{Result, Ok, Err, IfOk, ◌≡◌, ℕ, zero, suc, ◌+◌, ◌<◌, ◌≤◌, ◌^◌, Bool, true, false, cond, List, [], ◌∷◌, ◌++◌, map, length, get_or, Option, Some, None, refl, sym, ◌∙◌, ap, subst, arith, All}
+use Rattle.std.proofs.Common.{Result, Ok, Err, IfOk, OnOk, ◌≡◌, ℕ, zero, suc, ◌+◌, ◌<◌, ◌≤◌, ◌^◌, Bool, true, false, cond, List, [], ◌∷◌, ◌++◌, map, length, get_or, Option, Some, None, refl, sym, ◌∙◌, ap, subst, arith, All, ◌⊎◌, inl, inr}
 use Rattle.std.specs.Prelude.{flat_map}
 use Rattle.std.specs.List.{AllByRecursion as Each}
 use Rattle.std.proofs.lemmas.List.Elements.{All-from_recursion}
@@ -14,6 +14,7 @@ use Rattle.flow_list.specs.Folds.{fill_told}
 use Rattle.flow_list.specs.Rows.{all_rows, columns, columns_by, fill_in, rows_to, up_to}
 use Rattle.flow_list.specs.Tokens.{Token, IsPlaceBefore, is_end, item_number, row_start, within}
 use Rattle.flow_list.proofs.PlaceBounds.{Each-append}
+use Rattle.flow_laws.proofs.RowsAdvance.{fill-is-later}
 use Rattle.flow_laws.proofs.SoundRows.{rows-of-data}
 use Rattle.column_laws.proofs.Counting.{columns-are-few}
 use Rattle.column_laws.proofs.Depths.{rows-are-told}
@@ -111,9 +112,26 @@ made-end d sound n r q h lt nests le place out made =
     let s = (columns-are-few d sound r lt).fills_are_short n q h nests place in
     omega arith
 
+pub made-some : (d : FlowsData) → IsSound d → (r : ℕ) (q : Token) (h : ℕ) → r < length d.rows → IsPlaceBefore d (flow_in d r) q → (out : Made) →
+    IsMade ((all_rows d).fill r q h) h out → 0 < length out.end
+made-some d sound r q h lt place out made = rw made.end (go ((all_rows d).fill r q h).end (fill-is-later d sound r lt q h place).place)
+  where
+    go : (u : Token) → (u ≡ length (flow_in d r).items ∷ []) ⊎ IsPlaceBefore d (flow_in d r) u → 0 < length u
+    go u (inl e) = let l = ap length e in omega arith
+    go [] (inr p) = absurd p
+    go (i ∷ rest) (inr p) = omega arith
+
 pub if-ok : {A E : Type 0} (r : Result A E) (P Q : A → Type 0) → ((v : A) → P v → Q v) → IfOk r P → IfOk r Q
 if-ok (Ok v) P Q f p = f v p
 if-ok (Err e) P Q f p = tt
+
+pub on-ok : {A E : Type 0} (r : Result A E) {P : Type 0} → P → OnOk r P
+on-ok (Ok v) p = p
+on-ok (Err e) p = tt
+
+pub on-if : {A E : Type 0} (r : Result A E) (P Q : Type 0) → (P → Q) → OnOk r P → OnOk r Q
+on-if (Ok v) P Q f p = f p
+on-if (Err e) P Q f p = tt
 
 -- ---- rows among the items of a flow
 

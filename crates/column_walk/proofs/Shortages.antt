@@ -58,3 +58,16 @@ module _ (s : Step) (h : ℕ) (above : h < s.need) where
       ap Some (ap (λ n. n - h) (fold-both s.need (cond (nat_lt 0 s.height && nat_lt h begin) (begin ∷ []) []) (cond (is_cut s h) ((begin + s.height) ∷ map (λ b. begin + b) made.bounds) []))
       ∙ cuts (is_cut s h) made (fold min s.need (cond (nat_lt 0 s.height && nat_lt h begin) (begin ∷ []) [])) inner refl same
       ∙ ap (λ n. cond (is_cut s h) (least_of (min n (begin + s.height - h)) inner) n) (begins (nat_lt 0 s.height && nat_lt h begin)))
+
+  -- as code finds it
+  pub cut-short : (made : Filled) (inner : Option ℕ) → is_cut s h ≡ true → inner ≡ shortage (room s h) made.bounds → (first : Option ℕ) (least lower least_all : ℕ) →
+      first ≡ cond (nat_lt 0 s.height && nat_lt h begin) (Some (begin - h)) None → least ≡ least_of (s.need - h) first → lower ≡ min least (begin + s.height - h) → least_all ≡ least_of lower inner →
+      Some least_all ≡ shortage h (bounds_at s h (Some made))
+  cut-short made inner is same first least lower least_all f l m a =
+      ap Some (a ∙ ap (λ n. least_of n inner) (m ∙ ap (λ n. min n (begin + s.height - h)) (l ∙ ap (λ o. least_of (s.need - h) o) f)))
+      ∙ sym (row-short made inner (λ e. same) ∙ rw is refl)
+
+  pub whole-short : (made : Filled) (inner : Option ℕ) → is_cut s h ≡ false → (first : Option ℕ) (least : ℕ) →
+      first ≡ cond (nat_lt 0 s.height && nat_lt h begin) (Some (begin - h)) None → least ≡ least_of (s.need - h) first → Some least ≡ shortage h (bounds_at s h (Some made))
+  whole-short made inner is first least f l =
+      ap Some (l ∙ ap (λ o. least_of (s.need - h) o) f) ∙ sym (row-short made inner (λ e. absurd (cc)) ∙ rw is refl)

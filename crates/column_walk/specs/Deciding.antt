@@ -48,6 +48,16 @@ pub record IsStopped (b : Option Place) (avoids : Bool) (s : Step) (h : ℕ) (fi
   pub lines : out.lines ≡ first_line out.overflow out.end (Some s.item) ∷ inner_lines (is_cut s h) filled
   pub fills : out.filled ≡ filled_at h (Some s) out.end
 
+-- the column without a stop that ends there
+pub record IsUnstopped (p : Place) (out : Decision) : Type 0 where
+  pub end : out.end ≡ p.end
+  pub level : IsLevel out.level p.level
+  pub overflow : out.overflow ≡ p.overflow
+  pub extent : out.extent ≡ p.extent
+  pub short : out.short ≡ None
+  pub lines : out.lines ≡ first_line out.overflow out.end None ∷ []
+  pub fills : out.filled ≡ None
+
 -- a decision of these parts
 pub record IsTold (spot : Spot) (stop short : Option ℕ) (inner : List ColumnLine) (filled : Option FilledRow) (out : Decision) : Type 0 where
   pub end : out.end ≡ spot.end

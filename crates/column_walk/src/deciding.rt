@@ -1,6 +1,6 @@
 //! Where a column ends from a place on, and what that rests on.
 
-ghost use Rattle.std.specs.Prelude.{◌≡◌, ℕ, ◌+◌, ◌^◌, ◌<◌, ◌≤◌, All, List, Option, Some, None, [], IfOk, IfSome, OnOk, cond, false, true, is_none, length, nat_le, nat_lt, ◌&&◌, ◌||◌};
+ghost use Rattle.std.specs.Prelude.{◌≡◌, ℕ, ◌+◌, ◌^◌, ◌<◌, ◌≤◌, All, List, Option, Some, None, [], IfOk, IfSome, OnOk, cond, false, true, is_none, length, nat_le, nat_lt, not, ◌&&◌, ◌||◌, ◌==◌};
 ghost use Rattle.flow_data.specs.declared.data.Edge.{Edge};
 ghost use Rattle.flow_data.specs.Flows.{flow_in, flow_of, item_of, rows_in, seam_of};
 ghost use Rattle.flow_data.specs.Soundness.{NestsAtMost};
@@ -12,8 +12,8 @@ ghost use Rattle.flow_list.specs.Tokens.{IsPlaceBefore, Token as Place, within};
 ghost use Rattle.frag_pool.specs.Nodes.{SameTrial};
 ghost use Rattle.inner_scratch.specs.Entries.{uses_in};
 ghost use Rattle.inner_scratch.specs.TrueBook.{AreTrue, BookAfter};
-ghost use Rattle.column_walk.specs.Deciding.{IsDecision, IsStopped, IsTold};
-ghost use Rattle.column_walk.specs.Endings.{IsSmall, place_opt, spot_place, step_of};
+ghost use Rattle.column_walk.specs.Deciding.{IsDecision, IsStopped, IsUnstopped};
+ghost use Rattle.column_walk.specs.Endings.{IsSmall, place_of, place_opt, step_of};
 ghost use Rattle.column_walk.specs.Stopping.{AreShallow, IsMade, IsPlaceOf, stop_of};
 
 use crate::endings::{Ending, Here, at_seam, here_at, is_filled, is_forced_at, seam_or_whole, with_last};
@@ -62,6 +62,13 @@ fn row_if(taken: bool, item: u32, height: Units) -> Option<FilledRow>
     }
 }
 
+/// Whether a place within a row is a good one: the row begins within the height, and none of its columns overflows.
+fn is_good(begins: bool, overflow: bool) -> bool
+    ensures { result ≡ (begins && not overflow) }
+{
+    begins && !overflow
+}
+
 /// The column that stops at an atom.
 fn stop_at_atom(alloc: Global, here: Here, height: Units, best: Option<Ending>) -> Result<Decision, NoMemory>
     requires item { here.item + 1 < 2 ^ 32 }
@@ -106,6 +113,7 @@ fn stop_in_row(
     requires before { IfSome best (λ e. e.item ≤ here.item) }
     requires fills { (nat_lt (room (step_of here None []) height) here.height && (nat_le (here.y + here.bottoms) height
         || is_none (place_opt best))) ≡ true }
+    requires some { 0 < length filled.now.end }
     requires end { length filled.now.end ≤ 2 }
     requires shallow { AreShallow filled.now.lines }
     ensures { IfOk result (λ out. (made : AnyFilled) (r : ℕ × Place) →
@@ -117,7 +125,7 @@ fn stop_in_row(
     let _counts = flow_counts(flows);
     let room = here.room_in(height);
     let begins = here.begins_in(height);
-    let good = begins && !filled.overflow;
+    let good = is_good(begins, filled.overflow);
     let tail = seam_at(flows, flow, here.item + 1).tail.as_slice();
     let inside = inside_spot(alloc, here, room, tail, filled);
     let taken = row_if(takes_it(best, &inside, good), here.item, room);
@@ -182,10 +190,17 @@ fn stop<I: InnerRows, C: Tally>(
 
 /// The column that ends before a forced break or at the flow's end.
 fn unstopped(alloc: Global, ending: Ending) -> Result<Decision, NoMemory>
-    ensures { IfOk result (λ out. (spot_of out ≡ place_of ending) × (is_forced out.level ≡ false) × (out.short ≡ None) × (out.filled ≡ None)
-        × (out.lines ≡ first_line ending.overflow (ending.item ∷ []) None ∷ [])) }
+    ensures { IfOk result (IsUnstopped (place_of ending)) }
 {
     decided(alloc, at_seam(alloc, ending), None, None, &[], None)
+}
+
+/// Whether a column ends after item `k`: before a forced break, or at the end of this many items.
+fn ends_after(level: Level, k: u32, count: u32) -> bool
+    requires { k < count }
+    ensures { result ≡ (is_forced level || (k + 1 == count)) }
+{
+    is_forced_at(level) || k + 1 == count
 }
 
 /// The place within the first item of a column, where that is entered, else an item's start.
@@ -252,7 +267,7 @@ pub fn decide<I: InnerRows, C: Tally>(
         if here.need > height {
             return stop(alloc, inner, flows, flow, here, item, &at, height, best, book, pool, tally);
         }
-        if is_end(behind.level, k, count) {
+        if ends_after(behind.level, k, count) {
             return unstopped(alloc, here.ending());
         }
         before = past_head(flows, flow, k, behind);

@@ -1,6 +1,6 @@
 //! Places where a column may end, and its items as they stand in it.
 
-ghost use Rattle.std.specs.Prelude.{◌≡◌, ◌+◌, ◌<◌, length, cond, false, nat_le, nat_lt, is_none, unwrap_or, ◌&&◌, ◌||◌, [], None};
+ghost use Rattle.std.specs.Prelude.{◌≡◌, ◌+◌, ◌^◌, ◌<◌, length, cond, false, nat_le, nat_lt, is_none, unwrap_or, ◌&&◌, ◌||◌, [], None};
 ghost use Rattle.flow_data.specs.Flows.{flow_of, item_of, seam_of};
 ghost use Rattle.flow_list.specs.Column.{avoids_at, better_place, is_forced, rank, room, row_from, step_at};
 ghost use Rattle.flow_list.specs.Rows.{all_rows};
@@ -96,13 +96,15 @@ pub fn here_at(flows: &Flows, flow: u32, k: u32, height: Units, before: Before, 
     requires strip { strip_of behind.strip ≡ lay_all (put (strip_of before.strip) height) (seam_of (flow_of flows.now flow) (k + 1)).tail }
     ensures item { result.item ≡ k }
     ensures height { result.height ≡ height }
+    ensures level { result.level ≡ before.level }
     ensures step { (q : Place) → height ≡ height_at flows.now (flow_of flows.now flow) k q →
         step_of result (row_from (item_of (flow_of flows.now flow) k) q) (seam_of (flow_of flows.now flow) (k + 1)).tail
         ≡ step_at (all_rows flows.now) flows.now (flow_of flows.now flow) (strip_of before.strip) k q }
     ensures avoids { result.avoids ≡ avoids_at flows.now (flow_of flows.now flow) k }
     ensures small { IsSmall (seam_of (flow_of flows.now flow) (k + 1)).tail result }
 {
-    let is_last = k + 1 == item_count(flows, flow);
+    let count = item_count(flows, flow);
+    let is_last = k + 1 == count;
     Here {
         item: k,
         level: before.level,

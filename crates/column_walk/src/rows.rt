@@ -93,6 +93,7 @@ pub fn fill_row<I: InnerRows, C: Tally>(
     requires engine { I.is_true inner.old flows.now book.old pool.old }
     requires book { AreTrue flows.now book.old }
     ensures fill { IfOk result (IsMade ((all_rows flows.now).fill row from.now height) height) }
+    ensures some { IfOk result (λ out. 0 < length out.end) }
     ensures end { IfOk result (λ out. length out.end ≤ 2) }
     ensures shallow { IfOk result (λ out. AreShallow out.lines) }
     ensures depth { I.depth inner.new ≡ I.depth inner.old }

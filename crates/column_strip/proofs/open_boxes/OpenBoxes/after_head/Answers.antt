@@ -1,4 +1,4 @@
-use Rattle.std.proofs.Common.{arith, take_all}
+use Rattle.std.proofs.Common.{◌≤◌, length, arith, take_all}
 use Rattle.flow_data.specs.declared.data.Edge.TheVariants.{Margin}
 use Rattle.flow_data.specs.Flows.{started}
 use Rattle.column_strip.proofs.BoxSteps.{room-next, with-next, with-none}
@@ -18,4 +18,4 @@ loop-edge-preserved c =
     c.loop-edge.invariant c.after_start-open.ensures
 
 pub returns : goal.returns
-returns c = rw take_all at c.loop-edge.invariant
+returns c = let le : length c.args.head.now ≤ c.loop-edge.edge-index = omega arith in rw take_all at c.loop-edge.invariant

@@ -1,4 +1,4 @@
-use Rattle.std.proofs.Common.{arith, take_all}
+use Rattle.std.proofs.Common.{◌≤◌, length, arith, take_all}
 use Rattle.flow_data.specs.declared.data.Edge.TheVariants.{Margin}
 use Rattle.flow_data.specs.Flows.{ended}
 use Rattle.column_strip.proofs.BoxSteps.{among-next, less-next, with-none}
@@ -18,4 +18,4 @@ loop-edge-preserved c =
     c.loop-edge.invariant c.after_end-open.ensures
 
 pub returns : goal.returns
-returns c = rw take_all at c.loop-edge.invariant
+returns c = let le : length c.args.tail.now ≤ c.loop-edge.edge-index = omega arith in rw take_all at c.loop-edge.invariant

@@ -1,4 +1,4 @@
-use Rattle.std.proofs.Common.{sym, arith, take_all}
+use Rattle.std.proofs.Common.{◌≤◌, length, arith, take_all}
 use Rattle.column_strip.proofs.BoxSteps.{one_box, boxes-one, room-next, with-next, with-none}
 use Rattle.column_strip.proofs.open_boxes.OpenBoxes.with_all.Goals as goal
 
@@ -16,4 +16,4 @@ loop-number-preserved c =
     c.loop-number.invariant c.with-open.ensures
 
 pub returns : goal.returns
-returns c = rw (boxes-one, take_all) at c.loop-number.invariant
+returns c = let le : length c.args.boxes.now ≤ c.loop-number.number-index = omega arith in rw (boxes-one, take_all) at c.loop-number.invariant
