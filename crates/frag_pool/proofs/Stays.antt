@@ -4,16 +4,10 @@ use Rattle.mc_base.specs.PlainTree.{PlainTree, PlainTrees, atom, piece, row_piec
 use Rattle.mc_base.specs.declared.fragment.FragId.{FragId}
 use Rattle.mc_base.specs.declared.fragment.FragId.TheVariants.{Kept, Trial}
 use Rattle.mc_base.specs.declared.fragment.Node.{Node}
+pub use Rattle.frag_pool.specs.Growing.{Grows}
 use Rattle.frag_pool.specs.Nodes.{Nodes, node_of}
 use Rattle.frag_pool.specs.Standing.{StandsFor, AllStandFor}
 use Rattle.frag_pool.proofs.Closed.{get-left}
-
--- every node that was live is live and unchanged
-pub record Grows (old new : Nodes) : Type 0 where
-  pub more_kept : List Node
-  pub more_trial : List Node
-  pub kept : new.kept ≡ old.kept ++ more_kept
-  pub trial : new.trial ≡ old.trial ++ more_trial
 
 -- each node of old is in new
 pub record Keeps (old new : Nodes) : Type 0 where
