@@ -6,9 +6,9 @@ use Rattle.flow_data.specs.declared.data.FlowsData.{FlowsData}
 use Rattle.flow_list.specs.Book.{after_uses}
 use Rattle.flow_list.specs.Certificate.{Use, stands_in, entered, entered_with, size_uses}
 use Rattle.frag_pool.specs.Nodes.{Nodes, SameTrial, back_to}
-use Rattle.inner_scratch.specs.Growing.{Grows, KeptGrows}
-use Rattle.inner_scratch.specs.TrueBook.{AreTrue, BookAfter, Extends}
-use Rattle.inner_scratch.specs.declared.book.SizeEntry.{SizeEntry}
+use Rattle.frag_pool.specs.Growing.{Grows, KeptGrows}
+use Rattle.inner_rows.specs.TrueBook.{AreTrue, BookAfter, Extends}
+use Rattle.flow_list.specs.declared.book.SizeEntry.{SizeEntry}
 
 -- ---- the book
 

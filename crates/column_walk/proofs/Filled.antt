@@ -19,8 +19,8 @@ use Rattle.flow_laws.proofs.SoundRows.{rows-of-data}
 use Rattle.column_laws.proofs.Counting.{columns-are-few}
 use Rattle.column_laws.proofs.Depths.{rows-are-told}
 use Rattle.column_laws.proofs.Uses.{rows-at}
-use Rattle.inner_scratch.specs.Filling.{IsFilled}
-use Rattle.inner_scratch.specs.declared.inner.Filled.{Filled as Made}
+use Rattle.inner_rows.specs.Filling.{IsFilled}
+use Rattle.inner_rows.specs.declared.inner.Filled.{Filled as Made}
 use Rattle.column_walk.specs.Stopping.{AreShallow, IsMade, IsPlaceOf, place_of_item}
 
 -- what is told of a row's columns is what the definition makes of the row

@@ -8,8 +8,8 @@ use Rattle.flow_list.specs.Column.{ColumnLine, Filled, Place, Step, alone_place,
 use Rattle.flow_list.specs.Folds.{shortage}
 use Rattle.flow_list.specs.Fragments.{fills_item}
 use Rattle.flow_list.specs.Tokens.{Token}
-use Rattle.inner_scratch.specs.Filling.{IsLevel}
-use Rattle.inner_scratch.specs.declared.inner.Filled.{Filled as Made}
+use Rattle.inner_rows.specs.Filling.{IsLevel}
+use Rattle.inner_rows.specs.declared.inner.Filled.{Filled as Made}
 use Rattle.column_walk.specs.declared.deciding.Decision.{Decision}
 use Rattle.column_walk.specs.declared.deciding.FilledRow.{FilledRow}
 use Rattle.column_walk.specs.declared.endings.Ending.{Ending}

@@ -6,7 +6,7 @@ use Rattle.flow_list.specs.Column.{Column, ColumnLine, Filled, Inner, Place, Ste
 use Rattle.flow_list.specs.Folds.{shortage}
 use Rattle.flow_list.specs.Fragments.{fills_item}
 use Rattle.flow_list.specs.Tokens.{Token}
-use Rattle.inner_scratch.specs.Filling.{IsLevel}
+use Rattle.inner_rows.specs.Filling.{IsLevel}
 use Rattle.column_walk.specs.declared.deciding.Decision.{Decision}
 use Rattle.column_walk.specs.declared.deciding.FilledRow.{FilledRow}
 use Rattle.column_walk.specs.declared.endings.Spot.{Spot}

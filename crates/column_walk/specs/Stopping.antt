@@ -8,8 +8,8 @@ use Rattle.flow_data.specs.Flows.{flow_in, item_of, seam_of}
 use Rattle.flow_list.specs.Column.{ColumnLine, Filled, Place, Step, alone_place, best, choose, inside, row_from}
 use Rattle.flow_list.specs.Folds.{shortage}
 use Rattle.flow_list.specs.Tokens.{IsPlaceBefore, Token}
-use Rattle.inner_scratch.specs.Filling.{IsLevel}
-use Rattle.inner_scratch.specs.declared.inner.Filled.{Filled as Made}
+use Rattle.inner_rows.specs.Filling.{IsLevel}
+use Rattle.inner_rows.specs.declared.inner.Filled.{Filled as Made}
 use Rattle.column_walk.specs.declared.endings.Here.{Here}
 use Rattle.column_walk.specs.Endings.{step_of}
 

@@ -7,7 +7,8 @@ ghost use Rattle.column_walk.specs.Stopping.{AreShallow};
 
 use crate::deciding::{Decision, FilledRow};
 use crate::endings::Spot;
-use inner_scratch::{ColLine, Filled};
+use flow_list::ColLine;
+use inner_rows::Filled;
 use mc_base::{List, NoMemory, Token, Units};
 use std::alloc::Global;
 

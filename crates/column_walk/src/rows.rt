@@ -8,14 +8,14 @@ ghost use Rattle.flow_list.specs.Column.{row_from, row_list};
 ghost use Rattle.flow_list.specs.Rows.{all_rows};
 ghost use Rattle.flow_list.specs.Tokens.{IsPlaceBefore};
 ghost use Rattle.frag_pool.specs.Nodes.{SameTrial};
-ghost use Rattle.inner_scratch.specs.Entries.{uses_in};
-ghost use Rattle.inner_scratch.specs.TrueBook.{AreTrue, BookAfter};
+ghost use Rattle.flow_list.specs.Entries.{uses_in};
+ghost use Rattle.inner_rows.specs.TrueBook.{AreTrue, BookAfter};
 ghost use Rattle.column_strip.specs.Passed.{height_at};
 ghost use Rattle.column_walk.specs.Stopping.{AreShallow, IsMade, IsPlaceOf};
 
-use flow_list::{Counts, Flows, Item, Tally, flow_counts};
+use flow_list::{Book, Counts, Flows, Item, Tally, flow_counts};
 use frag_pool::Pool;
-use inner_scratch::{Book, Filled, InnerRows};
+use inner_rows::{Filled, InnerRows};
 use mc_base::{NoMemory, Token, Units};
 
 fn no_counts() -> Counts {

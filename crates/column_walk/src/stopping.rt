@@ -10,7 +10,7 @@ ghost use Rattle.column_walk.specs.Stopping.{IsMade, chosen_of, least_of, takes_
 use crate::endings::{Ending, Here, Spot, at_seam, rank_of, unforced};
 use column_strip::Laying;
 use flow_list::Edge;
-use inner_scratch::Filled;
+use inner_rows::Filled;
 use mc_base::{Level, Token, Units};
 use std::alloc::Global;
 

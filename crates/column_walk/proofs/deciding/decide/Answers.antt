@@ -5,7 +5,7 @@ use Rattle.flow_data.specs.Flows.{flow_of, seam_of}
 use Rattle.flow_list.specs.Column.{is_forced}
 use Rattle.flow_list.specs.Strip.{Strip, lay_all, put}
 use Rattle.flow_laws.proofs.Places.{in-items}
-use Rattle.inner_scratch.specs.Entries.{uses_in}
+use Rattle.flow_list.specs.Entries.{uses_in}
 use Rattle.column_strip.specs.Strips.{strip_of}
 use Rattle.column_walk.specs.Endings.{considered, place_opt}
 use Rattle.column_walk.proofs.Chain.{book-both, book-same, pool-both, pool-same}

@@ -3,8 +3,8 @@ use Rattle.std.specs.Prelude.{IfSome}
 use Rattle.flow_data.specs.Flows.{flow_of}
 use Rattle.flow_list.specs.Tokens.{item_number}
 use Rattle.frag_pool.specs.Nodes.{SameTrial}
-use Rattle.inner_scratch.specs.Entries.{uses_in}
-use Rattle.inner_scratch.specs.TrueBook.{BookAfter}
+use Rattle.flow_list.specs.Entries.{uses_in}
+use Rattle.inner_rows.specs.TrueBook.{BookAfter}
 use Rattle.column_strip.specs.Passed.{IsBefore, height_at}
 use Rattle.column_strip.specs.Strips.{strip_of}
 use Rattle.column_walk.specs.Endings.{place_opt}

@@ -6,7 +6,7 @@ use Rattle.flow_data.specs.Soundness.{NestsAtMost}
 use Rattle.flow_list.specs.Book.{after_uses}
 use Rattle.flow_list.specs.Column.{fill_in_room, inner_uses, is_cut, room, row_from}
 use Rattle.flow_list.specs.Rows.{all_rows}
-use Rattle.inner_scratch.specs.Entries.{uses_in}
+use Rattle.flow_list.specs.Entries.{uses_in}
 use Rattle.column_walk.specs.Deciding.{IsStopped}
 use Rattle.column_walk.specs.Endings.{place_opt, step_of}
 use Rattle.column_walk.specs.Stopping.{stop_of}
