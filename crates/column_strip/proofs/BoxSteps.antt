@@ -1,5 +1,6 @@
 -- Boxes that come or go one part of a list after another: what is summed so far, and the next part.
-use Rattle.std.proofs.Common.{◌≡◌, ℕ, zero, suc, ◌+◌, ◌<◌, ◌≤◌, ◌^◌, cond, List, [], ◌∷◌, ◌++◌, length, get_or, take, refl, sym, ◌∙◌, ap, arith, sum_by}
+use Rattle.std.proofs.Common.{◌≡◌, ℕ, zero, suc, ◌+◌, ◌<◌, ◌≤◌, cond, List, [], ◌∷◌, ◌++◌, length, get_or, take, refl}
+use Rattle.std.proofs.Common.{◌∙◌, ap, arith, sum_by}
 use Rattle.std.specs.List.{flat_map}
 use Rattle.std.proofs.lemmas.Grind.{flat_map-append}
 use Rattle.std.proofs.lemmas.List.{append-nil, take_more}
@@ -20,7 +21,8 @@ module _ {X : Type 0} (of : X → List ℕ) (parts : List X) (i : ℕ) (x : X) (
   step-list : flat_map of (take (i + 1) parts) ≡ flat_map of (take i parts) ++ (of (get_or parts i x) ++ [])
   step-list = ap (flat_map of) (take_more parts i x lt) ∙ flat_map-append of (take i parts) (get_or parts i x ∷ [])
 
-  step-sum : (g : ℕ → ℕ) → sum_by g (flat_map of (take (i + 1) parts)) ≡ sum_by g (flat_map of (take i parts)) + sum_by g (of (get_or parts i x))
+  step-sum : (g : ℕ → ℕ) → sum_by g (flat_map of (take (i + 1) parts)) ≡ sum_by g (flat_map of (take i parts)) + sum_by g
+      (of (get_or parts i x))
   step-sum g =
       let e = ap (sum_by g) step-list in
       let a = sum_by-append g (flat_map of (take i parts)) (of (get_or parts i x) ++ []) in
@@ -47,7 +49,8 @@ module _ {X : Type 0} (d : FlowsData) (of : X → List ℕ) (parts : List X) (i 
   abbrev avoid_of : ℕ → ℕ
   avoid_of b = cond (box_of d b).avoid 1 0
 
-  pub room-next : (o now : OpenBoxes) → HasRoom d o (flat_map of parts) → IsWith d o (flat_map of (take i parts)) now → HasRoom d now (of (get_or parts i x))
+  pub room-next : (o now : OpenBoxes) → HasRoom d o (flat_map of parts) → IsWith d o (flat_map of (take i parts)) now
+      → HasRoom d now (of (get_or parts i x))
   room-next o now room with =
       let rt = room.above in
       let rb = room.below in
@@ -61,7 +64,8 @@ module _ {X : Type 0} (d : FlowsData) (of : X → List ℕ) (parts : List X) (i 
         avoid = omega (arith, part-sum of parts i x lt avoid_of);
       }
 
-  pub with-next : (o now next : OpenBoxes) → IsWith d o (flat_map of (take i parts)) now → IsWith d now (of (get_or parts i x)) next → IsWith d o (flat_map of (take (i + 1) parts)) next
+  pub with-next : (o now next : OpenBoxes) → IsWith d o (flat_map of (take i parts)) now
+      → IsWith d now (of (get_or parts i x)) next → IsWith d o (flat_map of (take (i + 1) parts)) next
   with-next o now next with more =
       let wt = with.above in
       let wb = with.below in
@@ -75,7 +79,8 @@ module _ {X : Type 0} (d : FlowsData) (of : X → List ℕ) (parts : List X) (i 
         avoid = omega (arith, step-sum of parts i x lt avoid_of);
       }
 
-  pub among-next : (o now : OpenBoxes) → HasAmong d o (flat_map of parts) → IsWith d now (flat_map of (take i parts)) o → HasAmong d now (of (get_or parts i x))
+  pub among-next : (o now : OpenBoxes) → HasAmong d o (flat_map of parts) → IsWith d now (flat_map of (take i parts)) o
+      → HasAmong d now (of (get_or parts i x))
   among-next o now among with =
       let rt = among.above in
       let rb = among.below in
@@ -89,7 +94,8 @@ module _ {X : Type 0} (d : FlowsData) (of : X → List ℕ) (parts : List X) (i 
         avoid = omega (arith, part-sum of parts i x lt avoid_of);
       }
 
-  pub less-next : (o now next : OpenBoxes) → IsWith d now (flat_map of (take i parts)) o → IsWith d next (of (get_or parts i x)) now → IsWith d next (flat_map of (take (i + 1) parts)) o
+  pub less-next : (o now next : OpenBoxes) → IsWith d now (flat_map of (take i parts)) o
+      → IsWith d next (of (get_or parts i x)) now → IsWith d next (flat_map of (take (i + 1) parts)) o
   less-next o now next with more =
       let wt = with.above in
       let wb = with.below in

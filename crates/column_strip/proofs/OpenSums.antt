@@ -1,7 +1,8 @@
 -- What the boxes have that are open in a sound flow: at a head those come that start there, at a tail those go that end there.
-use Rattle.std.proofs.Common.{◌≡◌, ℕ, zero, suc, ◌+◌, ◌<◌, ◌≤◌, ◌^◌, Bool, true, false, cond, List, [], ◌∷◌, length, get_or, refl, sym, ◌∙◌, ap, arith, sum_by, All}
+use Rattle.std.proofs.Common.{◌≡◌, ℕ, zero, suc, ◌+◌, ◌<◌, ◌≤◌, ◌^◌, Bool, true, false, cond, List, [], ◌∷◌, length, refl}
+use Rattle.std.proofs.Common.{sym, ◌∙◌, ap, arith, sum_by, All}
 use Rattle.std.specs.Prelude.{nat_lt, ◌==◌, ◌||◌}
-use Rattle.std.specs.List.{flat_map, list_any}
+use Rattle.std.specs.List.{flat_map}
 use Rattle.std.proofs.lemmas.Bool.Decides.{nat_tests}
 use Rattle.std.proofs.lemmas.List.Sums.{sum_by-cons}
 use Rattle.flow_data.specs.declared.data.Edge.{Edge}
@@ -18,7 +19,7 @@ use Rattle.flow_list.proofs.AtomFlows.{one-of}
 use Rattle.flow_list.proofs.Fitting.{open_across-le}
 use Rattle.flow_list.proofs.OpenAcross.{across-sum, across-known, at-sum-is}
 use Rattle.column_strip.specs.declared.open_boxes.OpenBoxes.{OpenBoxes}
-use Rattle.column_strip.specs.Boxes.{avoiding, IsOf, IsAcross, IsOpen, IsWith, HasRoom, HasAmong}
+use Rattle.column_strip.specs.Boxes.{avoiding, IsAcross, IsOpen, IsWith, HasRoom, HasAmong}
 
 -- ---- how many there are
 
@@ -42,7 +43,8 @@ unfolding without
 without-count n m [] = omega arith
 without-count n m (x ∷ xs) = go (x == n) (without-count n m xs)
   where
-    go : (b : Bool) → count_of m (without n xs) ≤ count_of m xs → count_of m (cond b (without n xs) (x ∷ without n xs)) ≤ count_of m (x ∷ xs)
+    go : (b : Bool) → count_of m (without n xs) ≤ count_of m xs
+        → count_of m (cond b (without n xs) (x ∷ without n xs)) ≤ count_of m (x ∷ xs)
     go true r = let c = count-cons m x xs in omega arith
     go false r = let c = count-cons m x xs in let e = count-cons m x (without n xs) in omega arith
 
@@ -64,7 +66,8 @@ few-below : (n : ℕ) (xs : List ℕ) → All (λ x. x < n) xs → ((m : ℕ) �
 few-below zero [] all once = omega arith
 few-below zero (x ∷ xs) all once = let a : x < 0 = all 0 x (omega arith) in absurd (omega arith)
 few-below (suc n) xs all once =
-    let r = few-below n (without n xs) (without-below n xs all) (λ m. let a = without-count n m xs in let b = once m in omega arith) in
+    let r = few-below n (without n xs) (without-below n xs all) (λ m. let a = without-count n m xs in let b = once m
+    in omega arith) in
     let l = without-length n xs in
     let o = once n in
     omega arith
@@ -98,7 +101,8 @@ sum-none g n (x ∷ xs) none all = let a : x < n = all 0 x (omega arith) in absu
 
 sum-both : (p q : ℕ → ℕ) (xs : List ℕ) → sum_by (λ b. p b + q b) xs ≡ sum_by p xs + sum_by q xs
 sum-both p q [] = refl
-sum-both p q (x ∷ xs) = let a = sum_by-cons (λ b. p b + q b) x xs in let b = sum_by-cons p x xs in let c = sum_by-cons q x xs in let r = sum-both p q xs in omega arith
+sum-both p q (x ∷ xs) = let a = sum_by-cons (λ b. p b + q b) x xs in let b = sum_by-cons p x xs in let c = sum_by-cons q x xs
+    in let r = sum-both p q xs in omega arith
 
 -- ---- a sound flow
 
@@ -133,7 +137,8 @@ module _ (d : FlowsData) (n : ℕ) (sound : IsSound d) (in_flows : n < length d.
       }
 
   -- the boxes open at the flow's start
-  module _ (none : OpenBoxes) (no_tops : none.tops ≡ 0) (no_bottoms : none.bottoms ≡ 0) (no_avoiding : none.avoiding ≡ 0) (opened : List ℕ) (is : opened ≡ f.opened) where
+  module _ (none : OpenBoxes) (no_tops : none.tops ≡ 0) (no_bottoms : none.bottoms ≡ 0) (no_avoiding : none.avoiding ≡ 0)
+      (opened : List ℕ) (is : opened ≡ f.opened) where
     pub start-known : All (λ b. b < length d.boxes) opened
     start-known = rw is (opened-known d f sound_flow)
 
@@ -147,7 +152,12 @@ module _ (d : FlowsData) (n : ℕ) (sound : IsSound d) (in_flows : n < length d.
     pub start-across : (o : OpenBoxes) → IsWith d none opened o → IsAcross d f 0 o
     start-across o with =
         let w : IsWith d none f.opened o = rw is at with in
-        record { above = let a = w.above in omega arith; below = let a = w.below in omega arith; avoid = let a = w.avoid in omega arith }
+        record {
+          above = let a = w.above in omega arith;
+          below = let a = w.below in omega arith;
+          avoid = let a = w.avoid
+              in omega arith;
+        }
 
   module _ (k : ℕ) (in_items : k < length f.items) where
     at-seam : k < length f.seams
@@ -157,7 +167,8 @@ module _ (d : FlowsData) (n : ℕ) (sound : IsSound d) (in_flows : n < length d.
     seam-after = let e = sound_flow.seam_count in omega arith
 
     -- the head of the seam before item k
-    module _ (across : OpenBoxes) (is_across : IsAcross d f k across) (seam : Seam) (same : seam ≡ seam_of f k) (head : List Edge) (is : head ≡ seam.head) where
+    module _ (across : OpenBoxes) (is_across : IsAcross d f k across) (seam : Seam) (same : seam ≡ seam_of f k) (head : List Edge)
+        (is : head ≡ seam.head) where
       whole_head : head ≡ (seam_of f k).head
       whole_head = is ∙ ap (λ (s : Seam). s.head) same
 
@@ -170,9 +181,24 @@ module _ (d : FlowsData) (n : ℕ) (sound : IsSound d) (in_flows : n < length d.
           let b = is_across.below in
           let a = is_across.avoid in
           rw whole_head (record {
-            above = omega (arith, boxes-small, at-sum-is d f sound_flow (λ b. (box_of d b).top) k at-seam, open_at-le (λ b. (box_of d b).top) f k);
-            below = omega (arith, boxes-small, at-sum-is d f sound_flow (λ b. (box_of d b).bottom) k at-seam, open_at-le (λ b. (box_of d b).bottom) f k);
-            avoid = omega (arith, boxes-few, at-sum-is d f sound_flow (λ b. cond (box_of d b).avoid 1 0) k at-seam, open_at-le (λ b. cond (box_of d b).avoid 1 0) f k);
+            above = omega (
+              arith,
+              boxes-small,
+              at-sum-is d f sound_flow (λ b. (box_of d b).top) k at-seam,
+              open_at-le (λ b. (box_of d b).top) f k,
+            );
+            below = omega (
+              arith,
+              boxes-small,
+              at-sum-is d f sound_flow (λ b. (box_of d b).bottom) k at-seam,
+              open_at-le (λ b. (box_of d b).bottom) f k,
+            );
+            avoid = omega (
+              arith,
+              boxes-few,
+              at-sum-is d f sound_flow (λ b. cond (box_of d b).avoid 1 0) k at-seam,
+              open_at-le (λ b. cond (box_of d b).avoid 1 0) f k,
+            );
           })
 
       pub head-open : (o : OpenBoxes) → IsWith d across (flat_map started head) o → IsOpen d f k o
@@ -191,7 +217,8 @@ module _ (d : FlowsData) (n : ℕ) (sound : IsSound d) (in_flows : n < length d.
           }
 
     -- the tail of the seam after it
-    module _ (open_here : OpenBoxes) (is_open : IsOpen d f k open_here) (seam : Seam) (same : seam ≡ seam_of f (k + 1)) (tail : List Edge) (is : tail ≡ seam.tail) where
+    module _ (open_here : OpenBoxes) (is_open : IsOpen d f k open_here) (seam : Seam) (same : seam ≡ seam_of f (k + 1))
+        (tail : List Edge) (is : tail ≡ seam.tail) where
       whole_tail : tail ≡ (seam_of f (k + 1)).tail
       whole_tail = is ∙ ap (λ (s : Seam). s.tail) same
 

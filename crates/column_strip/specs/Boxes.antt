@@ -1,5 +1,5 @@
--- What the boxes that are open at a place have again at a break there (`box-decoration-break: clone`, CSS Fragmentation 3, section 5.4),
--- and how many of them avoid a break inside (CSS Fragmentation 3, section 3.2).
+-- What the boxes that are open at a place have again at a break there (`box-decoration-break: clone`, CSS Fragmentation 3,
+-- section 5.4), and how many of them avoid a break inside (CSS Fragmentation 3, section 3.2).
 use Rattle.std.specs.Prelude.{◌≡◌, ℕ, ◌+◌, ◌^◌, ◌<◌, ◌≤◌, cond, List, sum_by}
 use Rattle.flow_data.specs.declared.data.Flow.{Flow}
 use Rattle.flow_data.specs.declared.data.FlowsData.{FlowsData}

@@ -15,8 +15,8 @@ use Rattle.column_strip.specs.Boxes.{IsAcross, IsOpen}
 abbrev pub height_at : FlowsData → Flow → ℕ → Token → ℕ
 height_at d f k q = height_of (all_rows d) (item_of f k) q
 
--- What stands before item k, which has this height, is of the boxes open there and of the seam before it, and leaves room below 2^60 for
--- the rest of the flow.
+-- What stands before item k, which has this height, is of the boxes open there and of the seam before it, and leaves room below
+-- 2^60 for the rest of the flow.
 pub record IsBefore (d : FlowsData) (f : Flow) (k height : ℕ) (b : Before) : Type 0 where
   pub boxes : IsOpen d f k b.boxes
   pub level : b.level ≡ (seam_of f k).level
@@ -28,4 +28,5 @@ pub record IsBehind (d : FlowsData) (f : Flow) (k : ℕ) (b : Behind) : Type 0 w
   pub across : IsAcross d f (k + 1) b.boxes
   pub level : b.level ≡ (seam_of f (k + 1)).level
   pub room : b.strip.y + b.strip.pending + sum_by amount (seam_of f (k + 1)).head
-      + heights_from (all_rows d) row_start (drop (k + 1) f.items) + amounts_in (drop (k + 1 + 1) f.seams) + bottoms d (boxes_in f) < 2 ^ 60
+      + heights_from (all_rows d) row_start (drop (k + 1) f.items) + amounts_in (drop (k + 1 + 1) f.seams) + bottoms d
+      (boxes_in f) < 2 ^ 60

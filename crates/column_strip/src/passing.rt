@@ -102,8 +102,8 @@ fn is_within(place: &Token) -> bool
     place.rest().is_some()
 }
 
-/// What stands before the first item of a column that begins at the start of item `i`: at the flow's start and after a forced break its
-/// margins stay, else those next to the break are dropped (CSS Fragmentation 3, section 5.2).
+/// What stands before the first item of a column that begins at the start of item `i`: at the flow's start and after a forced
+/// break its margins stay, else those next to the break are dropped (CSS Fragmentation 3, section 5.2).
 fn begin_at(flows: &Flows, flow: u32, i: u32, across: OpenBoxes) -> Before
     requires flow { flow < length flows.now.flows }
     requires item { i < length (flow_of flows.now flow).items }
@@ -164,7 +164,8 @@ pub fn past_item(flows: &Flows, flow: u32, k: u32, height: Units, before: Before
     requires flow { flow < length flows.now.flows }
     requires item { k < length (flow_of flows.now flow).items }
     requires before { IsBefore flows.now (flow_of flows.now flow) k height before }
-    ensures strip { strip_of result.strip ≡ lay_all (put (strip_of before.strip) height) (seam_of (flow_of flows.now flow) (k + 1)).tail }
+    ensures strip { strip_of result.strip ≡ lay_all (put (strip_of before.strip) height)
+        (seam_of (flow_of flows.now flow) (k + 1)).tail }
     ensures behind { IsBehind flows.now (flow_of flows.now flow) k result }
 {
     // Sealed flows are sound.

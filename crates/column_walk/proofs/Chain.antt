@@ -1,5 +1,6 @@
 -- Calls one after another: what the book and the region are after both.
-use Rattle.std.proofs.Common.{Result, Ok, Err, OnOk, OnErr, ◌≡◌, ℕ, ◌≤◌, Bool, cond, List, [], ◌∷◌, ◌++◌, length, refl, sym, ◌∙◌, ap, append_assoc, take, arith}
+use Rattle.std.proofs.Common.{Result, Ok, Err, OnOk, OnErr, ◌≡◌, ℕ, ◌≤◌, Bool, cond, List, [], ◌∷◌, ◌++◌, length, refl, sym, ◌∙◌}
+use Rattle.std.proofs.Common.{ap, append_assoc, take, arith}
 use Rattle.std.proofs.lemmas.List.{append-nil, length-append}
 use Rattle.mc_base.specs.declared.fragment.Node.{Node}
 use Rattle.flow_data.specs.declared.data.FlowsData.{FlowsData}
@@ -16,7 +17,11 @@ pub extends-same : (a : List SizeEntry) → Extends a a
 extends-same a = record { more = []; is = sym (append-nil a) }
 
 extends-both : (a b c : List SizeEntry) → Extends a b → Extends b c → Extends a c
-extends-both a b c s t = record { more = s.more ++ t.more; is = t.is ∙ ap (λ xs. xs ++ t.more) s.is ∙ append_assoc a s.more t.more }
+extends-both a b c s t = record {
+  more = s.more ++ t.more;
+  is = t.is ∙ ap (λ xs. xs ++ t.more) s.is
+      ∙ append_assoc a s.more t.more;
+}
 
 pub book-same : (d : FlowsData) (a : List SizeEntry) → AreTrue d a → BookAfter d a a
 book-same d a t = record { held = extends-same a; is_true = t }
@@ -62,10 +67,12 @@ take-all (x ∷ xs) = ap (λ zs. x ∷ zs) (take-all xs)
 -- a call that may have added trial nodes, and after that giving up what it added
 module _ {A E : Type 0} (p q : Nodes) (n : ℕ) (marked : n ≡ length p.trial) where
   pub trial-within : (out : Result A E) → OnOk out (Grows p q) → OnErr out (SameTrial p q) → n ≤ length q.trial
-  trial-within (Ok v) grown refused = let e = ap length grown.trial in let l = length-append p.trial grown.more_trial in omega arith
+  trial-within (Ok v) grown refused = let e = ap length grown.trial in let l = length-append p.trial grown.more_trial
+      in omega arith
   trial-within (Err e) grown refused = let t = ap length refused.trial in omega arith
 
-  pub given-up : (out : Result A E) → OnOk out (Grows p q) → OnErr out (SameTrial p q) → (r : Nodes) → r ≡ back_to q n → SameTrial p r
+  pub given-up : (out : Result A E) → OnOk out (Grows p q) → OnErr out (SameTrial p q) → (r : Nodes) → r ≡ back_to q n
+      → SameTrial p r
   given-up (Ok v) grown refused r back = record {
     more_kept = grown.more_kept;
     kept = ap (λ (p : Nodes). p.kept) back ∙ grown.kept;

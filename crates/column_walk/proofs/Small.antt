@@ -16,7 +16,8 @@ use Rattle.column_walk.specs.declared.endings.Here.{Here}
 use Rattle.column_walk.specs.Endings.{IsSmall}
 use Rattle.column_walk.specs.Stopping.{AreShallow}
 
-module _ (d : FlowsData) (f : Flow) (k height : ℕ) (before : Before) (past : Behind) (is_before : IsBefore d f k height before) (is_past : IsBehind d f k past) where
+module _ (d : FlowsData) (f : Flow) (k height : ℕ) (before : Before) (past : Behind) (is_before : IsBefore d f k height before)
+    (is_past : IsBehind d f k past) where
   pub high-small : height < 2 ^ 60
   high-small = let r = is_before.room in omega arith
 
@@ -39,9 +40,15 @@ module _ (d : FlowsData) (f : Flow) (k height : ℕ) (before : Before) (past : B
       omega (arith, open_across-le (λ b. (box_of d b).bottom) f (k + 1), first-amounts f.seams (k + 1))
 
 pub small-any : (tail : List Edge) (here : Here) → IsSmall tail here → IsSmall [] here
-small-any tail here small = record { high = small.high; needs = small.needs; begins = small.begins; follows = let f = small.follows in omega arith }
+small-any tail here small = record {
+  high = small.high;
+  needs = small.needs;
+  begins = small.begins;
+  follows = let f = small.follows in omega arith;
+}
 
-pub next-fits : (d : FlowsData) → IsSound d → (f : ℕ) → f < length d.flows → (k : ℕ) → k < length (flow_of d f).items → k + 1 < 2 ^ 32
+pub next-fits : (d : FlowsData) → IsSound d → (f : ℕ) → f < length d.flows → (k : ℕ) → k < length (flow_of d f).items
+    → k + 1 < 2 ^ 32
 next-fits d sound f lt k in_items = let c = (sound.flows f no_flow lt).count in omega arith
 
 pub cut-shallow : (b : Bool) (lines : List ColumnLine) → AreShallow lines → AreShallow (cond b lines [])

@@ -2,7 +2,8 @@
 use Rattle.std.specs.Prelude.{◌≡◌, ℕ, ◌-◌, ◌==◌, Bool, true, false, cond, not, ◌&&◌, List, [], ◌∷◌, map, Option, Some, None}
 use Rattle.flow_data.specs.declared.data.Flow.{Flow}
 use Rattle.flow_data.specs.declared.data.FlowsData.{FlowsData}
-use Rattle.flow_list.specs.Column.{Column, ColumnLine, Filled, Inner, Place, Step, bounds_at, column, cut, deeper, inner_lines, is_cut, room, steps_from}
+use Rattle.flow_list.specs.Column.{Column, ColumnLine, Filled, Inner, Place, Step, bounds_at, column, cut, deeper, inner_lines}
+use Rattle.flow_list.specs.Column.{is_cut, room, steps_from}
 use Rattle.flow_list.specs.Folds.{shortage}
 use Rattle.flow_list.specs.Fragments.{fills_item}
 use Rattle.flow_list.specs.Tokens.{Token}
@@ -12,8 +13,8 @@ use Rattle.column_walk.specs.declared.deciding.FilledRow.{FilledRow}
 use Rattle.column_walk.specs.declared.endings.Spot.{Spot}
 use Rattle.column_walk.specs.Stopping.{chosen}
 
--- Whether a column of height h with this stop, which ends at a place, fills the row that the stop is: it ends within it, or behind
--- it though there is too little room for it.
+-- Whether a column of height h with this stop, which ends at a place, fills the row that the stop is: it ends within it, or
+-- behind it though there is too little room for it.
 abbrev pub fills_to : ℕ → Option Step → Token → Bool
 fills_to h stop [] = false
 fills_to h stop (e ∷ []) = fills_item (Some h) stop (e - 1) && not (e == 0)
@@ -39,7 +40,8 @@ abbrev pub first_line : Bool → Token → Option ℕ → ColumnLine
 first_line overflow end stop = record { depth = 0; end = cond overflow None (Some end); stop = stop }
 
 -- the column that stops at an item, where this was the best seam before it, and its row makes filled in the room that is left
-pub record IsStopped (b : Option Place) (avoids : Bool) (s : Step) (h : ℕ) (filled : Option Filled) (out : Decision) : Type 0 where
+pub record IsStopped (b : Option Place) (avoids : Bool) (s : Step) (h : ℕ) (filled : Option Filled) (out : Decision) :
+    Type 0 where
   pub end : out.end ≡ (chosen b avoids s h filled).end
   pub level : IsLevel out.level (chosen b avoids s h filled).level
   pub overflow : out.overflow ≡ (chosen b avoids s h filled).overflow
@@ -59,7 +61,8 @@ pub record IsUnstopped (p : Place) (out : Decision) : Type 0 where
   pub fills : out.filled ≡ None
 
 -- a decision of these parts
-pub record IsTold (spot : Spot) (stop short : Option ℕ) (inner : List ColumnLine) (filled : Option FilledRow) (out : Decision) : Type 0 where
+pub record IsTold (spot : Spot) (stop short : Option ℕ) (inner : List ColumnLine) (filled : Option FilledRow) (out : Decision) :
+    Type 0 where
   pub end : out.end ≡ spot.end
   pub level : out.level ≡ spot.level
   pub overflow : out.overflow ≡ spot.overflow

@@ -1,11 +1,13 @@
 //! Where a column ends from a place on, and what that rests on.
 
-ghost use Rattle.std.specs.Prelude.{◌≡◌, ℕ, ◌+◌, ◌^◌, ◌<◌, ◌≤◌, All, List, Option, Some, None, [], IfOk, IfSome, OnOk, cond, false, true, is_none, length, nat_le, nat_lt, not, ◌&&◌, ◌||◌, ◌==◌};
+ghost use Rattle.std.specs.Prelude.{◌≡◌, ℕ, ◌+◌, ◌^◌, ◌<◌, ◌≤◌, All, List, Option, Some, None, [], IfOk, IfSome, OnOk, cond};
+ghost use Rattle.std.specs.Prelude.{false, true, is_none, length, nat_le, nat_lt, not, ◌&&◌, ◌||◌, ◌==◌};
 ghost use Rattle.flow_data.specs.declared.data.Edge.{Edge};
 ghost use Rattle.flow_data.specs.Flows.{flow_in, flow_of, item_of, rows_in, seam_of};
 ghost use Rattle.flow_data.specs.Soundness.{NestsAtMost};
 ghost use Rattle.flow_list.specs.Book.{after_uses};
-ghost use Rattle.flow_list.specs.Column.{Filled as AnyFilled, column, fill_in_room, inner_uses, is_cut, is_forced, room, row_from};
+ghost use Rattle.flow_list.specs.Column.{Filled as AnyFilled, column, fill_in_room, inner_uses, is_cut, is_forced, room};
+ghost use Rattle.flow_list.specs.Column.{row_from};
 ghost use Rattle.flow_list.specs.Looks.{looks};
 ghost use Rattle.flow_list.specs.Rows.{all_rows};
 ghost use Rattle.flow_list.specs.Tokens.{IsPlaceBefore, Token as Place, within};
@@ -16,7 +18,9 @@ ghost use Rattle.column_walk.specs.Deciding.{IsDecision, IsStopped, IsUnstopped}
 ghost use Rattle.column_walk.specs.Endings.{IsSmall, place_of, place_opt, step_of};
 ghost use Rattle.column_walk.specs.Stopping.{AreShallow, IsMade, IsPlaceOf, stop_of};
 
-use crate::endings::{Ending, Here, at_seam, here_at, is_filled, is_forced_at, seam_or_whole, with_last};
+use crate::endings::{
+    Ending, Here, at_seam, here_at, is_filled, is_forced_at, seam_or_whole, with_last,
+};
 use crate::lines::{cut_lines, decided};
 use crate::rows::{fill_row, height_from};
 use crate::stopping::{chosen_spot, inside_spot, row_short, takes_it};
@@ -70,18 +74,36 @@ fn is_good(begins: bool, overflow: bool) -> bool
 }
 
 /// The column that stops at an atom.
-fn stop_at_atom(alloc: Global, here: Here, height: Units, best: Option<Ending>) -> Result<Decision, NoMemory>
+fn stop_at_atom(
+    alloc: Global,
+    here: Here,
+    height: Units,
+    best: Option<Ending>,
+) -> Result<Decision, NoMemory>
     requires item { here.item + 1 < 2 ^ 32 }
     requires above { height < here.need }
     requires before { IfSome best (λ e. e.item ≤ here.item) }
-    ensures { IfOk result (λ out. (tail : List Edge) → IsStopped (place_opt best) here.avoids (step_of here None tail) height None out) }
+    ensures { IfOk result (λ out. (tail : List Edge)
+        → IsStopped (place_opt best) here.avoids (step_of here None tail) height None out) }
 {
     let spot = seam_or_whole(alloc, best, here);
-    decided(alloc, spot, Some(here.item), Some(here.need - height), &[], None)
+    decided(
+        alloc,
+        spot,
+        Some(here.item),
+        Some(here.need - height),
+        &[],
+        None,
+    )
 }
 
 /// The column that stops at a row which isn't filled: it has the room, or begins too low after a seam.
-fn stop_at_row(alloc: Global, here: Here, height: Units, best: Option<Ending>) -> Result<Decision, NoMemory>
+fn stop_at_row(
+    alloc: Global,
+    here: Here,
+    height: Units,
+    best: Option<Ending>,
+) -> Result<Decision, NoMemory>
     requires item { here.item + 1 < 2 ^ 32 }
     requires above { height < here.need }
     requires small { IsSmall [] here }
@@ -118,7 +140,8 @@ fn stop_in_row(
     requires shallow { AreShallow filled.now.lines }
     ensures { IfOk result (λ out. (made : AnyFilled) (r : ℕ × Place) →
         IsMade made (room (step_of here None []) height) filled.now →
-        IsStopped (place_opt best) here.avoids (step_of here (Some r) (seam_of (flow_of flows.now flow) (here.item + 1)).tail) height
+        IsStopped (place_opt best) here.avoids (step_of here (Some r) (seam_of (flow_of flows.now flow) (here.item + 1)).tail)
+        height
         (Some made) out) }
 {
     // Sealed flows are sound.
@@ -131,7 +154,14 @@ fn stop_in_row(
     let taken = row_if(takes_it(best, &inside, good), here.item, room);
     let spot = chosen_spot(alloc, best, inside, good);
     let short = row_short(here, height, begins, filled.short);
-    decided(alloc, spot, Some(here.item), Some(short), cut_lines(filled, begins), taken)
+    decided(
+        alloc,
+        spot,
+        Some(here.item),
+        Some(short),
+        cut_lines(filled, begins),
+        taken,
+    )
 }
 
 /// The column that has no room for an item, where this is the best seam before it.
@@ -160,13 +190,15 @@ fn stop<I: InnerRows, C: Tally>(
     requires small { IsSmall (seam_of (flow_of flows.now flow) (here.item + 1)).tail here }
     requires above { height < here.need }
     requires before { IfSome best (λ e. e.item ≤ here.item) }
-    ensures stopped { IfOk result (IsStopped (place_opt best) here.avoids (stop_of (flow_of flows.now flow) here item from.now) height
+    ensures stopped { IfOk result
+        (IsStopped (place_opt best) here.avoids (stop_of (flow_of flows.now flow) here item from.now) height
         (fill_in_room (all_rows flows.now) (row_from item from.now) (room (step_of here None []) height))) }
     ensures depth { I.depth inner.new ≡ I.depth inner.old }
     ensures engine { I.is_true inner.new flows.now book.new pool.new }
     ensures book { BookAfter flows.now book.old book.new }
     ensures uses { OnOk result (uses_in book.new ≡ after_uses flows.now (uses_in book.old) (inner_uses
-        (cond (is_none (place_opt best)) (nat_lt (room (step_of here None []) height) here.height) (is_cut (step_of here None []) height))
+        (cond (is_none (place_opt best)) (nat_lt (room (step_of here None []) height) here.height)
+        (is_cut (step_of here None []) height))
         (fill_in_room (all_rows flows.now) (row_from item from.now) (room (step_of here None []) height)))) }
     ensures pool { SameTrial pool.old pool.new }
     ensures read { C.read_count tally.new ≡ C.read_count tally.old }
@@ -215,13 +247,13 @@ fn place_within(alloc: Global, from: &Token) -> Token
 
 /// The column of a flow that begins at a place before its end, at a height in units: where it ends, and what that rests on.
 ///
-/// Of the seams up to the first item that there is no room for, and the place within that item where it is a row, the column ends at
-/// the one of least level, and among equals at the latest (CSS Fragmentation 3, section 4.5). Items are read from the place on
+/// Of the seams up to the first item that there is no room for, and the place within that item where it is a row, the column ends
+/// at the one of least level, and among equals at the latest (CSS Fragmentation 3, section 4.5). Items are read from the place on
 /// alone. What the column uses is entered in the book in the order of first use, and no fragment is made: trial nodes are as they
 /// were.
 ///
-/// The rows of the flow have an item each, and a place within one has at most two numbers. Want of memory: the book may have further
-/// true entries.
+/// The rows of the flow have an item each, and a place within one has at most two numbers. Want of memory: the book may have
+/// further true entries.
 pub fn decide<I: InnerRows, C: Tally>(
     alloc: Global,
     inner: &mut I,
@@ -265,7 +297,9 @@ pub fn decide<I: InnerRows, C: Tally>(
         let here = here_at(flows, flow, k, high, before, behind);
         best = with_last(best, last, before.level);
         if here.need > height {
-            return stop(alloc, inner, flows, flow, here, item, &at, height, best, book, pool, tally);
+            return stop(
+                alloc, inner, flows, flow, here, item, &at, height, best, book, pool, tally,
+            );
         }
         if ends_after(behind.level, k, count) {
             return unstopped(alloc, here.ending());

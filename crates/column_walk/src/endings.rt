@@ -1,6 +1,7 @@
 //! Places where a column may end, and its items as they stand in it.
 
-ghost use Rattle.std.specs.Prelude.{◌≡◌, ◌+◌, ◌^◌, ◌<◌, length, cond, false, nat_le, nat_lt, is_none, unwrap_or, ◌&&◌, ◌||◌, [], None};
+ghost use Rattle.std.specs.Prelude.{◌≡◌, ◌+◌, ◌^◌, ◌<◌, length, cond, false, nat_le, nat_lt, is_none, unwrap_or, ◌&&◌, ◌||◌, []};
+ghost use Rattle.std.specs.Prelude.{None};
 ghost use Rattle.flow_data.specs.Flows.{flow_of, item_of, seam_of};
 ghost use Rattle.flow_list.specs.Column.{avoids_at, better_place, is_forced, rank, room, row_from, step_at};
 ghost use Rattle.flow_list.specs.Rows.{all_rows};
@@ -34,9 +35,10 @@ pub struct Spot {
     pub overflow: bool,
 }
 
-/// An item as it stands in a column, in units from the column's top: the level of the seam before it, where it begins, its height,
-/// and what the column needs to hold it with the tail of the seam after it and the cloned edges there. Then the level of that
-/// seam, the cloned edges below the boxes open at the item and across that seam, and whether one of the former avoids a break.
+/// An item as it stands in a column, in units from the column's top: the level of the seam before it, where it begins, its
+/// height, and what the column needs to hold it with the tail of the seam after it and the cloned edges there. Then the level of
+/// that seam, the cloned edges below the boxes open at the item and across that seam, and whether one of the former avoids a
+/// break.
 #[derive(Clone, Copy)]
 pub struct Here {
     pub item: u32,
@@ -88,12 +90,20 @@ fn next_level(is_last: bool, level: Level) -> Level
 }
 
 /// Item `k` of this height, where the one stands before it and the other after it.
-pub fn here_at(flows: &Flows, flow: u32, k: u32, height: Units, before: Before, behind: Behind) -> Here
+pub fn here_at(
+    flows: &Flows,
+    flow: u32,
+    k: u32,
+    height: Units,
+    before: Before,
+    behind: Behind,
+) -> Here
     requires flow { flow < length flows.now.flows }
     requires item { k < length (flow_of flows.now flow).items }
     requires before { IsBefore flows.now (flow_of flows.now flow) k height before }
     requires behind { IsBehind flows.now (flow_of flows.now flow) k behind }
-    requires strip { strip_of behind.strip ≡ lay_all (put (strip_of before.strip) height) (seam_of (flow_of flows.now flow) (k + 1)).tail }
+    requires strip { strip_of behind.strip ≡ lay_all (put (strip_of before.strip) height)
+        (seam_of (flow_of flows.now flow) (k + 1)).tail }
     ensures item { result.item ≡ k }
     ensures height { result.height ≡ height }
     ensures level { result.level ≡ before.level }
@@ -215,7 +225,8 @@ pub fn seam_or_whole(alloc: Global, best: Option<Ending>, here: Here) -> Spot
     }
 }
 
-/// Whether the row of an item is filled: there is too little room for it, and it begins high enough or is the column's first item.
+/// Whether the row of an item is filled: there is too little room for it, and it begins high enough or is the column's first
+/// item.
 pub fn is_filled(high: Units, room: Units, begins: bool, best: Option<Ending>) -> bool
     ensures { result ≡ (nat_lt room high && (begins || is_none (place_opt best))) }
 {

@@ -57,7 +57,12 @@ pub fn cut_lines(filled: &Filled, cuts: bool) -> &[ColLine]
 }
 
 /// The lines of a column that ends there: its own, and those of the row that it cuts, one deeper.
-fn lines_of(alloc: Global, spot: &Spot, stop: Option<u32>, inner: &[ColLine]) -> Result<List<ColLine>, NoMemory>
+fn lines_of(
+    alloc: Global,
+    spot: &Spot,
+    stop: Option<u32>,
+    inner: &[ColLine],
+) -> Result<List<ColLine>, NoMemory>
     requires { AreShallow inner.now }
     ensures { IfOk result (λ lines. lines ≡ first_line spot.now.overflow spot.now.end stop ∷ map deeper inner.now) }
 {

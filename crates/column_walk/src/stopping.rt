@@ -1,6 +1,7 @@
 //! Where a column ends that stops at a row, and how far above its height that may change.
 
-ghost use Rattle.std.specs.Prelude.{◌≡◌, ℕ, ◌+◌, ◌-◌, ◌^◌, ◌<◌, ◌≤◌, Option, Some, None, [], ◌∷◌, cond, length, nat_lt, true, false, ◌&&◌};
+ghost use Rattle.std.specs.Prelude.{◌≡◌, ℕ, ◌+◌, ◌-◌, ◌^◌, ◌<◌, ◌≤◌, Option, Some, None, [], ◌∷◌, cond, length, nat_lt, true};
+ghost use Rattle.std.specs.Prelude.{false, ◌&&◌};
 ghost use Rattle.flow_list.specs.Column.{Filled as AnyFilled, bounds_at, inside_place, is_cut, is_forced, rank, room, tail_from};
 ghost use Rattle.flow_list.specs.Folds.{shortage};
 ghost use Rattle.flow_list.specs.Tokens.{Token as Place};
@@ -122,7 +123,8 @@ fn lesser(a: Units, b: Option<Units>) -> Units
 /// How far above a height a row that begins too low would begin within it, where the row has a height.
 fn begin_short(here: Here, height: Units) -> Option<Units>
     requires { IsSmall [] here }
-    ensures { result ≡ cond (nat_lt 0 here.height && nat_lt height (here.y + here.bottoms)) (Some (here.y + here.bottoms - height)) None }
+    ensures { result ≡ cond (nat_lt 0 here.height && nat_lt height (here.y + here.bottoms))
+        (Some (here.y + here.bottoms - height)) None }
 {
     let begin = here.y + here.bottoms;
     if here.height > 0 && height < begin {
@@ -143,7 +145,10 @@ pub fn row_short(here: Here, height: Units, cuts: bool, inner: Option<Units>) ->
 {
     let least = lesser(here.need - height, begin_short(here, height));
     if cuts {
-        lesser(least.min(here.y + here.bottoms + here.height - height), inner)
+        lesser(
+            least.min(here.y + here.bottoms + here.height - height),
+            inner,
+        )
     } else {
         least
     }

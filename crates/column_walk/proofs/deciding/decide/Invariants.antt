@@ -14,7 +14,8 @@ use Rattle.column_walk.proofs.deciding.decide.Given as goal
 
 abbrev pub invariant-loop-k : goal.invariant-loop-k
 invariant-loop-k g l = record {
-  come : HasCome l.flows (flow_of l.flows l.flow) l.from l.height l.k l.at (strip_of l.before.strip) (place_opt l.best) (place_opt l.last) (uses_in l.fn.book) (uses_in l.book);
+  come : HasCome l.flows (flow_of l.flows l.flow) l.from l.height l.k l.at (strip_of l.before.strip) (place_opt l.best)
+      (place_opt l.last) (uses_in l.fn.book) (uses_in l.book);
   before : IsBefore l.flows (flow_of l.flows l.flow) l.k (height_at l.flows (flow_of l.flows l.flow) l.k l.at) l.before;
   inside : l.k < length (flow_of l.flows l.flow).items;
   start : item_number l.from ≤ l.k;

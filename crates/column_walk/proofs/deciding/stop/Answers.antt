@@ -18,7 +18,8 @@ use Rattle.column_walk.proofs.deciding.stop.Goals as goal
 
 pub fill_row-requires-clause-nests : goal.fill_row-requires-clause-nests
 fill_row-requires-clause-nests g c =
-    row-at (NestsAtMost c.args.flows.now (g.I.InnerRows.depth c.args.inner.now)) (flow_of c.args.flows.now c.args.flow) c.args.here.item c.args.item c.in-Row.row c.requires.item c.in-Row.is c.requires.nests
+    row-at (NestsAtMost c.args.flows.now (g.I.InnerRows.depth c.args.inner.now)) (flow_of c.args.flows.now c.args.flow)
+    c.args.here.item c.args.item c.in-Row.row c.requires.item c.in-Row.is c.requires.nests
 
 pub returns-in-Atom-clause-uses : goal.returns-in-Atom-clause-uses
 returns-in-Atom-clause-uses g c =
@@ -27,7 +28,12 @@ returns-in-Atom-clause-uses g c =
 
 pub returns-then-not-is_filled-clause-uses : goal.returns-then-not-is_filled-clause-uses
 returns-then-not-is_filled-clause-uses g c =
-    let some : row_from c.args.item c.args.from.now ≡ Some (c.in-Row.row, c.args.from.now) = ap (λ i. row_from i c.args.from.now) c.in-Row.is in
-    let unfilled = sym (c.is_filled.ensures ∙ ap (λ n. nat_lt n c.args.here.height && (c.begins_in-begins.result || is_none (place_opt c.args.best))) c.room_in-room.ensures
-        ∙ ap (λ b. nat_lt (room (step_of c.args.here None []) c.args.height) c.args.here.height && (b || is_none (place_opt c.args.best))) c.begins_in-begins.ensures) ∙ c.if-not-is_filled.true in
-    rw (some, uses-unfilled (place_opt c.args.best) (step_of c.args.here None []) c.args.height unfilled) (on-ok c.stop_at_row.result (sym (uses-none c.args.flows.now _)))
+    let some : row_from c.args.item c.args.from.now ≡ Some (c.in-Row.row, c.args.from.now) =
+    ap (λ i. row_from i c.args.from.now) c.in-Row.is in
+    let unfilled = sym (c.is_filled.ensures
+    ∙ ap (λ n. nat_lt n c.args.here.height && (c.begins_in-begins.result || is_none (place_opt c.args.best)))
+    c.room_in-room.ensures
+    ∙ ap (λ b. nat_lt (room (step_of c.args.here None []) c.args.height) c.args.here.height
+    && (b || is_none (place_opt c.args.best))) c.begins_in-begins.ensures) ∙ c.if-not-is_filled.true in
+    rw (some, uses-unfilled (place_opt c.args.best) (step_of c.args.here None []) c.args.height unfilled)
+    (on-ok c.stop_at_row.result (sym (uses-none c.args.flows.now _)))

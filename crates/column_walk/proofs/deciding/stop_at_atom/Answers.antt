@@ -4,4 +4,6 @@ use Rattle.column_walk.proofs.deciding.stop_at_atom.Goals as goal
 
 pub returns : goal.returns
 returns c =
-    if-ok c.decided.result _ _ (λ out told. atom-stopped c.args.here c.args.height c.args.best c.requires.before c.seam_or_whole-spot.result c.seam_or_whole-spot.ensures.place c.seam_or_whole-spot.ensures.level out told) c.decided.ensures
+    if-ok c.decided.result _ _ (λ out told. atom-stopped c.args.here c.args.height c.args.best c.requires.before
+    c.seam_or_whole-spot.result c.seam_or_whole-spot.ensures.place c.seam_or_whole-spot.ensures.level out told)
+    c.decided.ensures

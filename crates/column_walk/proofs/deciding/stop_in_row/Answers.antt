@@ -14,10 +14,12 @@ pub row_short-short-requires-clause-small : goal.row_short-short-requires-clause
 row_short-short-requires-clause-small c = small-any _ c.args.here c.requires.small
 
 pub row_short-short-requires-clause-cut : goal.row_short-short-requires-clause-cut
-row_short-short-requires-clause-cut c = c.begins_in-begins.ensures ∙ sym (cut-begins (place_opt c.args.best) (step_of c.args.here None []) c.args.height c.requires.fills)
+row_short-short-requires-clause-cut c = c.begins_in-begins.ensures
+    ∙ sym (cut-begins (place_opt c.args.best) (step_of c.args.here None []) c.args.height c.requires.fills)
 
 pub inside_spot-inside-requires-clause-item : goal.inside_spot-inside-requires-clause-item
-inside_spot-inside-requires-clause-item c = next-fits c.args.flows.now c.flow_counts-counts.ensures.sound c.args.flow c.requires.flow c.args.here.item c.requires.item
+inside_spot-inside-requires-clause-item c =
+    next-fits c.args.flows.now c.flow_counts-counts.ensures.sound c.args.flow c.requires.flow c.args.here.item c.requires.item
 
 pub inside_spot-inside-requires-clause-room : goal.inside_spot-inside-requires-clause-room
 inside_spot-inside-requires-clause-room c =
@@ -28,7 +30,8 @@ inside_spot-inside-requires-clause-room c =
     omega arith
 
 pub inside_spot-inside-requires-clause-small : goal.inside_spot-inside-requires-clause-small
-inside_spot-inside-requires-clause-small c = rw (c.as_slice-tail.ensures ∙ ap (λ (s : Seam). s.tail) c.seam_at.ensures.same) c.requires.small
+inside_spot-inside-requires-clause-small c =
+    rw (c.as_slice-tail.ensures ∙ ap (λ (s : Seam). s.tail) c.seam_at.ensures.same) c.requires.small
 
 pub decided-requires : goal.decided-requires
 decided-requires c = rw c.cut_lines.ensures (cut-shallow c.begins_in-begins.result c.args.filled.now.lines c.requires.shallow)
@@ -37,10 +40,15 @@ pub returns : goal.returns
 returns c =
     let tail_is = c.as_slice-tail.ensures ∙ ap (λ (s : Seam). s.tail) c.seam_at.ensures.same in
     if-ok c.decided.result _ _ (λ out told. λ made r is_made.
-        inner-stopped (place_opt c.args.best) c.args.here.avoids (step_of c.args.here (Some r) (seam_of (flow_of c.args.flows.now c.args.flow) (c.args.here.item + 1)).tail) c.args.height made c.args.filled.now
-        (seam-to c.args.here.item c.args.best c.requires.before) refl c.requires.fills is_made.overflow is_made.end is_made.lines c.requires.some
-        c.begins_in-begins.result c.is_good-good.result c.takes_it.result c.inside_spot-inside.result c.chosen_spot-spot.result c.row_short-short.result _ c.row_if-taken.result out
-        c.begins_in-begins.ensures c.is_good-good.ensures
-        (rw (tail_is, c.room_in-room.ensures) at (c.inside_spot-inside.ensures made (Some r) (rw c.room_in-room.ensures is_made)))
-        c.takes_it.ensures (c.row_if-taken.ensures ∙ ap (λ n. row_at c.takes_it.result c.args.here.item n) c.room_in-room.ensures) c.chosen_spot-spot.ensures.place c.chosen_spot-spot.ensures.level
-        (c.row_short-short.ensures made (λ e. is_made.short)) c.cut_lines.ensures told) c.decided.ensures
+    inner-stopped (place_opt c.args.best) c.args.here.avoids
+    (step_of c.args.here (Some r) (seam_of (flow_of c.args.flows.now c.args.flow) (c.args.here.item + 1)).tail)
+    c.args.height made c.args.filled.now
+    (seam-to c.args.here.item c.args.best c.requires.before) refl c.requires.fills is_made.overflow is_made.end is_made.lines
+    c.requires.some
+    c.begins_in-begins.result c.is_good-good.result c.takes_it.result c.inside_spot-inside.result c.chosen_spot-spot.result
+    c.row_short-short.result _ c.row_if-taken.result out
+    c.begins_in-begins.ensures c.is_good-good.ensures
+    (rw (tail_is, c.room_in-room.ensures) at (c.inside_spot-inside.ensures made (Some r) (rw c.room_in-room.ensures is_made)))
+    c.takes_it.ensures (c.row_if-taken.ensures ∙ ap (λ n. row_at c.takes_it.result c.args.here.item n) c.room_in-room.ensures)
+    c.chosen_spot-spot.ensures.place c.chosen_spot-spot.ensures.level
+    (c.row_short-short.ensures made (λ e. is_made.short)) c.cut_lines.ensures told) c.decided.ensures

@@ -9,12 +9,14 @@ loop-edge-init c = with-none c.args.flows.now c.args.self
 
 pub after_start-open-requires-clause-room : goal.after_start-open-requires-clause-room
 after_start-open-requires-clause-room c =
-    room-next c.args.flows.now started c.args.head.now c.loop-edge.edge-index (Margin 0) c.loop-edge-test.true c.args.self c.loop-edge.open
+    room-next c.args.flows.now started c.args.head.now c.loop-edge.edge-index (Margin 0) c.loop-edge-test.true c.args.self
+    c.loop-edge.open
     c.requires.room c.loop-edge.invariant
 
 pub loop-edge-preserved : goal.loop-edge-preserved
 loop-edge-preserved c =
-    with-next c.args.flows.now started c.args.head.now c.loop-edge.edge-index (Margin 0) c.loop-edge-test.true c.args.self c.loop-edge.open c.after_start-open.result
+    with-next c.args.flows.now started c.args.head.now c.loop-edge.edge-index (Margin 0) c.loop-edge-test.true c.args.self
+    c.loop-edge.open c.after_start-open.result
     c.loop-edge.invariant c.after_start-open.ensures
 
 pub returns : goal.returns

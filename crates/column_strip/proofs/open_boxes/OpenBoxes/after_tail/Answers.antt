@@ -9,12 +9,14 @@ loop-edge-init c = with-none c.args.flows.now c.args.self
 
 pub after_end-open-requires-clause-among : goal.after_end-open-requires-clause-among
 after_end-open-requires-clause-among c =
-    among-next c.args.flows.now ended c.args.tail.now c.loop-edge.edge-index (Margin 0) c.loop-edge-test.true c.args.self c.loop-edge.open
+    among-next c.args.flows.now ended c.args.tail.now c.loop-edge.edge-index (Margin 0) c.loop-edge-test.true c.args.self
+    c.loop-edge.open
     c.requires.among c.loop-edge.invariant
 
 pub loop-edge-preserved : goal.loop-edge-preserved
 loop-edge-preserved c =
-    less-next c.args.flows.now ended c.args.tail.now c.loop-edge.edge-index (Margin 0) c.loop-edge-test.true c.args.self c.loop-edge.open c.after_end-open.result
+    less-next c.args.flows.now ended c.args.tail.now c.loop-edge.edge-index (Margin 0) c.loop-edge-test.true c.args.self
+    c.loop-edge.open c.after_end-open.result
     c.loop-edge.invariant c.after_end-open.ensures
 
 pub returns : goal.returns

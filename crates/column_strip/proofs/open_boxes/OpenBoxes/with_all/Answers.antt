@@ -7,13 +7,16 @@ loop-number-init c = with-none c.args.flows.now c.args.self
 
 pub with-open-requires-clause-room : goal.with-open-requires-clause-room
 with-open-requires-clause-room c =
-    room-next c.args.flows.now one_box c.args.boxes.now c.loop-number.number-index 0 c.loop-number-test.true c.args.self c.loop-number.open
+    room-next c.args.flows.now one_box c.args.boxes.now c.loop-number.number-index 0 c.loop-number-test.true c.args.self
+    c.loop-number.open
     (rw boxes-one c.requires.room) c.loop-number.invariant
 
 pub loop-number-preserved : goal.loop-number-preserved
 loop-number-preserved c =
-    with-next c.args.flows.now one_box c.args.boxes.now c.loop-number.number-index 0 c.loop-number-test.true c.args.self c.loop-number.open c.with-open.result
+    with-next c.args.flows.now one_box c.args.boxes.now c.loop-number.number-index 0 c.loop-number-test.true c.args.self
+    c.loop-number.open c.with-open.result
     c.loop-number.invariant c.with-open.ensures
 
 pub returns : goal.returns
-returns c = let le : length c.args.boxes.now ≤ c.loop-number.number-index = omega arith in rw (boxes-one, take_all) at c.loop-number.invariant
+returns c = let le : length c.args.boxes.now ≤ c.loop-number.number-index = omega arith
+    in rw (boxes-one, take_all) at c.loop-number.invariant
