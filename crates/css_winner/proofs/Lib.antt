@@ -1,0 +1,8 @@
+pub mod AmongLemmas
+pub mod OrderLemmas
+pub mod ClaimLemmas
+pub mod BestLemmas
+pub mod FilingLemmas
+pub mod KeyLemmas
+pub mod RuleLemmas
+pub mod WinnerLemmas
