@@ -1,5 +1,6 @@
 -- The level of a break at a seam, by what the boxes there ask for (CSS Fragmentation 3, sections 4.1, 4.3 and 4.4).
-use Rattle.std.specs.Prelude.{◌<◌, ◌⊎◌, Bool, true, false, ◌||◌, ◌&&◌, Option, Some, None, IsTrue, IsNone, IsSomeAnd, is_none, Contains, nat_lt, if◌then◌else◌}
+use Rattle.std.specs.Prelude.{◌<◌, ◌⊎◌, Bool, true, false, ◌||◌, ◌&&◌, Option, Some, None, IsTrue, IsNone, IsSomeAnd, is_none}
+use Rattle.std.specs.Prelude.{Contains, nat_lt, if◌then◌else◌}
 use Rattle.std.specs.List.{list_any}
 use Rattle.mc_base.specs.declared.level.Level.{Level}
 use Rattle.mc_base.specs.declared.level.Level.TheVariants.{Forced, L0, L1, L2}

@@ -23,7 +23,7 @@ use Rattle.flow_laws.proofs.Small.{within-reach, needs-small, cuts-small, needs-
 use Rattle.column_laws.specs.AnyFlow.{atoms_of_flow, flow_fragment, flow_columns, IsLaterIn, FlowAdvances, FlowIsSmall, FlowIsSound}
 use Rattle.column_laws.proofs.Bounds.{reach-small, bounds-small}
 
--- where a row is cut at any height, and the tail behind it
+-- where a row is cut at any height, and the tail after it
 abbrev CutIsSmall : Step → Type 0
 CutIsSmall s = (a : ℕ) → a ≤ s.height → (s.y + a + s.bottoms < 2 ^ 60) × (tail_from (s.y + a) s.tail + s.bottoms_after < 2 ^ 60)
 

@@ -54,7 +54,7 @@ pub record FlowIsSmall (d : FlowsData) (f : ℕ) : Type 0 where
   -- so is how far a column reaches
   pub extents_are_small : (t : Token) (h : Option ℕ) → IsPlaceBefore d (flow_of d f) t →
       (column_within d (flow_of d f) h t).extent < 2 ^ 60
-  -- and where a row of it ends that is cut, with the tail of the seam behind it
+  -- and where a row of it ends that is cut, with the tail of the seam after it
   pub cuts_are_small : (t : Token) → IsPlaceBefore d (flow_of d f) t →
       All (λ (s : Step). (a : ℕ) → a ≤ s.height → (s.y + a + s.bottoms < 2 ^ 60)
       × (tail_from (s.y + a) s.tail + s.bottoms_after < 2 ^ 60)) (steps_from (all_rows d) d (flow_of d f) t)

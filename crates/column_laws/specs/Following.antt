@@ -76,7 +76,7 @@ pub record FoldsFollow (f : Flow) : Type 0 where
   -- rest
   pub failure_before : (cs ds : List Column) → list_any fails cs ≡ true → to_failure (cs ++ ds) ≡ to_failure cs
   pub failure_behind : (cs ds : List Column) → list_any fails cs ≡ false → to_failure (cs ++ ds) ≡ cs ++ to_failure ds
-  -- whether they fit doesn't depend on the columns behind that one
+  -- whether they fit doesn't depend on the columns after that one
   pub fits_to_failure : (q : Token) (cs : List Column) → reach_end f q (to_failure cs) ≡ reach_end f q cs
 
 -- ---- heights that fit

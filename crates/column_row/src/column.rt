@@ -80,7 +80,7 @@ fn with_last(best: Option<Ending>, last: Option<Ending>, level: Level) -> Option
     }
 }
 
-/// Where a column ends that has no room for an item: at the best seam before it, or else behind it.
+/// Where a column ends that has no room for an item: at the best seam before it, or else after it.
 fn stopped(best: Option<Ending>, here: Ending, is_last: bool, level: Level) -> Ending
     ensures best { IfSome best (λ b. result ≡ b) }
     ensures alone { IfNone best (result ≡ record here { level = cond is_last 0 (rank level); overflow = true }) }
@@ -101,8 +101,10 @@ pub fn column_at(flows: &Flows, flow: u32, begin: Beginning, height: Units) -> E
     requires atoms { HoldsAtoms (flow_of flows.now flow) }
     requires item { begin.item < length (flow_of flows.now flow).items }
     requires cloned { IsAcross flows.now (flow_of flows.now flow) begin.item begin.cloned }
-    ensures place { place_of result ≡ place_in (column (all_rows flows.now) flows.now (flow_of flows.now flow) (begin.item ∷ []) height) }
-    ensures stays { (h : ℕ) → height ≤ h → IsBelow h result.bound → place_of result ≡ place_in (column (all_rows flows.now) flows.now (flow_of flows.now flow) (begin.item ∷ []) h) }
+    ensures place { place_of result
+        ≡ place_in (column (all_rows flows.now) flows.now (flow_of flows.now flow) (begin.item ∷ []) height) }
+    ensures stays { (h : ℕ) → height ≤ h → IsBelow h result.bound
+        → place_of result ≡ place_in (column (all_rows flows.now) flows.now (flow_of flows.now flow) (begin.item ∷ []) h) }
     ensures bound { IsBelow height result.bound }
     ensures later { begin.item < result.item }
     ensures within { result.item ≤ length (flow_of flows.now flow).items }

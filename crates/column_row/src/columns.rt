@@ -91,7 +91,9 @@ fn lesser(first: Option<Units>, second: Option<Units>) -> Option<Units>
 pub fn try_height(flows: &Flows, flow: u32, most: u64, height: Units) -> Trial
     requires flow { flow < length flows.now.flows }
     requires atoms { HoldsAtoms (flow_of flows.now flow) }
-    ensures stays { (h : ℕ) → height ≤ h → IsBelow h result.next → result.fits ≡ reach_end (flow_of flows.now flow) row_start (columns (all_rows flows.now) flows.now (flow_of flows.now flow) most row_start h) }
+    ensures stays { (h : ℕ) → height ≤ h → IsBelow h result.next
+        → result.fits ≡ reach_end (flow_of flows.now flow) row_start
+        (columns (all_rows flows.now) flows.now (flow_of flows.now flow) most row_start h) }
     ensures next { IsBelow height result.next }
 {
     let count = item_count(flows, flow);
@@ -144,10 +146,18 @@ pub fn columns_at(
 ) -> Result<Made, NoMemory>
     requires flow { flow < length flows.now.flows }
     requires atoms { HoldsAtoms (flow_of flows.now flow) }
-    ensures ends { IfOk result (λ r. ends_of (columns (all_rows flows.now) flows.now (flow_of flows.now flow) (length (flow_of flows.now flow).items) row_start height) ≡ before_items r.ends) }
-    ensures fits { IfOk result (λ r. reach_end (flow_of flows.now flow) row_start (columns (all_rows flows.now) flows.now (flow_of flows.now flow) most row_start height) ≡ r.fits) }
-    ensures extent { IfOk result (λ r. greatest_extent (columns (all_rows flows.now) flows.now (flow_of flows.now flow) (length (flow_of flows.now flow).items) row_start height) ≡ r.extent) }
-    ensures unforced { IfOk result (λ r. any_unforced (flow_of flows.now flow) (columns (all_rows flows.now) flows.now (flow_of flows.now flow) (length (flow_of flows.now flow).items) row_start height) ≡ r.unforced) }
+    ensures ends { IfOk result
+        (λ r. ends_of (columns (all_rows flows.now) flows.now (flow_of flows.now flow) (length (flow_of flows.now flow).items)
+        row_start height) ≡ before_items r.ends) }
+    ensures fits { IfOk result (λ r. reach_end (flow_of flows.now flow) row_start
+        (columns (all_rows flows.now) flows.now (flow_of flows.now flow) most row_start height) ≡ r.fits) }
+    ensures extent { IfOk result (λ r. greatest_extent
+        (columns (all_rows flows.now) flows.now (flow_of flows.now flow) (length (flow_of flows.now flow).items) row_start
+        height) ≡ r.extent) }
+    ensures unforced { IfOk result
+        (λ r. any_unforced (flow_of flows.now flow)
+        (columns (all_rows flows.now) flows.now (flow_of flows.now flow) (length (flow_of flows.now flow).items) row_start
+        height) ≡ r.unforced) }
 {
     let count = item_count(flows, flow);
     let mut begin = beginning(flows, flow);

@@ -3,7 +3,9 @@
 ghost use Rattle.std.specs.Prelude.{◌≡◌, ◌<◌, IfOk, Some, false, length, true};
 ghost use Rattle.flow_list.specs.Atoms.{HoldsAtoms};
 ghost use Rattle.flow_data.specs.Flows.{flow_in, row_of};
-ghost use Rattle.flow_list.specs.RowHeights.{balanced_height, before_items, columns_of_row, ends_of, greatest_extent, height_fits, row_columns, row_height, size_of, any_unforced, filled_to, is_all_of, items_of, fill_limit};
+ghost use Rattle.flow_list.specs.RowHeights.{balanced_height, before_items, columns_of_row, ends_of, greatest_extent};
+ghost use Rattle.flow_list.specs.RowHeights.{height_fits, row_columns, row_height, size_of, any_unforced, filled_to, is_all_of};
+ghost use Rattle.flow_list.specs.RowHeights.{items_of, fill_limit};
 ghost use Rattle.flow_list.specs.Tokens.{row_start};
 
 use crate::bounds::first_height;
@@ -54,7 +56,8 @@ fn made_at(alloc: Global, flows: &Flows, row: u32, height: Units) -> Result<Made
     ensures places { IfOk result (λ r. before_items r.ends ≡ ends_of (row_columns flows.now row (Some height))) }
     ensures fits { IfOk result (λ r. r.fits ≡ height_fits flows.now row height) }
     ensures extent { IfOk result (λ r. r.extent ≡ greatest_extent (row_columns flows.now row (Some height))) }
-    ensures unforced { IfOk result (λ r. r.unforced ≡ any_unforced (flow_in flows.now row) (row_columns flows.now row (Some height))) }
+    ensures unforced { IfOk result
+        (λ r. r.unforced ≡ any_unforced (flow_in flows.now row) (row_columns flows.now row (Some height))) }
 {
     // Sealed flows are sound.
     let _counts = flow_counts(flows);

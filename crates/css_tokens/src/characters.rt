@@ -8,9 +8,11 @@ ghost use Rattle.css_tokens.specs.Characters as kinds;
 ghost use Rattle.css_tokens.specs.Lexing as lex;
 ghost use Rattle.css_tokens.specs.Classes.{test_of};
 
-use crate::cursor::Cursor;
 use mc_base::Text;
 use std::alloc::AllocError;
+use text_cursor::Cursor;
+
+pub use text_cursor::{begins, offset, push};
 
 /// A kind of characters.
 #[derive(Clone, Copy)]
@@ -65,16 +67,6 @@ fn passes(class: Class, character: char) -> bool
     }
 }
 
-/// Whether the next character is this one.
-pub fn begins(cursor: &Cursor, character: char) -> bool
-    ensures { result ≡ places.begins character cursor.now }
-{
-    match cursor.peek() {
-        Some(place) => place.character == character,
-        None => false,
-    }
-}
-
 /// Whether the next character is of a kind.
 pub fn begins_with(cursor: &Cursor, class: Class) -> bool
     ensures { result ≡ places.begins_with (test_of class) cursor.now }
@@ -82,16 +74,6 @@ pub fn begins_with(cursor: &Cursor, class: Class) -> bool
     match cursor.peek() {
         Some(place) => passes(class, place.character),
         None => false,
-    }
-}
-
-/// The byte of the next character, or 0.
-pub fn offset(cursor: &Cursor) -> u64
-    ensures { result ≡ places.place_or 0 cursor.now }
-{
-    match cursor.peek() {
-        Some(place) => place.at,
-        None => 0,
     }
 }
 
@@ -124,15 +106,6 @@ pub fn skip(cursor: &mut Cursor, class: Class)
         }
         cursor.bump();
     }
-}
-
-/// Adds a character at the end of a text.
-pub fn push(text: &mut Text, character: char) -> Result<(), AllocError>
-    ensures { OnOk result (text.new ≡ text.old ++ encode_utf8 character) }
-{
-    let mut bytes = [0u8; 4];
-    let spelled = character.encode_utf8(&mut bytes);
-    text.extend(spelled.as_bytes())
 }
 
 /// Goes past characters of a kind, and adds them to a text.

@@ -6,7 +6,6 @@
 #![tactic(auto)]
 
 mod characters;
-mod cursor;
 mod depth;
 mod facts;
 mod lexeme;

@@ -5,12 +5,12 @@ ghost use Rattle.html_grammar.specs.Places.{places_of};
 ghost use Rattle.css_tokens.specs.Lexing as lex;
 ghost use Rattle.css_tokens.specs.Gives.{Gives};
 
-use crate::cursor::Cursor;
 use crate::lexeme::{Fault, Lexeme};
 use crate::symbols::piece;
 use mc_base::{List, ReadError, sound_len};
 use std::alloc::{AllocError, Global};
 use std::str;
+use text_cursor::Cursor;
 
 fn push_piece(all: &mut List<Lexeme>, piece: Option<Lexeme>) -> Result<(), AllocError>
     ensures { OnOk result (all.new ≡ all.old ++ option_to_list piece) }

@@ -7,10 +7,10 @@ ghost use Rattle.css_tokens.specs.Lexing as lex;
 use crate::characters::{
     Class, after_first, begins, begins_with, character, find_end, offset, push, skip, take,
 };
-use crate::cursor::Cursor;
 use crate::lexeme::{Lexeme, Symbol};
 use mc_base::Text;
 use std::alloc::{AllocError, Global};
+use text_cursor::Cursor;
 
 /// Whether an identifier comes next.
 fn begins_ident(cursor: &Cursor) -> bool

@@ -1,8 +1,10 @@
 -- One more letter, word and paragraph.
-use Rattle.std.proofs.Common.{◌≡◌, ℕ, zero, suc, ◌+◌, ◌*◌, ◌%◌, ◌^◌, ◌≤◌, [], ◌∷◌, ◌++◌, refl, sym, arith, add-one, List, ap, ◌∙◌, append_assoc}
+use Rattle.std.proofs.Common.{◌≡◌, ℕ, zero, suc, ◌+◌, ◌*◌, ◌%◌, ◌^◌, ◌≤◌, [], ◌∷◌, ◌++◌, refl, sym, arith, add-one, List, ap, ◌∙◌}
+use Rattle.std.proofs.Common.{append_assoc}
 use Rattle.std.proofs.Math.Nat.{mod-add-mod}
 use Rattle.std.proofs.lemmas.Grind.{common_steps}
-use Rattle.doc_gen.specs.Document.{next_state, draw_of, state_after, letters, word, after_word, word_state, words, paragraph, after_paragraph, heading, after_heading, part_state, parts}
+use Rattle.doc_gen.specs.Document.{next_state, draw_of, state_after, letters, word, after_word, word_state, words, paragraph}
+use Rattle.doc_gen.specs.Document.{after_paragraph, heading, after_heading, part_state, parts}
 
 pub state_none : (s : ℕ) → state_after 0 s ≡ s
 unfolding state_after
@@ -49,7 +51,8 @@ pub part_state_more : (n s : ℕ) → part_state (n + 1) s ≡ after_paragraph (
 unfolding part_state
 part_state_more n s = rw add-one
 
-pub parts_more : (n s : ℕ) → parts (n + 1) s ≡ parts n s ++ (heading n (part_state n s) ++ paragraph (after_heading n (part_state n s)))
+pub parts_more : (n s : ℕ) → parts (n + 1) s
+    ≡ parts n s ++ (heading n (part_state n s) ++ paragraph (after_heading n (part_state n s)))
 unfolding parts
 parts_more n s = rw add-one
 
@@ -58,7 +61,8 @@ unfolding next_state
 next_is s = sym (mod-add-mod (s * 6364136223846793005) (2 ^ 64) 1442695040888963407)
 
 -- three pieces that are put one after another
-pub three_pieces : (old first second third a b c : List ℕ) → first ≡ old ++ a → second ≡ first ++ b → third ≡ second ++ c → third ≡ old ++ ((a ++ b) ++ c)
+pub three_pieces : (old first second third a b c : List ℕ) → first ≡ old ++ a → second ≡ first ++ b → third ≡ second ++ c
+    → third ≡ old ++ ((a ++ b) ++ c)
 three_pieces old first second third a b c p q r =
     r ∙ (ap (λ (t : List ℕ). t ++ c) (q ∙ (ap (λ (t : List ℕ). t ++ b) p ∙ append_assoc old a b)) ∙ append_assoc old (a ++ b) c)
 

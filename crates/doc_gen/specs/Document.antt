@@ -1,6 +1,7 @@
 -- The generated document of a start and a count of paragraphs. Its words come from draws, numbers that a recurrence gives.
 -- All of it is this project's own.
-use Rattle.std.specs.Prelude.{ℕ, zero, suc, ◌+◌, ◌*◌, ◌/◌, ◌%◌, ◌^◌, ◌==◌, ◌&&◌, not, Bool, if◌then◌else◌, List, [], ◌∷◌, ◌++◌, codes}
+use Rattle.std.specs.Prelude.{ℕ, zero, suc, ◌+◌, ◌*◌, ◌/◌, ◌%◌, ◌^◌, ◌==◌, ◌&&◌, not, Bool, if◌then◌else◌, List, [], ◌∷◌, ◌++◌}
+use Rattle.std.specs.Prelude.{codes}
 
 -- the state after a draw, by a recurrence modulo 2^64, and what is drawn from a state: the upper 31 bits of the next one
 unfoldable pub next_state : ℕ → ℕ

@@ -68,7 +68,8 @@ impl Page {
 
     /// The paragraph of this number, with the heading before it where there is one.
     pub fn part(&mut self, index: u32) -> Result<(), AllocError>
-        ensures text { OnOk result (self.new.text ≡ self.old.text ++ (heading index self.old.state ++ paragraph (after_heading index self.old.state))) }
+        ensures text { OnOk result (self.new.text ≡ self.old.text
+            ++ (heading index self.old.state ++ paragraph (after_heading index self.old.state))) }
         ensures state { OnOk result (self.new.state ≡ after_paragraph (after_heading index self.old.state)) }
     {
         self.heading(index)?;

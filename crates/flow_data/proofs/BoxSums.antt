@@ -13,9 +13,21 @@ filter-le g p xs = omega (arith, sum_by-filter_both p (λ x. not (p x)) (λ x. r
 pub starts-take : (g : ℕ → ℕ) (n : ℕ) (seams : List Seam) → sum_by g (starts_in (take n seams)) ≤ sum_by g (starts_in seams)
 starts-take g zero seams = omega arith
 starts-take g (suc n) [] = omega arith
-starts-take g (suc n) (s ∷ ss) = omega (arith, starts-take g n ss, sum_by-append g (flat_map started s.head) (starts_in (take n ss)), sum_by-append g (flat_map started s.head) (starts_in ss))
+starts-take g (suc n) (s ∷ ss) =
+    omega (
+      arith,
+      starts-take g n ss,
+      sum_by-append g (flat_map started s.head) (starts_in (take n ss)),
+      sum_by-append g (flat_map started s.head) (starts_in ss),
+    )
 
 pub open_at-le : (g : ℕ → ℕ) (f : Flow) (k : ℕ) → sum_by g (open_at f k) ≤ sum_by g (boxes_in f)
 open_at-le g f k =
     let seams : List Seam = take (k + 1) f.seams in
-    omega (arith, filter-le g (λ b. not (is_among (ends_in seams) b)) (f.opened ++ starts_in seams), starts-take g (k + 1) f.seams, sum_by-append g f.opened (starts_in seams), sum_by-append g f.opened (starts_in f.seams))
+    omega (
+      arith,
+      filter-le g (λ b. not (is_among (ends_in seams) b)) (f.opened ++ starts_in seams),
+      starts-take g (k + 1) f.seams,
+      sum_by-append g f.opened (starts_in seams),
+      sum_by-append g f.opened (starts_in f.seams),
+    )

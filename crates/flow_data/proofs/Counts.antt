@@ -1,5 +1,6 @@
 -- How often a number stands in a list.
-use Rattle.std.proofs.Common.{◌≡◌, ◌≢◌, ℕ, zero, suc, ◌+◌, ◌<◌, ◌≤◌, ◌==◌, ◌||◌, Bool, true, false, cond, List, [], ◌∷◌, ◌++◌, length, get_or, refl, sym, ap, ◌∙◌, arith, zero-add, ◌-◌, min, subst}
+use Rattle.std.proofs.Common.{◌≡◌, ◌≢◌, ℕ, zero, suc, ◌+◌, ◌<◌, ◌≤◌, ◌==◌, ◌||◌, Bool, true, false, cond, List, [], ◌∷◌, ◌++◌}
+use Rattle.std.proofs.Common.{length, get_or, refl, sym, ap, ◌∙◌, arith, zero-add, ◌-◌, min, subst}
 use Rattle.std.specs.Prelude.{All, AllPairs, reverse}
 use Rattle.std.proofs.lemmas.Bool.Decides.{nat_tests}
 use Rattle.std.proofs.lemmas.List.Sums.{sum_by-cons, sum_by-append}
@@ -40,7 +41,8 @@ pub among-count : (n : ℕ) (xs : List ℕ) → is_among xs n ≡ false → coun
 among-count n [] z = refl
 among-count n (x ∷ xs) z = go (x == n) refl (λ e. among-count n xs e) z
   where
-    go : (b : Bool) → (x == n) ≡ b → (is_among xs n ≡ false → count_of n xs ≡ 0) → (b || is_among xs n) ≡ false → count_of n (x ∷ xs) ≡ 0
+    go : (b : Bool) → (x == n) ≡ b → (is_among xs n ≡ false → count_of n xs ≡ 0) → (b || is_among xs n) ≡ false
+        → count_of n (x ∷ xs) ≡ 0
     go true e again z = cc
     go false e again z = count-no n x xs e ∙ again z
 
@@ -63,7 +65,8 @@ none-count n (x ∷ xs) h = go (x == n) refl (none-count n xs (λ j lt. h (suc j
 
 pub distinct-count : (n : ℕ) (xs : List ℕ) → AllPairs (λ a b. a ≢ b) xs → count_of n xs ≤ 1
 distinct-count n [] h = omega arith
-distinct-count n (x ∷ xs) h = go (x == n) refl (distinct-count n xs (λ i j d lt in_range. h (suc i) (suc j) d (omega arith) (omega arith)))
+distinct-count n (x ∷ xs) h =
+    go (x == n) refl (distinct-count n xs (λ i j d lt in_range. h (suc i) (suc j) d (omega arith) (omega arith)))
   where
     go : (b : Bool) → (x == n) ≡ b → count_of n xs ≤ 1 → count_of n (x ∷ xs) ≤ 1
     go true e ih =
@@ -79,20 +82,24 @@ none-of n [] none = λ k e lt. absurd (omega arith)
 none-of n (m ∷ xs) none = both (differs (m == n) refl) (none-of n xs (omega (arith, count-cons n m xs)))
   where
     differs : (b : Bool) → (m == n) ≡ b → n ≡ m → ⊥
-    differs true e same = let one : count_of n (m ∷ xs) ≡ 1 + count_of n xs = count-cons n m xs ∙ ap (λ b. cond b 1 0 + count_of n xs) e in omega arith
+    differs true e same = let one : count_of n (m ∷ xs) ≡ 1 + count_of n xs = count-cons n m xs
+        ∙ ap (λ b. cond b 1 0 + count_of n xs) e in omega arith
     differs false e same = grind (arith, nat_tests)
 
     both : n ≢ m → All (λ m. n ≢ m) xs → All (λ m. n ≢ m) (m ∷ xs)
     both first rest zero e lt = first
     both first rest (suc k) e lt = rest k e (omega arith)
 
-pub distinct-once : (high : ℕ) (xs : List ℕ) → All (λ n. n < high) xs → ((n : ℕ) → n < high → count_of n xs ≤ 1) → AllPairs (λ a b. a ≢ b) xs
+pub distinct-once : (high : ℕ) (xs : List ℕ) → All (λ n. n < high) xs → ((n : ℕ) → n < high → count_of n xs ≤ 1)
+    → AllPairs (λ a b. a ≢ b) xs
 distinct-once high [] known few = λ i j e lt in_list. absurd (omega arith)
 distinct-once high (x ∷ xs) known few =
     let x_known : x < high = known 0 x (omega arith) in
     let one = count-self x xs in
     let at_most = few x x_known in
-    AllPairs-cons (λ a b. a ≢ b) x xs (none-of x xs (omega arith)) (distinct-once high xs (λ k e lt. known (suc k) e (omega arith)) (λ n lt. let a = few n lt in let b = count-cons n x xs in omega arith))
+    AllPairs-cons (λ a b. a ≢ b) x xs (none-of x xs (omega arith))
+    (distinct-once high xs (λ k e lt. known (suc k) e (omega arith)) (λ n lt. let a = few n lt in let b = count-cons n x xs
+    in omega arith))
 
 -- ---- numbers one after another
 
@@ -122,7 +129,9 @@ in_parts j k a b =
     let one : k + 1 ≡ suc k = omega arith in
     let last : suc k + a + b ≡ k + suc (a + b) = omega arith in
     rw (one, ← last)
-    (telescope (reached j k) (reached j (suc k)) (reached j (suc k + a)) (reached j (suc k + a + b)) (subst (λ (m : ℕ). reached j m ≤ reached j k) one (falls j k 1)) (falls j (suc k) a) (falls j (suc k + a) b))
+    (telescope (reached j k) (reached j (suc k)) (reached j (suc k + a)) (reached j (suc k + a + b))
+    (subst (λ (m : ℕ). reached j m ≤ reached j k) one (falls j k 1)) (falls j (suc k) a) (falls j (suc k + a) b))
 
-pub adding : (x first both a b in_a in_b whole : ℕ) → x ≡ first + both → both ≡ a + b → a ≡ in_a → b ≡ in_b → first + in_a + in_b ≡ whole → x ≡ whole
+pub adding : (x first both a b in_a in_b whole : ℕ) → x ≡ first + both → both ≡ a + b → a ≡ in_a → b ≡ in_b
+    → first + in_a + in_b ≡ whole → x ≡ whole
 adding x first both a b in_a in_b whole e f g h parts = omega arith

@@ -1,4 +1,4 @@
--- What stands at a place of a list, and behind it.
+-- What stands at a place of a list, and after it.
 use Rattle.std.proofs.Common.{◌≡◌, ℕ, suc, ◌+◌, List, ◌∷◌, ◌++◌, length, get_or, drop, sym, ap, ◌∙◌, subst, arith}
 use Rattle.std.proofs.lemmas.List.{drop-drop, drop_at, get_or-drop}
 
@@ -14,5 +14,6 @@ behind_first {X} xs ys k x e =
     let here = subst (λ (i : ℕ). drop 1 (drop k xs) ≡ drop i xs) at (drop-drop 1 k xs) in
     sym here ∙ ap (λ (l : List X). drop 1 l) e
 
-pub behind_front : {X : Type 0} (xs front ys : List X) (k n : ℕ) → length front ≡ n → drop k xs ≡ front ++ ys → drop (k + n) xs ≡ ys
+pub behind_front : {X : Type 0} (xs front ys : List X) (k n : ℕ) → length front ≡ n → drop k xs ≡ front ++ ys
+    → drop (k + n) xs ≡ ys
 behind_front {X} xs front ys k n len e = sym (drop-drop n k xs) ∙ ap (λ (l : List X). drop n l) e ∙ drop_at front ys n len

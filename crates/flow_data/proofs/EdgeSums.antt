@@ -4,7 +4,8 @@ use Rattle.std.specs.List.{flat_map}
 use Rattle.std.proofs.lemmas.List.Sums.{sum_by-append}
 use Rattle.flow_data.specs.Data.{Edge}
 
-pub sum-part : (g : ℕ → ℕ) (of : Edge → List ℕ) (edges : List Edge) (i : ℕ) (d : Edge) → i < length edges → sum_by g (flat_map of (take i edges)) + sum_by g (of (get_or edges i d)) ≤ sum_by g (flat_map of edges)
+pub sum-part : (g : ℕ → ℕ) (of : Edge → List ℕ) (edges : List Edge) (i : ℕ) (d : Edge) → i < length edges
+    → sum_by g (flat_map of (take i edges)) + sum_by g (of (get_or edges i d)) ≤ sum_by g (flat_map of edges)
 sum-part g of [] i d lt = absurd (omega arith)
 sum-part g of (e ∷ es) zero d lt = let a = sum_by-append g (of e) (flat_map of es) in omega arith
 sum-part g of (e ∷ es) (suc i) d lt =

@@ -31,7 +31,7 @@ abbrev pub Precedes : FlowsData → Option ℕ → Edge → Type 0
 Precedes d before (End b) = 0 < (box_of d b).bottom → before ≡ some_amount (box_of d b).bottom
 Precedes d before _ = Unit {0}
 
--- each end stands behind its lower edge
+-- each end stands after its lower edge
 abbrev pub BottomsPrecede : FlowsData → Option ℕ → List Edge → Type 0
 BottomsPrecede d before [] = Unit {0}
 BottomsPrecede d before (e ∷ edges) = Precedes d before e × BottomsPrecede d (solid_edge e) edges
@@ -39,9 +39,11 @@ BottomsPrecede d before (e ∷ edges) = Precedes d before e × BottomsPrecede d 
 pub some_edge : (a b : Edge) → Some a ≡ Some b → a ≡ b
 some_edge a b e = cc
 
-pub top_at : (d : FlowsData) (edges : List Edge) → TopsFollow d edges → (k b : ℕ) → slice_get edges k ≡ Some (Start b) → 0 < (box_of d b).top → slice_get edges (suc k) ≡ some_solid (box_of d b).top
+pub top_at : (d : FlowsData) (edges : List Edge) → TopsFollow d edges → (k b : ℕ) → slice_get edges k ≡ Some (Start b)
+    → 0 < (box_of d b).top → slice_get edges (suc k) ≡ some_solid (box_of d b).top
 top_at d [] h k b is some = absurd cc
-top_at d (e ∷ edges) h zero b is some = let here = subst (λ (x : Edge). FollowsTop d x edges) (some_edge e (Start b) is) h.0 in here some
+top_at d (e ∷ edges) h zero b is some = let here = subst (λ (x : Edge). FollowsTop d x edges) (some_edge e (Start b) is) h.0
+    in here some
 top_at d (e ∷ edges) h (suc k) b is some = top_at d edges h.1 k b is some
 
 pub solid_is : (e : Edge) (u : ℕ) → solid_edge e ≡ Some u → e ≡ Solid u
@@ -56,9 +58,11 @@ abbrev pub StandsBefore : Option ℕ → List Edge → ℕ → ℕ → Type 0
 StandsBefore before edges zero u = before ≡ some_amount u
 StandsBefore before edges (suc k) u = slice_get edges k ≡ some_solid u
 
-pub bottom_at : (d : FlowsData) (before : Option ℕ) (edges : List Edge) → BottomsPrecede d before edges → (k b : ℕ) → slice_get edges k ≡ Some (End b) → 0 < (box_of d b).bottom → StandsBefore before edges k (box_of d b).bottom
+pub bottom_at : (d : FlowsData) (before : Option ℕ) (edges : List Edge) → BottomsPrecede d before edges → (k b : ℕ)
+    → slice_get edges k ≡ Some (End b) → 0 < (box_of d b).bottom → StandsBefore before edges k (box_of d b).bottom
 bottom_at d before [] h k b is some = absurd cc
-bottom_at d before (e ∷ edges) h zero b is some = let here = subst (λ (x : Edge). Precedes d before x) (some_edge e (End b) is) h.0 in here some
+bottom_at d before (e ∷ edges) h zero b is some =
+    let here = subst (λ (x : Edge). Precedes d before x) (some_edge e (End b) is) h.0 in here some
 bottom_at d before (e ∷ edges) h (suc zero) b is some =
     let solid = solid_is e (box_of d b).bottom (bottom_at d (solid_edge e) edges h.1 zero b is some) in
     ap (λ (x : Edge). Some x) solid
@@ -89,6 +93,8 @@ seam_from d s tail head = record {
   cloned_bottom = λ k b is some. before k b (bottom_at d None s.tail tail.cloned k b is some);
 }
   where
-    before : (k b : ℕ) → StandsBefore None s.tail k (box_of d b).bottom → slice_get s.tail (k - 1) ≡ some_solid (box_of d b).bottom
+    before : (k b : ℕ) → StandsBefore None s.tail k (box_of d b).bottom
+        → slice_get s.tail (k - 1) ≡ some_solid (box_of d b).bottom
     before zero b h = absurd cc
-    before (suc k) b h = let less : k ≡ suc k - 1 = omega arith in subst (λ (j : ℕ). slice_get s.tail j ≡ some_solid (box_of d b).bottom) less h
+    before (suc k) b h = let less : k ≡ suc k - 1 = omega arith
+        in subst (λ (j : ℕ). slice_get s.tail j ≡ some_solid (box_of d b).bottom) less h

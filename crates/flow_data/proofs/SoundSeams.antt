@@ -5,7 +5,8 @@ use Rattle.std.specs.List.{AllWithin, HoldsAt}
 use Rattle.std.proofs.lemmas.List.Elements.{All-from_all_within, All-nil, All-cons, All-head, All-tail}
 
 -- a walk that stops at the first item that fails tells whether all pass
-pub all_iff : {X : Type 0} (P : X → Type 0) (xs : List X) (r : Bool) → MatchBool r (AllWithin P xs 0 (length xs)) ((k : ℕ) × (k < length xs) × HoldsAt (λ x. P x → ⊥) xs k) → (r ≡ true) ↔ All P xs
+pub all_iff : {X : Type 0} (P : X → Type 0) (xs : List X) (r : Bool)
+    → MatchBool r (AllWithin P xs 0 (length xs)) ((k : ℕ) × (k < length xs) × HoldsAt (λ x. P x → ⊥) xs k) → (r ≡ true) ↔ All P xs
 all_iff P [] true h = (λ _. All-from_all_within P [] h, λ _. refl)
 all_iff P (x ∷ xs) true h = (λ _. All-from_all_within P (x ∷ xs) h, λ _. refl)
 all_iff P [] false (k, lt, fails) = absurd (omega arith)

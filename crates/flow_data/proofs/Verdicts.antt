@@ -13,7 +13,8 @@ not_so says fails p = let holds = says.1 p in cc
 pub same_fact : {P : Type 0} {b : Bool} (Q : Type 0) → (b ≡ true) ↔ P → (P → Q) → (Q → P) → (b ≡ true) ↔ Q
 same_fact Q says there back = (λ e. there (says.0 e), λ q. says.1 (back q))
 
-pub ok_same : {E P : Type 0} (Q : Type 0) (r : Result Bool E) → IfOk r (λ found. (found ≡ true) ↔ P) → (P → Q) → (Q → P) → IfOk r (λ found. (found ≡ true) ↔ Q)
+pub ok_same : {E P : Type 0} (Q : Type 0) (r : Result Bool E) → IfOk r (λ found. (found ≡ true) ↔ P) → (P → Q) → (Q → P)
+    → IfOk r (λ found. (found ≡ true) ↔ Q)
 ok_same Q (Ok found) says there back = same_fact Q says there back
 ok_same Q (Err e) says there back = tt
 

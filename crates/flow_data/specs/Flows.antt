@@ -2,7 +2,8 @@
 use Rattle.std.specs.Prelude.{ℕ, ◌+◌, ◌==◌, Bool, false, not, List, [], ◌∷◌, ◌++◌, filter, flat_map, take, get_or}
 use Rattle.std.specs.List.{list_any}
 use Rattle.mc_base.specs.declared.level.Level.TheVariants.{L0}
-use Rattle.flow_data.specs.Data.{BoxInfo, Edge, Flow, FlowsData, Item, RowInfo, Seam, Stack, Plain, Free, Margin, Solid, Wall, Start, End, Atom, Row}
+use Rattle.flow_data.specs.Data.{BoxInfo, Edge, Flow, FlowsData, Item, RowInfo, Seam, Stack, Plain, Free, Margin, Solid, Wall}
+use Rattle.flow_data.specs.Data.{Start, End, Atom, Row}
 
 abbrev pub no_item : Item
 no_item = Atom 0 Plain

@@ -1,8 +1,12 @@
 -- Sound data: what is true of the flows that a document or a flow file gives, and of each sealed value.
 -- The limits are this project's own, and so is the order of numbers.
-use Rattle.std.specs.Prelude.{◌≡◌, ℕ, zero, suc, ◌+◌, ◌^◌, ◌<◌, ◌≤◌, ◌==◌, Bool, true, false, if◌then◌else◌, List, [], ◌∷◌, ◌++◌, Some, All, AllPairs, Contains, EachIndex, SomeIndex, ◌≢◌, length, count_by, sum_by, map, reverse, flat_map, slice_get, ◌-◌}
-use Rattle.flow_data.specs.Data.{AtomKind, BoxInfo, Edge, Flow, FlowsData, Item, RowInfo, Seam, Stack, Plain, Line, Void, Image, Bounded, Left, Margin, Solid, Wall, Start, End, Atom, Row}
-use Rattle.flow_data.specs.Flows.{flow_of, row_of, box_of, stack_of, flow_in, rows_in, atom_height, amount, started, ended, open_at, boxes_in}
+use Rattle.std.specs.Prelude.{◌≡◌, ℕ, zero, suc, ◌+◌, ◌^◌, ◌<◌, ◌≤◌, ◌==◌, Bool, true, false, if◌then◌else◌, List, [], ◌∷◌, ◌++◌}
+use Rattle.std.specs.Prelude.{Some, All, AllPairs, Contains, EachIndex, SomeIndex, ◌≢◌, length, count_by, sum_by, map, reverse}
+use Rattle.std.specs.Prelude.{flat_map, slice_get, ◌-◌}
+use Rattle.flow_data.specs.Data.{AtomKind, BoxInfo, Edge, Flow, FlowsData, Item, RowInfo, Seam, Stack, Plain, Line, Void, Image}
+use Rattle.flow_data.specs.Data.{Bounded, Left, Margin, Solid, Wall, Start, End, Atom, Row}
+use Rattle.flow_data.specs.Flows.{flow_of, row_of, box_of, stack_of, flow_in, rows_in, atom_height, amount, started, ended}
+use Rattle.flow_data.specs.Flows.{open_at, boxes_in}
 
 -- how often a number stands in a list
 abbrev pub count_of : ℕ → List ℕ → ℕ
@@ -79,13 +83,15 @@ AreNested (innermost ∷ outer) (End b ∷ edges) = (innermost ≡ b) × AreNest
 abbrev pub edges_of : Flow → List Edge
 edges_of f = flat_map (λ (s : Seam). s.tail ++ s.head) f.seams
 
--- Starts stand in heads and ends in tails. A box with cloned edges has its upper edge directly behind its start, and
+-- Starts stand in heads and ends in tails. A box with cloned edges has its upper edge directly after its start, and
 -- its lower edge directly before its end.
 pub record IsSoundSeam (d : FlowsData) (s : Seam) : Type 0 where
   pub tail : flat_map started s.tail ≡ []
   pub head : flat_map ended s.head ≡ []
-  pub cloned_top : (k b : ℕ) → slice_get s.head k ≡ Some (Start b) → 0 < (box_of d b).top → slice_get s.head (k + 1) ≡ Some (Solid (box_of d b).top)
-  pub cloned_bottom : (k b : ℕ) → slice_get s.tail k ≡ Some (End b) → 0 < (box_of d b).bottom → slice_get s.tail (k - 1) ≡ Some (Solid (box_of d b).bottom)
+  pub cloned_top : (k b : ℕ) → slice_get s.head k ≡ Some (Start b) → 0 < (box_of d b).top
+      → slice_get s.head (k + 1) ≡ Some (Solid (box_of d b).top)
+  pub cloned_bottom : (k b : ℕ) → slice_get s.tail k ≡ Some (End b) → 0 < (box_of d b).bottom
+      → slice_get s.tail (k - 1) ≡ Some (Solid (box_of d b).bottom)
 
 pub record IsSoundFlow (d : FlowsData) (f : Flow) : Type 0 where
   pub count : length f.items < 2 ^ 32
@@ -150,11 +156,13 @@ is_atom (Row r) = false
 
 -- the items of rows, and the atoms of stacks
 abbrev pub item_total : FlowsData → ℕ
-item_total d = sum_by (λ (r : RowInfo). length (flow_of d r.flow).items) d.rows + sum_by (λ (s : Stack). count_by is_atom (flow_of d s.flow).items) d.stacks
+item_total d = sum_by (λ (r : RowInfo). length (flow_of d r.flow).items) d.rows + sum_by
+    (λ (s : Stack). count_by is_atom (flow_of d s.flow).items) d.stacks
 
 -- the heights of a flow's atoms, its edges, and the cloned edges of its boxes
 abbrev pub flow_height : FlowsData → Flow → ℕ
-flow_height d f = sum_by atom_height f.items + sum_by (λ (s : Seam). sum_by amount s.tail + sum_by amount s.head) f.seams + sum_by (λ b. (box_of d b).top + (box_of d b).bottom) (boxes_in f)
+flow_height d f = sum_by atom_height f.items + sum_by (λ (s : Seam). sum_by amount s.tail + sum_by amount s.head) f.seams + sum_by
+    (λ b. (box_of d b).top + (box_of d b).bottom) (boxes_in f)
 
 -- how far an item stands from the left of its flow
 abbrev pub item_x : FlowsData → Item → ℕ

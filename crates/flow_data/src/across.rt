@@ -1,6 +1,7 @@
 //! Whether all places stay below 2^60 from the left of stack 0.
 
-ghost use Rattle.std.specs.Prelude.{◌≡◌, ◌↔◌, ◌+◌, ◌-◌, ◌<◌, ◌^◌, ◌++◌, true, All, IfOk, OnOk, length, map, flat_map, option_to_list};
+ghost use Rattle.std.specs.Prelude.{◌≡◌, ◌↔◌, ◌+◌, ◌-◌, ◌<◌, ◌^◌, ◌++◌, true, All, IfOk, OnOk, length, map, flat_map};
+ghost use Rattle.std.specs.Prelude.{option_to_list};
 ghost use Rattle.flow_data.specs.Across.{IsBoxInReach, IsItemInReach, place_of};
 ghost use Rattle.flow_data.specs.Flows as parts_by_number;
 ghost use Rattle.flow_data.specs.Flows.{flow_of, started, boxes_in};
@@ -48,7 +49,8 @@ fn edges_fit(parts: &FlowsData, left: Units, edges: &[Edge]) -> bool
 }
 
 fn seams_fit(parts: &FlowsData, left: Units, seams: &[Seam]) -> bool
-    ensures { (result ≡ true) ↔ All (λ (s : Between). All (λ edge. All (IsBoxInReach parts.now left) (started edge)) s.head) seams.now }
+    ensures { (result ≡ true) ↔ All (λ (s : Between). All (λ edge. All (IsBoxInReach parts.now left) (started edge)) s.head)
+        seams.now }
 {
     seams
         .iter()
@@ -126,7 +128,8 @@ fn push_places(
     places: &mut Vec<Place>,
 ) -> Result<(), AllocError>
     requires { All (IsItemInReach parts.now left) items.now }
-    ensures { OnOk result (places.new.items ≡ places.old.items ++ map (place_of left depth) (flat_map (held_in parts.now) items.now)) }
+    ensures { OnOk result (places.new.items ≡ places.old.items ++ map (place_of left depth)
+        (flat_map (held_in parts.now) items.now)) }
 {
     for item in items {
         if let Some(place) = place_in(parts, left, depth, item) {
@@ -138,7 +141,8 @@ fn push_places(
 
 /// Whether each place in stack 0, and in the flows within it, is below 2^60 from its left.
 pub fn fits_across(alloc: Global, parts: &FlowsData) -> Result<bool, NoMemory>
-    ensures { IfOk result (λ found. (found ≡ true) ↔ FitsAcross parts.now (length parts.now.flows) 0 (parts_by_number.stack_of parts.now 0).flow) }
+    ensures { IfOk result (λ found. (found ≡ true) ↔ FitsAcross parts.now (length parts.now.flows) 0
+        (parts_by_number.stack_of parts.now 0).flow) }
 {
     let mut places = vec![in alloc;
         Place {

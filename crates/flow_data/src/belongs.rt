@@ -1,6 +1,7 @@
 //! Whether each flow, row and stack belongs to just one part.
 
-ghost use Rattle.std.specs.Prelude.{◌≡◌, ◌↔◌, ◌<◌, ◌+◌, ◌==◌, ◌^◌, ◌∷◌, ◌++◌, ℕ, true, EachIndex, IfOk, OnOk, if◌then◌else◌, slice_index, length, min, flat_map};
+ghost use Rattle.std.specs.Prelude.{◌≡◌, ◌↔◌, ◌<◌, ◌+◌, ◌==◌, ◌^◌, ◌∷◌, ◌++◌, ℕ, true, EachIndex, IfOk, OnOk, if◌then◌else◌};
+ghost use Rattle.std.specs.Prelude.{slice_index, length, min, flat_map};
 ghost use Rattle.flow_data.specs.Flows.{row_in, rows_in};
 ghost use Rattle.flow_data.specs.Soundness.{count_of, flow_owners, stack_in, stacks_in};
 
@@ -10,7 +11,8 @@ use std::alloc::{AllocError, Global};
 
 /// Counts a number once more. A count ends at 255.
 fn note(counts: &mut [u8], number: u32)
-    ensures { EachIndex counts.new (λ k. slice_index counts.new k ≡ min (slice_index counts.old k + (if number == k then 1 else 0)) 255) }
+    ensures { EachIndex counts.new
+        (λ k. slice_index counts.new k ≡ min (slice_index counts.old k + (if number == k then 1 else 0)) 255) }
 {
     let number = number as usize;
     if number < counts.len() {
@@ -98,7 +100,8 @@ pub fn flows_belong(alloc: Global, parts: &FlowsData) -> Result<bool, NoMemory>
 
 /// Whether each row belongs to one item.
 pub fn rows_belong(alloc: Global, parts: &FlowsData) -> Result<bool, NoMemory>
-    ensures { IfOk result (λ found. (found ≡ true) ↔ EachIndex parts.now.rows (λ r. count_of r (flat_map rows_in parts.now.flows) ≡ 1)) }
+    ensures { IfOk result (λ found. (found ≡ true) ↔ EachIndex parts.now.rows
+        (λ r. count_of r (flat_map rows_in parts.now.flows) ≡ 1)) }
 {
     let numbers = named_rows(alloc, parts)?;
     each_stands_once(alloc, parts.rows.len(), &numbers)
@@ -106,7 +109,8 @@ pub fn rows_belong(alloc: Global, parts: &FlowsData) -> Result<bool, NoMemory>
 
 /// Whether stack 0 is named by no atom, and each other stack by one.
 pub fn stacks_belong(alloc: Global, parts: &FlowsData) -> Result<bool, NoMemory>
-    ensures { IfOk result (λ found. (found ≡ true) ↔ EachIndex parts.now.stacks (λ s. count_of s (flat_map stacks_in parts.now.flows) ≡ (if s == 0 then 0 else 1))) }
+    ensures { IfOk result (λ found. (found ≡ true) ↔ EachIndex parts.now.stacks
+        (λ s. count_of s (flat_map stacks_in parts.now.flows) ≡ (if s == 0 then 0 else 1))) }
 {
     let numbers = named_stacks(alloc, parts)?;
     each_stands_once(alloc, parts.stacks.len(), &numbers)

@@ -11,7 +11,7 @@ pub struct FlowsData {
     pub stacks: List<Stack>,
 }
 
-/// A list of items with the seams before, between and behind them: there is one seam more than items.
+/// A list of items with the seams before, between and after them: there is one seam more than items.
 ///
 /// `opened` are the boxes that are open at the flow's start, the outermost first.
 #[derive(Drop)]

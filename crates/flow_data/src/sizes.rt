@@ -39,7 +39,8 @@ fn atom_count(items: &[Item]) -> usize
 
 /// How many atoms the flows of all stacks have.
 fn stack_atoms(parts: &FlowsData) -> u64
-    ensures { result ≡ min (sum_by (λ (s : Laid). count_by is_atom (flow_of parts.now s.flow).items) parts.now.stacks) (2 ^ 64 - 1) }
+    ensures { result ≡ min (sum_by (λ (s : Laid). count_by is_atom (flow_of parts.now s.flow).items) parts.now.stacks)
+        (2 ^ 64 - 1) }
 {
     let mut count = 0u64;
     for stack in parts.stacks.as_slice() {

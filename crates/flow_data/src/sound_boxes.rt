@@ -1,7 +1,8 @@
 //! Whether the boxes of a flow are sound: each is one of the data and is named once, they are well nested, and none is
 //! empty.
 
-ghost use Rattle.std.specs.Prelude.{◌≡◌, ◌≢◌, ◌↔◌, ◌-◌, ◌<◌, ℕ, [], IsTrue, IfOk, OnOk, List as Items, ◌∷◌, ◌++◌, All, AllPairs, length, get_or, flat_map, reverse};
+ghost use Rattle.std.specs.Prelude.{◌≡◌, ◌≢◌, ◌↔◌, ◌-◌, ◌<◌, ℕ, [], IsTrue, IfOk, OnOk, List as Items, ◌∷◌, ◌++◌, All, AllPairs};
+ghost use Rattle.std.specs.Prelude.{length, get_or, flat_map, reverse};
 ghost use Rattle.flow_data.specs.declared.data.Edge.{Edge};
 ghost use Rattle.flow_data.specs.Flows.{started, ended, no_seam, seam_of, boxes_in as flow_boxes};
 ghost use Rattle.flow_data.specs.Soundness.{AreNested, edges_of};
@@ -110,7 +111,7 @@ fn none_ends_first(seams: &[Seam]) -> bool
     }
 }
 
-/// Whether no box starts behind the last item.
+/// Whether no box starts after the last item.
 fn none_starts_last(seams: &[Seam]) -> bool
     ensures { IsTrue result ↔ (flat_map started (get_or seams.now (length seams.now - 1) no_seam).head ≡ []) }
 {
@@ -127,7 +128,7 @@ fn has_item_if_opened(flow: &Flow) -> bool
     !flow.items.is_empty() || flow.opened.is_empty()
 }
 
-/// Whether no box ends before the first item or starts behind the last one, and none is open where there is no item.
+/// Whether no box ends before the first item or starts after the last one, and none is open where there is no item.
 ///
 /// Where boxes are distinct and well nested, just then none is empty in the flow.
 pub fn are_filled(flow: &Flow) -> bool

@@ -4,7 +4,8 @@ ghost use Rattle.std.specs.Prelude.{◌≡◌, ◌↔◌, ◌==◌, ◌≤◌, �
 ghost use Rattle.flow_data.specs.declared.data.BoxInfo.{BoxInfo as Info};
 ghost use Rattle.flow_data.specs.declared.data.Stack.{Stack as Laid};
 ghost use Rattle.flow_data.specs.Flows.{rows_in, flow_in};
-ghost use Rattle.flow_data.specs.Soundness.{IsSound, IsSoundFlow, IsSoundRow, IsInnerRow, NestsAtMost, count_of, flow_owners, stacks_in, stacks_within};
+ghost use Rattle.flow_data.specs.Soundness.{IsSound, IsSoundFlow, IsSoundRow, IsInnerRow, NestsAtMost, count_of, flow_owners};
+ghost use Rattle.flow_data.specs.Soundness.{stacks_in, stacks_within};
 
 use crate::across::fits_across;
 use crate::belongs::{flows_belong, rows_belong, stacks_belong};
@@ -27,7 +28,7 @@ const TOO_MANY: usize = 1 << 32;
 /// - A flow has fewer than 2^32 items, and one seam more than items. Boxes start in heads and end in tails.
 /// - No box stands twice in one flow: boxes that are open at its start, and those that start in it, are all different.
 ///   They are well nested, and none of them is empty there.
-/// - Where `top` of a box isn't 0, a solid edge of this amount stands at once behind its start, and where `bottom` isn't 0,
+/// - Where `top` of a box isn't 0, a solid edge of this amount stands at once after its start, and where `bottom` isn't 0,
 ///   one of that amount at once before its end.
 /// - Each flow belongs to one row or one stack, and each row to one item. The first stack is named by no atom, each
 ///   other one by one atom, in a stack before it, whose height is the stack's own (`Bound::Left`).
@@ -66,7 +67,8 @@ pub fn sound(alloc: Global, parts: &FlowsData) -> Result<bool, NoMemory>
 
 /// Whether there are fewer than 2^32 flows, rows, boxes and stacks, and a stack.
 fn has_such_counts(parts: &FlowsData) -> bool
-    ensures { (result ≡ true) ↔ ((length parts.now.flows < 2 ^ 32) × (length parts.now.rows < 2 ^ 32) × (length parts.now.boxes < 2 ^ 32)
+    ensures { (result ≡ true) ↔ ((length parts.now.flows < 2 ^ 32) × (length parts.now.rows < 2 ^ 32)
+        × (length parts.now.boxes < 2 ^ 32)
         × (length parts.now.stacks < 2 ^ 32) × (0 < length parts.now.stacks)) }
 {
     parts.flows.len() < TOO_MANY
@@ -114,7 +116,8 @@ fn belong(alloc: Global, parts: &FlowsData) -> Result<bool, NoMemory>
 fn nest(parts: &FlowsData) -> bool
     requires rows { length parts.now.rows < 2 ^ 32 }
     requires stacks { length parts.now.stacks < 2 ^ 32 }
-    ensures { (result ≡ true) ↔ (EachIndex parts.now.rows (λ outer. All (IsInnerRow parts.now outer) (rows_in (flow_in parts.now outer)))
+    ensures { (result ≡ true) ↔ (EachIndex parts.now.rows
+        (λ outer. All (IsInnerRow parts.now outer) (rows_in (flow_in parts.now outer)))
         × EachIndex parts.now.rows (NestsAtMost parts.now 3)
         × EachIndex parts.now.stacks (λ s. All (λ named. s < named) (stacks_within parts.now s))) }
 {

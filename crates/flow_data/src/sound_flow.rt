@@ -1,7 +1,8 @@
 //! Whether a flow is sound: its items, its seams, and the boxes that stand in it.
 
 ghost use Rattle.std.specs.Prelude.{◌≡◌, ◌↔◌, ◌+◌, ◌^◌, ◌<◌, true, IsTrue, IfOk, All, length};
-ghost use Rattle.flow_data.specs.Soundness.{IsSoundAtom, IsSoundItem, IsSoundFlow, IsSoundSeam, HasStackOfItsHeight, owners_in, kind_x, kind_w};
+ghost use Rattle.flow_data.specs.Soundness.{IsSoundAtom, IsSoundItem, IsSoundFlow, IsSoundSeam, HasStackOfItsHeight, owners_in};
+ghost use Rattle.flow_data.specs.Soundness.{kind_x, kind_w};
 ghost use Rattle.flow_data.specs.Flows.{stack_of};
 
 use crate::data::{AtomKind, Bound, Flow, FlowsData, Item, Seam};

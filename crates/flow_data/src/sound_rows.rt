@@ -83,7 +83,8 @@ fn has_inner_rows(parts: &FlowsData, outer: u32) -> bool
 /// Whether the rows that stand directly in rows are inner rows.
 pub fn inner_rows_are_sound(parts: &FlowsData) -> bool
     requires { length parts.now.rows < 2 ^ 32 }
-    ensures { (result ≡ true) ↔ EachIndex parts.now.rows (λ outer. All (IsInnerRow parts.now outer) (rows_in (flow_in parts.now outer))) }
+    ensures { (result ≡ true) ↔ EachIndex parts.now.rows
+        (λ outer. All (IsInnerRow parts.now outer) (rows_in (flow_in parts.now outer))) }
 {
     for outer in 0..parts.rows.len() as u32 {
         if !has_inner_rows(parts, outer) {

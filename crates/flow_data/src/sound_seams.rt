@@ -51,9 +51,10 @@ fn is_cloned(amount: Units, beside: Option<Edge>) -> bool
     amount == 0 || matches!(beside, Some(Edge::Solid(solid)) if solid == amount)
 }
 
-/// Whether the upper edge of a box with cloned edges stands directly behind its start.
+/// Whether the upper edge of a box with cloned edges stands directly after its start.
 fn has_cloned_top(parts: &FlowsData, edge: &Edge, next: Option<Edge>) -> bool
-    ensures { IsTrue result ↔ ((b : ℕ) → edge.now ≡ Edge.Start b → 0 < (box_of parts.now b).top → next ≡ Some (Edge.Solid (box_of parts.now b).top)) }
+    ensures { IsTrue result ↔ ((b : ℕ) → edge.now ≡ Edge.Start b → 0 < (box_of parts.now b).top
+        → next ≡ Some (Edge.Solid (box_of parts.now b).top)) }
 {
     match edge {
         Edge::Start(number) => is_cloned(box_of(parts, *number).top, next),
@@ -63,7 +64,8 @@ fn has_cloned_top(parts: &FlowsData, edge: &Edge, next: Option<Edge>) -> bool
 
 /// Whether the lower edge of a box with cloned edges stands directly before its end.
 fn has_cloned_bottom(parts: &FlowsData, edge: &Edge, before: Option<Edge>) -> bool
-    ensures { IsTrue result ↔ ((b : ℕ) → edge.now ≡ Edge.End b → 0 < (box_of parts.now b).bottom → before ≡ Some (Edge.Solid (box_of parts.now b).bottom)) }
+    ensures { IsTrue result ↔ ((b : ℕ) → edge.now ≡ Edge.End b → 0 < (box_of parts.now b).bottom
+        → before ≡ Some (Edge.Solid (box_of parts.now b).bottom)) }
 {
     match edge {
         Edge::End(number) => is_cloned(box_of(parts, *number).bottom, before),
@@ -71,9 +73,10 @@ fn has_cloned_bottom(parts: &FlowsData, edge: &Edge, before: Option<Edge>) -> bo
     }
 }
 
-/// Whether the upper edges of boxes with cloned edges stand directly behind their starts.
+/// Whether the upper edges of boxes with cloned edges stand directly after their starts.
 fn has_cloned_tops(parts: &FlowsData, head: &[Edge]) -> bool
-    ensures { IsTrue result ↔ ((k b : ℕ) → slice_get head.now k ≡ Some (Edge.Start b) → 0 < (box_of parts.now b).top → slice_get head.now (k + 1) ≡ Some (Edge.Solid (box_of parts.now b).top)) }
+    ensures { IsTrue result ↔ ((k b : ℕ) → slice_get head.now k ≡ Some (Edge.Start b) → 0 < (box_of parts.now b).top
+        → slice_get head.now (k + 1) ≡ Some (Edge.Solid (box_of parts.now b).top)) }
 {
     for (k, edge) in head.iter().enumerate() {
         if !has_cloned_top(parts, edge, edge_at(head, k + 1)) {
@@ -85,7 +88,8 @@ fn has_cloned_tops(parts: &FlowsData, head: &[Edge]) -> bool
 
 /// Whether the lower edges of boxes with cloned edges stand directly before their ends.
 fn has_cloned_bottoms(parts: &FlowsData, tail: &[Edge]) -> bool
-    ensures { IsTrue result ↔ ((k b : ℕ) → slice_get tail.now k ≡ Some (Edge.End b) → 0 < (box_of parts.now b).bottom → slice_get tail.now (k - 1) ≡ Some (Edge.Solid (box_of parts.now b).bottom)) }
+    ensures { IsTrue result ↔ ((k b : ℕ) → slice_get tail.now k ≡ Some (Edge.End b) → 0 < (box_of parts.now b).bottom
+        → slice_get tail.now (k - 1) ≡ Some (Edge.Solid (box_of parts.now b).bottom)) }
 {
     for (k, edge) in tail.iter().enumerate() {
         if !has_cloned_bottom(parts, edge, edge_at(tail, k.saturating_sub(1))) {

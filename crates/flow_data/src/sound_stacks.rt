@@ -35,9 +35,10 @@ fn all_name_behind(stack: u32, items: &[Item]) -> bool
     items.iter().all(|item| names_behind(stack, item))
 }
 
-/// Whether a flow and those of the rows in it, `depth` rows deep, name only stacks behind this one.
+/// Whether a flow and those of the rows in it, `depth` rows deep, name only stacks after this one.
 fn names_later(parts: &FlowsData, stack: u32, flow: u32, depth: u32) -> bool
-    ensures { (result ≡ true) ↔ All (λ named. stack < named) (flat_map (λ f. stacks_in (flow_of parts.now f)) (flows_within parts.now depth flow)) }
+    ensures { (result ≡ true) ↔ All (λ named. stack < named)
+        (flat_map (λ f. stacks_in (flow_of parts.now f)) (flows_within parts.now depth flow)) }
 {
     let items = items_of(parts, flow);
     if !all_name_behind(stack, items) {
@@ -57,7 +58,7 @@ fn names_later(parts: &FlowsData, stack: u32, flow: u32, depth: u32) -> bool
     true
 }
 
-/// Whether each stack names only stacks behind it.
+/// Whether each stack names only stacks after it.
 pub fn stacks_name_later(parts: &FlowsData) -> bool
     requires { length parts.now.stacks < 2 ^ 32 }
     ensures { (result ≡ true) ↔ EachIndex parts.now.stacks (λ s. All (λ named. s < named) (stacks_within parts.now s)) }

@@ -1,11 +1,13 @@
 -- A column ends within a row only where that row is its stop, and has less room than it needs.
-use Rattle.std.proofs.Common.{◌≡◌, ℕ, ◌+◌, ◌-◌, ◌<◌, ◌≤◌, Bool, true, false, cond, List, [], ◌∷◌, ◌++◌, length, Option, Some, None, refl, arith}
+use Rattle.std.proofs.Common.{◌≡◌, ℕ, ◌+◌, ◌-◌, ◌<◌, ◌≤◌, Bool, true, false, cond, List, [], ◌∷◌, ◌++◌, length, Option, Some}
+use Rattle.std.proofs.Common.{None, refl, arith}
 use Rattle.std.specs.List.{AllByRecursion as Each}
 use Rattle.flow_list.specs.Data.{Flow, FlowsData}
 use Rattle.flow_data.specs.Flows.{item_of}
 use Rattle.flow_list.specs.Tokens.{Token, item_number, within}
 use Rattle.flow_list.specs.Strip.{Strip}
-use Rattle.flow_list.specs.Column.{Filled, Inner, Step, Place, cut, height_of, row_from, steps, steps_from, start_strip, inside_place, room, seams_before, seams_between, column, column_up_to, avoids_at}
+use Rattle.flow_list.specs.Column.{Filled, Inner, Step, Place, cut, height_of, row_from, steps, steps_from, start_strip}
+use Rattle.flow_list.specs.Column.{inside_place, room, seams_before, seams_between, column, column_up_to, avoids_at}
 use Rattle.flow_list.proofs.ColumnParts.{EachFrom, steps-each, OfStop, cut-stop, stopped-each}
 
 -- ---- where a column ends
@@ -49,15 +51,18 @@ module _ (h : ℕ) (s : Step) where
       go true = tt
       go false = within-right filled.end lt
 
-up_to-right : (inner : Inner) (avoids : ℕ → Bool) (h : ℕ) (before : List Step) (stop : Option Step) → IsEndFor h stop (column_up_to inner avoids h before stop).end
+up_to-right : (inner : Inner) (avoids : ℕ → Bool) (h : ℕ) (before : List Step) (stop : Option Step)
+    → IsEndFor h stop (column_up_to inner avoids h before stop).end
 up_to-right inner avoids h before None = any-end h _
 up_to-right inner avoids h before (Some s) =
     stopped-each (IsRight h s) inner (avoids s.item) h s before s.row (between-right h s (before ++ s ∷ [])) (λ whole. tt)
     (λ row over is low. inside-right h s (avoids s.item) (room s h) (inner.fill row.0 row.1 (room s h)) low)
 
-pub column-right : (inner : Inner) (d : FlowsData) (f : Flow) (t : Token) (h : ℕ) → IsEndFor h (cut h (steps_from inner d f t)).stop (column inner d f t h).end
+pub column-right : (inner : Inner) (d : FlowsData) (f : Flow) (t : Token) (h : ℕ)
+    → IsEndFor h (cut h (steps_from inner d f t)).stop (column inner d f t h).end
 unfolding column
-column-right inner d f t h = up_to-right inner (avoids_at d f) h (cut h (steps_from inner d f t)).before (cut h (steps_from inner d f t)).stop
+column-right inner d f t h = up_to-right inner (avoids_at d f) h (cut h (steps_from inner d f t)).before
+    (cut h (steps_from inner d f t)).stop
 
 -- ---- the steps of a column
 
@@ -68,11 +73,15 @@ pub record IsStepFrom (inner : Inner) (f : Flow) (k : ℕ) (s : Step) : Type 0 w
   pub row : s.row ≡ row_from (item_of f s.item) from
   pub height : s.height ≡ height_of inner (item_of f s.item) from
 
-pub steps-from : (inner : Inner) (d : FlowsData) (f : Flow) (low : ℕ) (s : Strip) (k : ℕ) (q : Token) (n : ℕ) → low ≤ k → EachFrom (λ m. IsStepFrom inner f low) k (steps inner d f s k q n)
+pub steps-from : (inner : Inner) (d : FlowsData) (f : Flow) (low : ℕ) (s : Strip) (k : ℕ) (q : Token) (n : ℕ) → low ≤ k
+    → EachFrom (λ m. IsStepFrom inner f low) k (steps inner d f s k q n)
 steps-from inner d f low =
-    steps-each inner d f (λ s k q n. low ≤ k) (λ m. IsStepFrom inner f low) (λ s k q n le. record { later = le; from = q; row = refl; height = refl }) (λ s k q n le. omega arith)
+    steps-each inner d f (λ s k q n. low ≤ k) (λ m. IsStepFrom inner f low)
+    (λ s k q n le. record { later = le; from = q; row = refl; height = refl }) (λ s k q n le. omega arith)
 
-pub stop-from : (inner : Inner) (d : FlowsData) (f : Flow) (t : Token) (h : ℕ) → OfStop (IsStepFrom inner f (item_number t)) (cut h (steps_from inner d f t)).stop
+pub stop-from : (inner : Inner) (d : FlowsData) (f : Flow) (t : Token) (h : ℕ)
+    → OfStop (IsStepFrom inner f (item_number t)) (cut h (steps_from inner d f t)).stop
 stop-from inner d f t h =
     cut-stop (IsStepFrom inner f (item_number t)) h (item_number t) (steps_from inner d f t)
-    (steps-from inner d f (item_number t) (start_strip d f t) (item_number t) (within t) (length f.items - item_number t) (omega arith))
+    (steps-from inner d f (item_number t) (start_strip d f t) (item_number t) (within t) (length f.items - item_number t)
+    (omega arith))

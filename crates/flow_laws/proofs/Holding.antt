@@ -1,5 +1,6 @@
 -- What stands in the trees of columns, of all columns of a row, and of a row that stands whole.
-use Rattle.std.proofs.Common.{◌≡◌, ℕ, suc, ◌-◌, ◌<◌, ◌≤◌, false, List, [], ◌∷◌, ◌++◌, length, take, Option, Some, None, refl, sym, subst, ◌∙◌, ap, arith, inr, length-append}
+use Rattle.std.proofs.Common.{◌≡◌, ℕ, suc, ◌-◌, ◌<◌, ◌≤◌, false, List, [], ◌∷◌, ◌++◌, length, take, Option, Some, None, refl, sym}
+use Rattle.std.proofs.Common.{subst, ◌∙◌, ap, arith, inr, length-append}
 use Rattle.std.specs.Prelude.{AllPairs, ◌≢◌, flat_map}
 use Rattle.std.proofs.Math.Seq.{take-append_seam}
 use Rattle.mc_base.specs.PlainTree.{plain_trees, PlainTree}
@@ -13,7 +14,8 @@ use Rattle.flow_list.specs.RowHeights.{column_within, row_columns}
 use Rattle.flow_list.specs.Placing.{RowLaid}
 use Rattle.flow_list.specs.Fragments.{column_made, fragment_of, column_fragment, fragments_from, row_fragments}
 use Rattle.flow_laws.specs.Progress.{first_columns, AtomAt, Contents, atoms_in, contents_to, atoms_from, atoms_between}
-use Rattle.flow_laws.specs.Holding.{atoms_in_tree, atoms_in_trees, Part, parts_in_tree, items_before, parts_between, row_of_part, FragmentsHoldEachItem}
+use Rattle.flow_laws.specs.Holding.{atoms_in_tree, atoms_in_trees, Part, parts_in_tree, items_before, parts_between, row_of_part}
+use Rattle.flow_laws.specs.Holding.{FragmentsHoldEachItem}
 use Rattle.flow_laws.proofs.Places.{in-items, IsReached, start-reached}
 use Rattle.flow_laws.proofs.HoldingEnds.{taken}
 use Rattle.flow_laws.proofs.HoldingColumns.{RowHolds, ItemHolds, holds-at, place-at, column-holds}
@@ -101,16 +103,20 @@ module _ (d : FlowsData) (sound : IsSound d) (r : ℕ) (lt : r < length d.rows) 
   known : (row_of d r).flow < length d.flows
   known = (sound.rows r no_row lt).flow
 
-  column-atoms : (t : Token) (h : Option ℕ) → IsPlaceBefore d (flow_in d r) t → atoms_in_tree r (column_fragment d r h t) ++ atoms_from d r (column_within d (flow_in d r) h t).end ≡ atoms_from d r t
+  column-atoms : (t : Token) (h : Option ℕ) → IsPlaceBefore d (flow_in d r) t
+      → atoms_in_tree r (column_fragment d r h t) ++ atoms_from d r (column_within d (flow_in d r) h t).end ≡ atoms_from d r t
   unfolding column_fragment all_rows atoms_from contents_to
   column-atoms t h place = flow-atoms d sound (row_of d r).flow known r t h place
 
-  atoms-to-end : (t : Token) (h : Option ℕ) → IsPlaceBefore d (flow_in d r) t → atoms_in_tree r (column_fragment d r h t) ≡ atoms_between d r t (column_within d (flow_in d r) h t).end
-  atoms-to-end t h place = go (atoms_in_tree r (column_fragment d r h t)) (column_within d (flow_in d r) h t).end (column-atoms t h place)
+  atoms-to-end : (t : Token) (h : Option ℕ) → IsPlaceBefore d (flow_in d r) t
+      → atoms_in_tree r (column_fragment d r h t) ≡ atoms_between d r t (column_within d (flow_in d r) h t).end
+  atoms-to-end t h place = go (atoms_in_tree r (column_fragment d r h t)) (column_within d (flow_in d r) h t).end
+      (column-atoms t h place)
     where
       go : (held : List AtomAt) (u : Token) → held ++ atoms_from d r u ≡ atoms_from d r t → held ≡ atoms_between d r t u
       go held u e =
-          let n : length (atoms_from d r t) - length (atoms_from d r u) ≡ length held = omega (arith, ap length e, length-append held (atoms_from d r u)) in
+          let n : length (atoms_from d r t) - length (atoms_from d r u) ≡ length held =
+          omega (arith, ap length e, length-append held (atoms_from d r u)) in
           sym (ap (λ k. take k (atoms_from d r t)) n ∙ ap (take (length held)) (sym e) ∙ take-append_seam held (atoms_from d r u))
 
   columns-atoms : (n : ℕ) (t : Token) (h : Option ℕ) → IsPlaceBefore d (flow_in d r) t →
@@ -120,21 +126,27 @@ module _ (d : FlowsData) (sound : IsSound d) (r : ℕ) (lt : r < length d.rows) 
   columns-atoms n t None place = flow-columns d sound (row_of d r).flow known r n t None (inr place)
   columns-atoms n t (Some h) place = flow-columns d sound (row_of d r).flow known r n t (Some h) (inr place)
 
-  all-atoms : (h : Option ℕ) → atoms_in_trees r (plain_trees (fragments_from (column_fragment d r h) row_start (row_columns d r h))) ≡ atoms_from d r row_start
+  all-atoms : (h : Option ℕ) → atoms_in_trees r
+      (plain_trees (fragments_from (column_fragment d r h) row_start (row_columns d r h))) ≡ atoms_from d r row_start
   unfolding column_fragment row_columns all_rows atoms_from contents_to
   all-atoms None = flow-all d sound (row_of d r).flow known r row_start None (start-reached d (flow_in d r))
   all-atoms (Some h) = flow-all d sound (row_of d r).flow known r row_start (Some h) (start-reached d (flow_in d r))
 
   row-atoms : (height : ℕ) (h : Option ℕ) →
-      atoms_in_trees r (plain_trees (row_fragments d (suc (length d.rows)) (record { row = r; from = row_start; height = height; made_at = h; filled = false }))) ≡ atoms_from d r row_start
+      atoms_in_trees r (plain_trees
+      (row_fragments d (suc (length d.rows))
+      (record { row = r; from = row_start; height = height; made_at = h; filled = false })))
+      ≡ atoms_from d r row_start
   unfolding row_fragments atoms_from contents_to
   row-atoms height h = flow-all d sound (row_of d r).flow known r row_start h (start-reached d (flow_in d r))
 
-  parts-are : (t : Token) (h : Option ℕ) → IsPlaceBefore d (flow_in d r) t → parts_in_tree (column_fragment d r h t) ≡ parts_between (flow_in d r) t (column_within d (flow_in d r) h t).end
+  parts-are : (t : Token) (h : Option ℕ) → IsPlaceBefore d (flow_in d r) t
+      → parts_in_tree (column_fragment d r h t) ≡ parts_between (flow_in d r) t (column_within d (flow_in d r) h t).end
   unfolding column_fragment all_rows
   parts-are t h place = flow-parts d sound (row_of d r).flow known t h place
 
-  rows-once : (t : Token) (h : Option ℕ) → IsPlaceBefore d (flow_in d r) t → AllPairs (λ a b. a ≢ b) (flat_map row_of_part (parts_in_tree (column_fragment d r h t)))
+  rows-once : (t : Token) (h : Option ℕ) → IsPlaceBefore d (flow_in d r) t
+      → AllPairs (λ a b. a ≢ b) (flat_map row_of_part (parts_in_tree (column_fragment d r h t)))
   unfolding column_fragment all_rows
   rows-once t h place = flow-rows-once d sound (row_of d r).flow known t h place
 

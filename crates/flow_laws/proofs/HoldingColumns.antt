@@ -1,5 +1,6 @@
 -- The tree of a column holds just the atoms from the column's place to its end, where each row in it does.
-use Rattle.std.proofs.Common.{◌≡◌, ℕ, zero, suc, ◌+◌, ◌-◌, ◌<◌, ◌≤◌, Bool, true, false, cond, List, [], ◌∷◌, ◌++◌, length, take, drop, get_or, Option, Some, None, refl, sym, subst, ◌∙◌, ap, arith, append_assoc, ◌⊎◌, inl, inr}
+use Rattle.std.proofs.Common.{◌≡◌, ℕ, zero, suc, ◌+◌, ◌-◌, ◌<◌, ◌≤◌, Bool, true, false, cond, List, [], ◌∷◌, ◌++◌, length, take}
+use Rattle.std.proofs.Common.{drop, get_or, Option, Some, None, refl, sym, subst, ◌∙◌, ap, arith, append_assoc, ◌⊎◌, inl, inr}
 use Rattle.std.proofs.lemmas.Bool.{cases_lt}
 use Rattle.std.proofs.lemmas.Bool.Decides.{nat_tests}
 use Rattle.std.proofs.lemmas.List.{append-nil, length-drop, drop-drop, drop_all, drop_more}
@@ -25,9 +26,11 @@ none-left c r f t e = rw (drop_all (item_number t) f.items (grind (arith, nat_te
 module _ (d : FlowsData) (x : Inner) (c : Contents) (columns : RowLaid → List PlainTree) where
   -- what stands of row s from a place on
   abbrev pub piece_of : (s : ℕ) (q : Token) (height : ℕ) (filled : Bool) → List AtomAt
-  piece_of s q height filled = atoms_in_trees s (plain_trees (columns (record { row = s; from = q; height = height; made_at = Some height; filled = filled })))
+  piece_of s q height filled = atoms_in_trees s
+      (plain_trees (columns (record { row = s; from = q; height = height; made_at = Some height; filled = filled })))
 
-  -- A row within holds its atoms: whole, all from a place on; filled, those before the place that it leaves. That place is a later one.
+  -- A row within holds its atoms: whole, all from a place on; filled, those before the place that it leaves. That place is a
+  -- later one.
   pub record RowHolds (s : ℕ) : Type 0 where
     pub whole : (q : Token) (a : ℕ) → IsReached d (flow_in d s) q → piece_of s q a false ≡ c.atoms s q
     pub part : (q : Token) (a : ℕ) → IsReached d (flow_in d s) q →
@@ -82,15 +85,18 @@ module _ (d : FlowsData) (x : Inner) (c : Contents) (columns : RowLaid → List 
   left-on (suc n) q [] = omega arith
   left-on (suc n) q (item ∷ items) =
       let P : Token → Type 0 = λ u. items_left x u (drop n items) ≤ items_left x row_start items in
-      let rest : items_left x row_start (drop n items) ≤ items_left x row_start items = subst P (taken-start n) (left-on n row_start items) in
+      let rest : items_left x row_start (drop n items) ≤ items_left x row_start items =
+      subst P (taken-start n) (left-on n row_start items) in
       omega arith
 
-  left-less : (n : ℕ) (q : Token) (items : List Item) → 0 < n → 0 < length items → items_left x row_start (drop n items) < items_left x q items
+  left-less : (n : ℕ) (q : Token) (items : List Item) → 0 < n → 0 < length items
+      → items_left x row_start (drop n items) < items_left x q items
   left-less zero q items lt some = absurd (omega arith)
   left-less (suc n) q [] lt some = absurd (omega arith)
   left-less (suc n) q (item ∷ items) lt some =
       let P : Token → Type 0 = λ u. items_left x u (drop n items) ≤ items_left x row_start items in
-      let rest : items_left x row_start (drop n items) ≤ items_left x row_start items = subst P (taken-start n) (left-on n row_start items) in
+      let rest : items_left x row_start (drop n items) ≤ items_left x row_start items =
+      subst P (taken-start n) (left-on n row_start items) in
       let own = item-some item q in
       omega arith
 
@@ -111,13 +117,15 @@ module _ (d : FlowsData) (x : Inner) (c : Contents) (columns : RowLaid → List 
       a_row = λ rl y height trees. refl;
     }
 
-    item-atoms : (k : ℕ) (q : Token) (item : Item) → ItemHolds item → PlaceIn q item → of_item AtomAt own_atom own_row x k q item ≡ item_atoms c r k item q
+    item-atoms : (k : ℕ) (q : Token) (item : Item) → ItemHolds item → PlaceIn q item
+        → of_item AtomAt own_atom own_row x k q item ≡ item_atoms c r k item q
     item-atoms k q (Atom height kind) h place = refl
     item-atoms k q (Row s) h place = h.whole q (x.size s q) place
 
     -- n items, and what follows them
     rest-holds : (n k : ℕ) (q : Token) (items : List Item) → n ≤ length items → Each ItemHolds items → FirstIn q items →
-        of_items AtomAt own_atom own_row x k q (take n items) ++ atoms_of_items c r (k + n) (taken_at n q) (drop n items) ≡ atoms_of_items c r k q items
+        of_items AtomAt own_atom own_row x k q (take n items) ++ atoms_of_items c r (k + n) (taken_at n q) (drop n items)
+        ≡ atoms_of_items c r k q items
     rest-holds zero k q items le each first = let e : k + 0 ≡ k = omega arith in ap (λ m. atoms_of_items c r m q items) e
     rest-holds (suc n) k q [] le each first = absurd (omega arith)
     rest-holds (suc n) k q (item ∷ items) le each first =
@@ -127,7 +135,8 @@ module _ (d : FlowsData) (x : Inner) (c : Contents) (columns : RowLaid → List 
         ∙ ap (λ us. us ++ (later ++ atoms_of_items c r (k + suc n) row_start (drop n items))) (item-atoms k q item each.0 first)
         ∙ ap (λ m. item_atoms c r k item q ++ (later ++ atoms_of_items c r m row_start (drop n items))) e
         ∙ ap (λ u. item_atoms c r k item q ++ (later ++ atoms_of_items c r (suc k + n) u (drop n items))) (sym (taken-start n))
-        ∙ ap (λ us. item_atoms c r k item q ++ us) (rest-holds n (suc k) row_start items (omega arith) each.1 (start-first items each.1))
+        ∙ ap (λ us. item_atoms c r k item q ++ us)
+        (rest-holds n (suc k) row_start items (omega arith) each.1 (start-first items each.1))
 
     seam-place : (k : ℕ) → (is_end f (k ∷ []) ≡ true) ⊎ IsPlaceBefore d f (k ∷ [])
     seam-place k = go (cases_lt k (length f.items))
@@ -154,7 +163,8 @@ module _ (d : FlowsData) (x : Inner) (c : Contents) (columns : RowLaid → List 
               inr (subst P rows place.3)
 
           go : (n : ℕ) → k - item_number t ≡ n → IsReached d (flow_in d s) (taken_at n (within t))
-          go zero e = let same : k ≡ item_number t = omega arith in let Q : ℕ → Type 0 = λ k. item_of f k ≡ Row s in first t here (subst Q same is)
+          go zero e = let same : k ≡ item_number t = omega arith in let Q : ℕ → Type 0 = λ k. item_of f k ≡ Row s
+              in first t here (subst Q same is)
           go (suc n) e = start-reached d (flow_in d s)
 
       first-in : FirstIn (within t) (drop (item_number t) f.items)
@@ -170,16 +180,21 @@ module _ (d : FlowsData) (x : Inner) (c : Contents) (columns : RowLaid → List 
               subst P e (place-at (item_number t) s is (omega arith))
 
       -- the items up to item k, and the atoms from there on
-      to-item : (k : ℕ) → item_number t ≤ k → k ≤ length f.items → items_to AtomAt own_atom own_row x f t k ++ atoms_of_items c r k (taken x f t k) (drop k f.items) ≡ atoms_in c r f t
+      to-item : (k : ℕ) → item_number t ≤ k → k ≤ length f.items
+          → items_to AtomAt own_atom own_row x f t k ++ atoms_of_items c r k (taken x f t k) (drop k f.items) ≡ atoms_in c r f t
       to-item k le known =
           let e : item_number t + (k - item_number t) ≡ k = omega arith in
-          let dropped : drop k f.items ≡ drop (k - item_number t) (drop (item_number t) f.items) = sym (drop-drop (k - item_number t) (item_number t) f.items ∙ ap (λ m. drop m f.items) e) in
+          let dropped : drop k f.items ≡ drop (k - item_number t) (drop (item_number t) f.items) =
+          sym (drop-drop (k - item_number t) (item_number t) f.items ∙ ap (λ m. drop m f.items) e) in
           ap (λ m. items_to AtomAt own_atom own_row x f t k ++ atoms_of_items c r m (taken x f t k) (drop k f.items)) (sym e)
-          ∙ ap (λ items. items_to AtomAt own_atom own_row x f t k ++ atoms_of_items c r (item_number t + (k - item_number t)) (taken x f t k) items) dropped
-          ∙ rest-holds (k - item_number t) (item_number t) (within t) (drop (item_number t) f.items) (let l = length-drop (item_number t) f.items in omega arith) (holds-drop (item_number t) f.items holds) first-in
+          ∙ ap (λ items. items_to AtomAt own_atom own_row x f t k ++ atoms_of_items c r (item_number t + (k - item_number t))
+          (taken x f t k) items) dropped
+          ∙ rest-holds (k - item_number t) (item_number t) (within t) (drop (item_number t) f.items)
+          (let l = length-drop (item_number t) f.items in omega arith) (holds-drop (item_number t) f.items holds) first-in
 
       from-start : (k : ℕ) → item_number t < k → row_start ≡ taken x f t k
-      from-start k lt = let P : ℕ → Type 0 = λ n. row_start ≡ taken_at n (within t) in let e : suc (k - suc (item_number t)) ≡ k - item_number t = omega arith in subst P e refl
+      from-start k lt = let P : ℕ → Type 0 = λ n. row_start ≡ taken_at n (within t)
+          in let e : suc (k - suc (item_number t)) ≡ k - item_number t = omega arith in subst P e refl
 
       -- what the column holds that ends there
       abbrev held_to : Option ℕ → Option Step → Token → List AtomAt
@@ -188,7 +203,8 @@ module _ (d : FlowsData) (x : Inner) (c : Contents) (columns : RowLaid → List 
       abbrev up_to : ℕ → List AtomAt
       up_to k = items_to AtomAt own_atom own_row x f t k
 
-      seam-holds : (h : Option ℕ) (stop : Option Step) (end : Token) → EndsAtSeam x f t h stop end → held_to h stop end ++ atoms_in c r f end ≡ atoms_in c r f t
+      seam-holds : (h : Option ℕ) (stop : Option Step) (end : Token) → EndsAtSeam x f t h stop end
+          → held_to h stop end ++ atoms_in c r f end ≡ atoms_in c r f t
       seam-holds h stop end e =
           let later = e.later in
           ap (λ us. us ++ atoms_in c r f end) (seam-laid AtomAt own_atom own_row x f d t h stop end e)
@@ -196,7 +212,7 @@ module _ (d : FlowsData) (x : Inner) (c : Contents) (columns : RowLaid → List 
           ∙ ap (λ u. up_to e.seam ++ atoms_of_items c r e.seam u (drop e.seam f.items)) (from-start e.seam later)
           ∙ to-item e.seam (omega arith) e.known
 
-      -- a column that ends in a row or behind it
+      -- a column that ends in a row or after it
       module _ (h : ℕ) (s : Step) (end : Token) (e : EndsInRow x f t h s end) where
         row_holds : RowHolds e.row
         row_holds = let P : Item → Type 0 = λ item. ItemHolds item in subst P e.item (holds-at f.items s.item holds)
@@ -221,17 +237,21 @@ module _ (d : FlowsData) (x : Inner) (c : Contents) (columns : RowLaid → List 
         behind = atoms_of_items c r (suc s.item) row_start (drop (s.item + 1) f.items)
 
         item-first : drop s.item f.items ≡ Row e.row ∷ drop (s.item + 1) f.items
-        item-first = let known = e.known in drop_more f.items s.item no_item (omega arith) ∙ ap (λ item. item ∷ drop (s.item + 1) f.items) e.item
+        item-first = let known = e.known in drop_more f.items s.item no_item (omega arith)
+            ∙ ap (λ item. item ∷ drop (s.item + 1) f.items) e.item
 
         split-row : (q : Token) → atoms_of_items c r s.item q (drop s.item f.items) ≡ c.atoms e.row q ++ behind
         split-row q = ap (λ items. atoms_of_items c r s.item q items) item-first
 
-        cut-holds : (u : Token) → IsPlaceBefore d (flow_in d e.row) u → piece ++ c.atoms e.row u ≡ c.atoms e.row e.from → piece ++ atoms_in c r f (s.item ∷ u) ≡ c.atoms e.row e.from ++ behind
+        cut-holds : (u : Token) → IsPlaceBefore d (flow_in d e.row) u → piece ++ c.atoms e.row u ≡ c.atoms e.row e.from
+            → piece ++ atoms_in c r f (s.item ∷ u) ≡ c.atoms e.row e.from ++ behind
         cut-holds [] place part = absurd place
         cut-holds (j ∷ rest) place part =
-            ap (λ us. piece ++ us) (split-row (j ∷ rest)) ∙ sym (append_assoc piece (c.atoms e.row (j ∷ rest)) behind) ∙ ap (λ us. us ++ behind) part
+            ap (λ us. piece ++ us) (split-row (j ∷ rest)) ∙ sym (append_assoc piece (c.atoms e.row (j ∷ rest)) behind)
+            ∙ ap (λ us. us ++ behind) part
 
-        row-part : piece ++ atoms_in c r f (cond (x.fill e.row e.from (room s h)).at_end ((s.item + 1) ∷ []) (s.item ∷ left)) ≡ c.atoms e.row e.from ++ behind
+        row-part : piece ++ atoms_in c r f (cond (x.fill e.row e.from (room s h)).at_end ((s.item + 1) ∷ []) (s.item ∷ left))
+            ≡ c.atoms e.row e.from ++ behind
         row-part = go (x.fill e.row e.from (room s h)).at_end refl
           where
             part : piece ++ c.atoms e.row left ≡ c.atoms e.row e.from
@@ -240,18 +260,22 @@ module _ (d : FlowsData) (x : Inner) (c : Contents) (columns : RowLaid → List 
             all : c.atoms e.row left ≡ [] → piece ≡ c.atoms e.row e.from
             all none = sym (append-nil piece) ∙ ap (λ us. piece ++ us) (sym none) ∙ part
 
-            go : (b : Bool) → (x.fill e.row e.from (room s h)).at_end ≡ b → piece ++ atoms_in c r f (cond b ((s.item + 1) ∷ []) (s.item ∷ left)) ≡ c.atoms e.row e.from ++ behind
+            go : (b : Bool) → (x.fill e.row e.from (room s h)).at_end ≡ b
+                → piece ++ atoms_in c r f (cond b ((s.item + 1) ∷ []) (s.item ∷ left)) ≡ c.atoms e.row e.from ++ behind
             go true is =
                 let one : s.item + 1 ≡ suc s.item = omega arith in
-                ap (λ m. piece ++ atoms_of_items c r m row_start (drop (s.item + 1) f.items)) one ∙ ap (λ us. us ++ behind) (all (row_holds.none e.from (room s h) from_place is))
+                ap (λ m. piece ++ atoms_of_items c r m row_start (drop (s.item + 1) f.items)) one
+                ∙ ap (λ us. us ++ behind) (all (row_holds.none e.from (room s h) from_place is))
             go false is = cut-holds left (left_place is) part
 
         row-ends : held_to (Some h) (Some s) end ++ atoms_in c r f end ≡ atoms_in c r f t
         row-ends =
             let known = e.known in
-            ap (λ us. us ++ atoms_in c r f end) (row-laid AtomAt own_atom own_row x f d t h s end e (λ is. in-row left (left_place is)))
+            ap (λ us. us ++ atoms_in c r f end)
+            (row-laid AtomAt own_atom own_row x f d t h s end e (λ is. in-row left (left_place is)))
             ∙ append_assoc (up_to s.item) piece (atoms_in c r f end)
-            ∙ ap (λ us. up_to s.item ++ us) (ap (λ u. piece ++ atoms_in c r f u) e.is ∙ row-part ∙ sym (split-row e.from) ∙ ap (λ q. atoms_of_items c r s.item q (drop s.item f.items)) e.taken_from)
+            ∙ ap (λ us. up_to s.item ++ us) (ap (λ u. piece ++ atoms_in c r f u) e.is ∙ row-part ∙ sym (split-row e.from)
+            ∙ ap (λ q. atoms_of_items c r s.item q (drop s.item f.items)) e.taken_from)
             ∙ to-item s.item e.later (omega arith)
 
         -- that place is later
@@ -260,12 +284,14 @@ module _ (d : FlowsData) (x : Inner) (c : Contents) (columns : RowLaid → List 
             let a = left-on (s.item - item_number t) (within t) (drop (item_number t) f.items) in
             let later = e.later in
             let n : item_number t + (s.item - item_number t) ≡ s.item = omega arith in
-            let dropped : drop (s.item - item_number t) (drop (item_number t) f.items) ≡ drop s.item f.items = drop-drop (s.item - item_number t) (item_number t) f.items ∙ ap (λ m. drop m f.items) n in
+            let dropped : drop (s.item - item_number t) (drop (item_number t) f.items) ≡ drop s.item f.items =
+            drop-drop (s.item - item_number t) (item_number t) f.items ∙ ap (λ m. drop m f.items) n in
             let P : List Item → Type 0 = λ items. items_left x (taken x f t s.item) items ≤ left_in x f t in
             let Q : Token → Type 0 = λ q. items_left x q (drop s.item f.items) ≤ left_in x f t in
             subst Q (sym e.taken_from) (subst P dropped a)
 
-        cut-fewer : (u : Token) → IsPlaceBefore d (flow_in d e.row) u → x.left e.row u < x.left e.row e.from → left_in x f (s.item ∷ u) < left_in x f t
+        cut-fewer : (u : Token) → IsPlaceBefore d (flow_in d e.row) u → x.left e.row u < x.left e.row e.from
+            → left_in x f (s.item ∷ u) < left_in x f t
         cut-fewer [] place less = absurd place
         cut-fewer (j ∷ rest) place less =
             let P : List Item → Type 0 = λ items. items_left x e.from items ≤ left_in x f t in
@@ -274,53 +300,66 @@ module _ (d : FlowsData) (x : Inner) (c : Contents) (columns : RowLaid → List 
             subst Q (sym item-first) (omega arith)
 
         row-fewer : left_in x f end < left_in x f t
-        row-fewer = let P : Token → Type 0 = λ u. left_in x f u < left_in x f t in subst P (sym e.is) (go (x.fill e.row e.from (room s h)).at_end refl)
+        row-fewer = let P : Token → Type 0 = λ u. left_in x f u < left_in x f t
+            in subst P (sym e.is) (go (x.fill e.row e.from (room s h)).at_end refl)
           where
-            go : (b : Bool) → (x.fill e.row e.from (room s h)).at_end ≡ b → left_in x f (cond b ((s.item + 1) ∷ []) (s.item ∷ left)) < left_in x f t
+            go : (b : Bool) → (x.fill e.row e.from (room s h)).at_end ≡ b
+                → left_in x f (cond b ((s.item + 1) ∷ []) (s.item ∷ left)) < left_in x f t
             go true is =
                 let P : List Item → Type 0 = λ items. items_left x e.from items ≤ left_in x f t in
-                let a : items_left x e.from (Row e.row ∷ drop (s.item + 1) f.items) ≤ left_in x f t = subst P item-first left-at in
+                let a : items_left x e.from (Row e.row ∷ drop (s.item + 1) f.items) ≤ left_in x f t =
+                subst P item-first left-at in
                 omega arith
             go false is = cut-fewer left (left_place is) (row_holds.fewer e.from (room s h) from_place is)
 
         row-reached : (is_end f end ≡ true) ⊎ IsPlaceBefore d f end
-        row-reached = let P : Token → Type 0 = λ u. (is_end f u ≡ true) ⊎ IsPlaceBefore d f u in subst P (sym e.is) (go (x.fill e.row e.from (room s h)).at_end refl)
+        row-reached = let P : Token → Type 0 = λ u. (is_end f u ≡ true) ⊎ IsPlaceBefore d f u
+            in subst P (sym e.is) (go (x.fill e.row e.from (room s h)).at_end refl)
           where
             cut-place : (u : Token) → IsPlaceBefore d (flow_in d e.row) u → IsPlaceBefore d f (s.item ∷ u)
             cut-place [] place = absurd place
             cut-place (j ∷ rest) place = (e.known, e.row, e.item, place)
 
             go : (b : Bool) → (x.fill e.row e.from (room s h)).at_end ≡ b →
-                (is_end f (cond b ((s.item + 1) ∷ []) (s.item ∷ left)) ≡ true) ⊎ IsPlaceBefore d f (cond b ((s.item + 1) ∷ []) (s.item ∷ left))
+                (is_end f (cond b ((s.item + 1) ∷ []) (s.item ∷ left)) ≡ true)
+                ⊎ IsPlaceBefore d f (cond b ((s.item + 1) ∷ []) (s.item ∷ left))
             go true is = seam-place (s.item + 1)
             go false is = inr (cut-place left (left_place is))
 
       -- ---- however it ends
 
-      ends-hold : (h : Option ℕ) (stop : Option Step) (end : Token) → EndsFor x f t h stop end → held_to h stop end ++ atoms_in c r f end ≡ atoms_in c r f t
+      ends-hold : (h : Option ℕ) (stop : Option Step) (end : Token) → EndsFor x f t h stop end
+          → held_to h stop end ++ atoms_in c r f end ≡ atoms_in c r f t
       ends-hold None stop end e = seam-holds None stop end e
       ends-hold (Some h) None end e = seam-holds (Some h) None end e
       ends-hold (Some h) (Some s) end (inl e) = seam-holds (Some h) (Some s) end e
       ends-hold (Some h) (Some s) end (inr e) = row-ends h s end e
 
-      seam-reached : (h : Option ℕ) (stop : Option Step) (end : Token) → EndsAtSeam x f t h stop end → (is_end f end ≡ true) ⊎ IsPlaceBefore d f end
-      seam-reached h stop end e = let P : Token → Type 0 = λ u. (is_end f u ≡ true) ⊎ IsPlaceBefore d f u in subst P (sym e.is) (seam-place e.seam)
+      seam-reached : (h : Option ℕ) (stop : Option Step) (end : Token) → EndsAtSeam x f t h stop end
+          → (is_end f end ≡ true) ⊎ IsPlaceBefore d f end
+      seam-reached h stop end e = let P : Token → Type 0 = λ u. (is_end f u ≡ true) ⊎ IsPlaceBefore d f u
+          in subst P (sym e.is) (seam-place e.seam)
 
-      ends-reached : (h : Option ℕ) (stop : Option Step) (end : Token) → EndsFor x f t h stop end → (is_end f end ≡ true) ⊎ IsPlaceBefore d f end
+      ends-reached : (h : Option ℕ) (stop : Option Step) (end : Token) → EndsFor x f t h stop end
+          → (is_end f end ≡ true) ⊎ IsPlaceBefore d f end
       ends-reached None stop end e = seam-reached None stop end e
       ends-reached (Some h) None end e = seam-reached (Some h) None end e
       ends-reached (Some h) (Some s) end (inl e) = seam-reached (Some h) (Some s) end e
       ends-reached (Some h) (Some s) end (inr e) = row-reached h s end e
 
-      seam-fewer : (h : Option ℕ) (stop : Option Step) (end : Token) → EndsAtSeam x f t h stop end → left_in x f end < left_in x f t
+      seam-fewer : (h : Option ℕ) (stop : Option Step) (end : Token) → EndsAtSeam x f t h stop end
+          → left_in x f end < left_in x f t
       seam-fewer h stop end e =
           let later = e.later in
           let n : item_number t + (e.seam - item_number t) ≡ e.seam = omega arith in
-          let dropped : drop (e.seam - item_number t) (drop (item_number t) f.items) ≡ drop e.seam f.items = drop-drop (e.seam - item_number t) (item_number t) f.items ∙ ap (λ m. drop m f.items) n in
+          let dropped : drop (e.seam - item_number t) (drop (item_number t) f.items) ≡ drop e.seam f.items =
+          drop-drop (e.seam - item_number t) (item_number t) f.items ∙ ap (λ m. drop m f.items) n in
           let P : List Item → Type 0 = λ items. items_left x row_start items < left_in x f t in
           let Q : Token → Type 0 = λ u. left_in x f u < left_in x f t in
-          let some : 0 < length (drop (item_number t) f.items) = let l = length-drop (item_number t) f.items in let lt = inside in omega arith in
-          subst Q (sym e.is) (subst P dropped (left-less (e.seam - item_number t) (within t) (drop (item_number t) f.items) (omega arith) some))
+          let some : 0 < length (drop (item_number t) f.items) = let l = length-drop (item_number t) f.items in let lt = inside
+          in omega arith in
+          subst Q (sym e.is) (subst P dropped
+          (left-less (e.seam - item_number t) (within t) (drop (item_number t) f.items) (omega arith) some))
 
       ends-fewer : (h : Option ℕ) (stop : Option Step) (end : Token) → EndsFor x f t h stop end → left_in x f end < left_in x f t
       ends-fewer None stop end e = seam-fewer None stop end e
@@ -328,14 +367,18 @@ module _ (d : FlowsData) (x : Inner) (c : Contents) (columns : RowLaid → List 
       ends-fewer (Some h) (Some s) end (inl e) = seam-fewer (Some h) (Some s) end e
       ends-fewer (Some h) (Some s) end (inr e) = row-fewer h s end e
 
-      pub column-holds : (number : ℕ) (h : Option ℕ) → atoms_in_tree r (fragment_of columns x d number f h t) ++ atoms_in c r f (column_made x d f h t).end ≡ atoms_in c r f t
+      pub column-holds : (number : ℕ) (h : Option ℕ)
+          → atoms_in_tree r (fragment_of columns x d number f h t) ++ atoms_in c r f (column_made x d f h t).end
+          ≡ atoms_in c r f t
       unfolding atoms_in_tree atoms_in_trees
       column-holds number h =
           ap (λ us. us ++ atoms_in c r f (column_made x d f h t).end)
-          (column-reads AtomAt own_atom own_row (atoms_in_trees r) columns reads d (continuing f t) (laid_start d f t ++ laid_to x d f t h (stop_of x d f t h) (column_made x d f h t).end))
+          (column-reads AtomAt own_atom own_row (atoms_in_trees r) columns reads d (continuing f t)
+          (laid_start d f t ++ laid_to x d f t h (stop_of x d f t h) (column_made x d f h t).end))
           ∙ ends-hold h (stop_of x d f t h) (column_made x d f h t).end (column-ends x f t d h inside)
 
-      pub column-reached : (h : Option ℕ) → (is_end f (column_made x d f h t).end ≡ true) ⊎ IsPlaceBefore d f (column_made x d f h t).end
+      pub column-reached : (h : Option ℕ) → (is_end f (column_made x d f h t).end ≡ true)
+          ⊎ IsPlaceBefore d f (column_made x d f h t).end
       column-reached h = ends-reached h (stop_of x d f t h) (column_made x d f h t).end (column-ends x f t d h inside)
 
       pub column-fewer : (h : Option ℕ) → left_in x f (column_made x d f h t).end < left_in x f t

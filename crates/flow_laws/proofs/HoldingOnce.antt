@@ -1,5 +1,6 @@
 -- No atom stands twice among those of a row: each row stands in one place, so the rows in two rows of a flow are different ones.
-use Rattle.std.proofs.Common.{◌≡◌, ℕ, zero, suc, ◌+◌, ◌<◌, ◌≤◌, ◌==◌, Bool, true, cond, List, [], ◌∷◌, ◌++◌, length, drop, get_or, map, refl, sym, subst, ◌∙◌, ap, arith, sum_by, ◌⊎◌, inl, inr}
+use Rattle.std.proofs.Common.{◌≡◌, ℕ, zero, suc, ◌+◌, ◌<◌, ◌≤◌, ◌==◌, Bool, true, cond, List, [], ◌∷◌, ◌++◌, length, drop, get_or}
+use Rattle.std.proofs.Common.{map, refl, sym, subst, ◌∙◌, ap, arith, sum_by, ◌⊎◌, inl, inr}
 use Rattle.std.specs.Prelude.{All, AllPairs, ◌≢◌}
 use Rattle.std.specs.List.{AllByRecursion as Each, flat_map}
 use Rattle.std.proofs.lemmas.Bool.{cases_lt}
@@ -21,14 +22,16 @@ use Rattle.flow_laws.proofs.HoldingParts.{split-count, once-in-flow}
 
 -- ---- lists
 
-sum-two : {X : Type 0} (g : X → ℕ) (xs : List X) (i j : ℕ) (d : X) → i < j → j < length xs → g (get_or xs i d) + g (get_or xs j d) ≤ sum_by g xs
+sum-two : {X : Type 0} (g : X → ℕ) (xs : List X) (i j : ℕ) (d : X) → i < j → j < length xs
+    → g (get_or xs i d) + g (get_or xs j d) ≤ sum_by g xs
 sum-two g [] i j d lt known = absurd (omega arith)
 sum-two g (x ∷ xs) i zero d lt known = absurd (omega arith)
 sum-two g (x ∷ xs) zero (suc j) d lt known = omega (arith, sum_by-cons g x xs, get_or-le-sum_by g xs j d (omega arith))
 sum-two g (x ∷ xs) (suc i) (suc j) d lt known = omega (arith, sum_by-cons g x xs, sum-two g xs i j d (omega arith) (omega arith))
 
 -- where a sum is 1 at most, it has one place
-pub one-place : {X : Type 0} (g : X → ℕ) (xs : List X) (i j : ℕ) (d : X) → sum_by g xs ≤ 1 → i < length xs → j < length xs → 1 ≤ g (get_or xs i d) → 1 ≤ g (get_or xs j d) → i ≡ j
+pub one-place : {X : Type 0} (g : X → ℕ) (xs : List X) (i j : ℕ) (d : X) → sum_by g xs ≤ 1 → i < length xs → j < length xs
+    → 1 ≤ g (get_or xs i d) → 1 ≤ g (get_or xs j d) → i ≡ j
 one-place g xs i j d few in_i in_j at_i at_j = go (cases_lt i j) (cases_lt j i)
   where
     go : (i < j) ⊎ (j ≤ i) → (j < i) ⊎ (i ≤ j) → i ≡ j
@@ -37,7 +40,8 @@ one-place g xs i j d few in_i in_j at_i at_j = go (cases_lt i j) (cases_lt j i)
     go (inr ge) (inr le) = omega arith
 
 pub one-at : (m n : ℕ) → m ≡ n → 1 ≤ cond (m == n) 1 0
-one-at m n e = let yes : (m == n) ≡ true = grind (arith, nat_tests) in let P : Bool → Type 0 = λ b. 1 ≤ cond b 1 0 in subst P (sym yes) (omega arith)
+one-at m n e = let yes : (m == n) ≡ true = grind (arith, nat_tests) in let P : Bool → Type 0 = λ b. 1 ≤ cond b 1 0
+    in subst P (sym yes) (omega arith)
 
 -- these atoms differ from each other
 abbrev Apart : List AtomAt → Type 0
@@ -81,11 +85,14 @@ module _ (d : FlowsData) (sound : IsSound d) where
       let all = sum-flat (λ k. cond (k == v) 1 0) rows_in d.flows in
       let row_u = sound.rows u no_row lt_u in
       let row_w = sound.rows w no_row lt_w in
-      let flows : (row_of d u).flow ≡ (row_of d w).flow = one-place (λ f. count_of v (rows_in f)) d.flows (row_of d u).flow (row_of d w).flow no_flow (omega arith) row_u.flow row_w.flow child_u child_w in
+      let flows : (row_of d u).flow ≡ (row_of d w).flow = one-place (λ f. count_of v (rows_in f)) d.flows (row_of d u).flow
+      (row_of d w).flow no_flow (omega arith) row_u.flow row_w.flow child_u child_w in
       let owned = sound.flow_belongs (row_of d u).flow row_u.flow in
-      let parts = sum_by-append (λ k. cond (k == (row_of d u).flow) 1 0) (map (λ (r : RowInfo). r.flow) d.rows) (map (λ (s : Stack). s.flow) d.stacks) in
+      let parts = sum_by-append (λ k. cond (k == (row_of d u).flow) 1 0) (map (λ (r : RowInfo). r.flow) d.rows)
+      (map (λ (s : Stack). s.flow) d.stacks) in
       let rows = sum-map (λ k. cond (k == (row_of d u).flow) 1 0) (λ (r : RowInfo). r.flow) d.rows in
-      one-place (λ (r : RowInfo). cond (r.flow == (row_of d u).flow) 1 0) d.rows u w no_row (omega arith) lt_u lt_w (one-at (row_of d u).flow (row_of d u).flow refl) (one-at (row_of d w).flow (row_of d u).flow (sym flows))
+      one-place (λ (r : RowInfo). cond (r.flow == (row_of d u).flow) 1 0) d.rows u w no_row (omega arith) lt_u lt_w
+      (one-at (row_of d u).flow (row_of d u).flow refl) (one-at (row_of d w).flow (row_of d u).flow (sym flows))
 
   -- row v is row s or stands in it, directly or within its rows, m deep
   abbrev Has : ℕ → ℕ → ℕ → Type 0
@@ -120,7 +127,8 @@ module _ (d : FlowsData) (sound : IsSound d) where
   disjoint : (n m s a b v : ℕ) → v < n → s < length d.rows → IsChild s a → IsChild s b → (a ≡ b → ⊥) → Has m a v → Has m b v → ⊥
   disjoint zero m s a b v low lt child_a child_b differ has_a has_b = omega arith
   disjoint (suc n) m s a b v low lt child_a child_b differ has_a has_b =
-      go (has-parent m a v has_a) (has-parent m b v has_b) (λ p small in_a in_b. disjoint n m s a b p small lt child_a child_b differ in_a in_b)
+      go (has-parent m a v has_a) (has-parent m b v has_b)
+      (λ p small in_a in_b. disjoint n m s a b p small lt child_a child_b differ in_a in_b)
     where
       known_a : Known s a
       known_a = child-known s a lt child_a
@@ -137,7 +145,8 @@ module _ (d : FlowsData) (sound : IsSound d) where
           let same : p ≡ s = one-parent p s v below.known lt parent (subst (IsChild s) is child) in
           omega arith
 
-      go : (a ≡ v) ⊎ ((p : ℕ) × Has m a p × IsChild p v) → (b ≡ v) ⊎ ((p : ℕ) × Has m b p × IsChild p v) → ((p : ℕ) → p < n → Has m a p → Has m b p → ⊥) → ⊥
+      go : (a ≡ v) ⊎ ((p : ℕ) × Has m a p × IsChild p v) → (b ≡ v) ⊎ ((p : ℕ) × Has m b p × IsChild p v)
+          → ((p : ℕ) → p < n → Has m a p → Has m b p → ⊥) → ⊥
       go (inl e) (inl g) again = differ (e ∙ sym g)
       go (inl e) (inr q) again = above a b q.0 e child_a known_b q.1 q.2
       go (inr p) (inl g) again = above b a p.0 g child_b known_a p.1 p.2
@@ -159,10 +168,12 @@ module _ (d : FlowsData) (sound : IsSound d) where
   ItemOnce m (Atom height kind) = Unit {0}
   ItemOnce m (Row u) = RowOnce m u
 
-  items-once : (m s : ℕ) → ((u : ℕ) → u < length d.rows → RowOnce m u) → (items : List Item) → All (IsWithin d sound s) (flat_map row_in items) → Each (ItemOnce m) items
+  items-once : (m s : ℕ) → ((u : ℕ) → u < length d.rows → RowOnce m u) → (items : List Item)
+      → All (IsWithin d sound s) (flat_map row_in items) → Each (ItemOnce m) items
   items-once m s once [] all = tt
   items-once m s once (Atom height kind ∷ items) all = (tt, items-once m s once items all)
-  items-once m s once (Row u ∷ items) all = (once u (all 0 u (omega arith)).known, items-once m s once items (λ k e lt. all (suc k) e (omega arith)))
+  items-once m s once (Row u ∷ items) all =
+      (once u (all 0 u (omega arith)).known, items-once m s once items (λ k e lt. all (suc k) e (omega arith)))
 
   module _ (m s : ℕ) (lt : s < length d.rows) where
     abbrev RowsOf : List Item → ℕ → ℕ
@@ -172,37 +183,47 @@ module _ (d : FlowsData) (sound : IsSound d) where
     abbrev IsOf : ℕ → List Item → AtomAt → Type 0
     IsOf k items a = ((a.row ≡ s) × (k ≤ a.item)) ⊎ ((u : ℕ) × (1 ≤ RowsOf items u) × Has m u a.row)
 
-    of-more : (k : ℕ) (items : List Item) (first : Item) → ((u : ℕ) → RowsOf items u ≤ RowsOf (first ∷ items) u) → (a : AtomAt) → IsOf (suc k) items a → IsOf k (first ∷ items) a
+    of-more : (k : ℕ) (items : List Item) (first : Item) → ((u : ℕ) → RowsOf items u ≤ RowsOf (first ∷ items) u) → (a : AtomAt)
+        → IsOf (suc k) items a → IsOf k (first ∷ items) a
     of-more k items first more a (inl own) = let le = own.1 in inl (own.0, omega arith)
     of-more k items first more a (inr inner) = let le = inner.1 in let grows = more inner.0 in inr (inner.0, omega arith, inner.2)
 
-    atoms-of : (k : ℕ) (q : Token) (items : List Item) → Each (ItemOnce m) items → Each (IsOf k items) (atoms_of_items (contents_to d m) s k q items)
+    atoms-of : (k : ℕ) (q : Token) (items : List Item) → Each (ItemOnce m) items
+        → Each (IsOf k items) (atoms_of_items (contents_to d m) s k q items)
     atoms-of k q [] once = tt
-    atoms-of k q (Atom height kind ∷ items) once =
-        (inl (refl, omega arith), each-with (IsOf (suc k) items) (IsOf k (Atom height kind ∷ items)) _ (of-more k items (Atom height kind) (λ u. omega arith)) (atoms-of (suc k) row_start items once.1))
+    atoms-of k q (Atom height kind ∷ items) once = (
+      inl (refl, omega arith),
+      each-with (IsOf (suc k) items) (IsOf k (Atom height kind ∷ items)) _
+          (of-more k items (Atom height kind) (λ u. omega arith)) (atoms-of (suc k) row_start items once.1),
+    )
     atoms-of k q (Row u ∷ items) once =
-        Each-append (IsOf k (Row u ∷ items)) ((contents_to d m).atoms u q) (atoms_of_items (contents_to d m) s (suc k) row_start items)
+        Each-append (IsOf k (Row u ∷ items)) ((contents_to d m).atoms u q)
+        (atoms_of_items (contents_to d m) s (suc k) row_start items)
         (each-with (λ (a : AtomAt). Has m u a.row) (IsOf k (Row u ∷ items)) _ (λ a has. inr (u, own, has)) (once.0.stand q))
-        (each-with (IsOf (suc k) items) (IsOf k (Row u ∷ items)) _ (of-more k items (Row u) more) (atoms-of (suc k) row_start items once.1))
+        (each-with (IsOf (suc k) items) (IsOf k (Row u ∷ items)) _ (of-more k items (Row u) more)
+        (atoms-of (suc k) row_start items once.1))
       where
         own : 1 ≤ RowsOf (Row u ∷ items) u
         own = let one : RowsOf (Row u ∷ items) u ≡ suc (RowsOf items u) = count-self u (flat_map row_in items) in omega arith
 
         more : (v : ℕ) → RowsOf items v ≤ RowsOf (Row u ∷ items) v
-        more v = let e : RowsOf (Row u ∷ items) v ≡ cond (u == v) 1 0 + RowsOf items v = count-cons v u (flat_map row_in items) in omega arith
+        more v = let e : RowsOf (Row u ∷ items) v ≡ cond (u == v) 1 0 + RowsOf items v = count-cons v u (flat_map row_in items)
+            in omega arith
 
     -- what is so of the rows of these items: each is there once, and stands in row s
     record Fine (items : List Item) : Type 0 where
       few : (u : ℕ) → u < length d.rows → RowsOf items u ≤ 1
       child : (u : ℕ) → 1 ≤ RowsOf items u → IsChild s u
 
-    fine-rest : (first : Item) (items : List Item) → ((u : ℕ) → RowsOf items u ≤ RowsOf (first ∷ items) u) → Fine (first ∷ items) → Fine items
+    fine-rest : (first : Item) (items : List Item) → ((u : ℕ) → RowsOf items u ≤ RowsOf (first ∷ items) u) → Fine (first ∷ items)
+        → Fine items
     fine-rest first items more fine = record {
       few = λ u known. let a = more u in let b = fine.few u known in omega arith;
       child = λ u some. fine.child u (let a = more u in omega arith);
     }
 
-    not-own : (k : ℕ) (items : List Item) → Fine items → (b : AtomAt) → IsOf (suc k) items b → (record { row = s; item = k } ≡ b → ⊥)
+    not-own : (k : ℕ) (items : List Item) → Fine items → (b : AtomAt) → IsOf (suc k) items b
+        → (record { row = s; item = k } ≡ b → ⊥)
     not-own k items fine b (inl own) same = let e : k ≡ b.item = ap (λ (a : AtomAt). a.item) same in let le = own.1 in omega arith
     not-own k items fine b (inr inner) same =
         let e : s ≡ b.row = ap (λ (a : AtomAt). a.row) same in
@@ -211,7 +232,8 @@ module _ (d : FlowsData) (sound : IsSound d) where
         let from = (has-below m inner.0 b.row known.known inner.2).from in
         omega arith
 
-    not-inner : (k u : ℕ) (items : List Item) → Fine (Row u ∷ items) → (a : AtomAt) → Has m u a.row → (b : AtomAt) → IsOf (suc k) items b → (a ≡ b → ⊥)
+    not-inner : (k u : ℕ) (items : List Item) → Fine (Row u ∷ items) → (a : AtomAt) → Has m u a.row → (b : AtomAt)
+        → IsOf (suc k) items b → (a ≡ b → ⊥)
     not-inner k u items fine a has b of same = go of
       where
         rows : a.row ≡ b.row
@@ -248,18 +270,25 @@ module _ (d : FlowsData) (sound : IsSound d) where
                 let o = own in
                 omega arith
 
-    all-apart : (k : ℕ) (q : Token) (items : List Item) → Fine items → Each (ItemOnce m) items → Apart (atoms_of_items (contents_to d m) s k q items)
+    all-apart : (k : ℕ) (q : Token) (items : List Item) → Fine items → Each (ItemOnce m) items
+        → Apart (atoms_of_items (contents_to d m) s k q items)
     all-apart k q [] fine once = tt
     all-apart k q (Atom height kind ∷ items) fine once =
         let rest : Fine items = fine-rest (Atom height kind) items (λ u. omega arith) fine in (
-          each-with (IsOf (suc k) items) (λ b. record { row = s; item = k } ≢ b) _ (not-own k items rest) (atoms-of (suc k) row_start items once.1),
+          each-with (IsOf (suc k) items) (λ b. record { row = s; item = k } ≢ b) _ (not-own k items rest)
+              (atoms-of (suc k) row_start items once.1),
           all-apart (suc k) row_start items rest once.1,
         )
     all-apart k q (Row u ∷ items) fine once =
-        let rest : Fine items = fine-rest (Row u) items (λ v. let e : RowsOf (Row u ∷ items) v ≡ cond (u == v) 1 0 + RowsOf items v = count-cons v u (flat_map row_in items) in omega arith) fine in
-        apart-append ((contents_to d m).atoms u q) (atoms_of_items (contents_to d m) s (suc k) row_start items) (once.0.apart q) (all-apart (suc k) row_start items rest once.1)
-        (each-with (λ (a : AtomAt). Has m u a.row) (λ a. Each (λ b. a ≢ b) (atoms_of_items (contents_to d m) s (suc k) row_start items)) _
-        (λ a has. each-with (IsOf (suc k) items) (λ b. a ≢ b) _ (not-inner k u items fine a has) (atoms-of (suc k) row_start items once.1)) (once.0.stand q))
+        let rest : Fine items = fine-rest (Row u) items
+        (λ v. let e : RowsOf (Row u ∷ items) v ≡ cond (u == v) 1 0 + RowsOf items v = count-cons v u (flat_map row_in items)
+        in omega arith) fine in
+        apart-append ((contents_to d m).atoms u q) (atoms_of_items (contents_to d m) s (suc k) row_start items) (once.0.apart q)
+        (all-apart (suc k) row_start items rest once.1)
+        (each-with (λ (a : AtomAt). Has m u a.row)
+        (λ a. Each (λ b. a ≢ b) (atoms_of_items (contents_to d m) s (suc k) row_start items)) _
+        (λ a has. each-with (IsOf (suc k) items) (λ b. a ≢ b) _ (not-inner k u items fine a has)
+        (atoms-of (suc k) row_start items once.1)) (once.0.stand q))
 
     fine-drop : (i : ℕ) → Fine (drop i (flow_in d s).items)
     fine-drop i = record {
@@ -278,8 +307,12 @@ module _ (d : FlowsData) (sound : IsSound d) where
     row-once inner =
         let each = items-once m s inner (flow_in d s).items (rows-within d sound s lt) in
         record {
-          apart = λ q. all-apart (item_number q) (within q) (drop (item_number q) (flow_in d s).items) (fine-drop (item_number q)) (each-drop (item_number q) (flow_in d s).items each);
-          stand = λ q. each-with (IsOf (item_number q) (drop (item_number q) (flow_in d s).items)) (λ (a : AtomAt). Has (suc m) s a.row) _ (in-row (item_number q)) (atoms-of (item_number q) (within q) (drop (item_number q) (flow_in d s).items) (each-drop (item_number q) (flow_in d s).items each));
+          apart = λ q. all-apart (item_number q) (within q) (drop (item_number q) (flow_in d s).items) (fine-drop (item_number q))
+              (each-drop (item_number q) (flow_in d s).items each);
+          stand = λ q. each-with (IsOf (item_number q) (drop (item_number q) (flow_in d s).items))
+              (λ (a : AtomAt). Has (suc m) s a.row) _ (in-row (item_number q))
+              (atoms-of (item_number q) (within q) (drop (item_number q) (flow_in d s).items)
+              (each-drop (item_number q) (flow_in d s).items each));
         }
       where
         in-row : (i : ℕ) (a : AtomAt) → IsOf i (drop i (flow_in d s).items) a → Has (suc m) s a.row
@@ -292,6 +325,8 @@ module _ (d : FlowsData) (sound : IsSound d) where
   all-once (suc m) s lt = row-once m s lt (λ u known. all-once m u known)
 
 -- The atoms of a row differ.
-pub atoms-differ : (d : FlowsData) → IsSound d → (r : ℕ) → r < length d.rows → (t : Token) → AllPairs (λ a b. a ≢ b) (atoms_from d r t)
+pub atoms-differ : (d : FlowsData) → IsSound d → (r : ℕ) → r < length d.rows → (t : Token)
+    → AllPairs (λ a b. a ≢ b) (atoms_from d r t)
 unfolding atoms_from
-atoms-differ d sound r lt t = apart-pairs ((contents_to d (suc (length d.rows))).atoms r t) ((all-once d sound (suc (length d.rows)) r lt).apart t)
+atoms-differ d sound r lt t =
+    apart-pairs ((contents_to d (suc (length d.rows))).atoms r t) ((all-once d sound (suc (length d.rows)) r lt).apart t)

@@ -1,5 +1,6 @@
 -- The items in the tree of a column are those from its place to its end, and no row stands there twice.
-use Rattle.std.proofs.Common.{◌≡◌, ℕ, zero, suc, ◌+◌, ◌-◌, ◌<◌, ◌≤◌, ◌==◌, Bool, true, false, cond, List, [], ◌∷◌, ◌++◌, length, take, drop, get_or, Option, Some, None, refl, sym, subst, ◌∙◌, ap, arith, sum_by, inl, inr}
+use Rattle.std.proofs.Common.{◌≡◌, ℕ, zero, suc, ◌+◌, ◌-◌, ◌<◌, ◌≤◌, ◌==◌, Bool, true, false, cond, List, [], ◌∷◌, ◌++◌, length}
+use Rattle.std.proofs.Common.{take, drop, get_or, Option, Some, None, refl, sym, subst, ◌∙◌, ap, arith, sum_by, inl, inr}
 use Rattle.std.specs.Prelude.{AllPairs, ◌≢◌}
 use Rattle.std.specs.List.{flat_map}
 use Rattle.std.proofs.lemmas.List.{length-drop, get_or-drop, take-append-drop}
@@ -15,7 +16,8 @@ use Rattle.flow_list.specs.Tokens.{Token, row_start, item_number, within}
 use Rattle.flow_list.specs.Column.{Inner, Step, room}
 use Rattle.flow_list.specs.Placing.{RowLaid}
 use Rattle.flow_list.specs.Fragments.{continuing, laid_start, laid_to, stop_of, column_made, fragment_of}
-use Rattle.flow_laws.specs.Holding.{Part, atom_part, row_part, parts_in_tree, parts_in_trees, part_of, parts_of, items_before, parts_between, row_of_part}
+use Rattle.flow_laws.specs.Holding.{Part, atom_part, row_part, parts_in_tree, parts_in_trees, part_of, parts_of, items_before}
+use Rattle.flow_laws.specs.Holding.{parts_between, row_of_part}
 use Rattle.flow_laws.proofs.SoundRows.{rows-in-range}
 use Rattle.flow_laws.proofs.Totals.{sum-flat}
 use Rattle.flow_laws.proofs.HoldingTrees.{Reads, column-reads}
@@ -44,19 +46,24 @@ items-are x k q (Row r ∷ items) = ap (λ us. row_part r q ∷ us) (items-are x
 
 -- one item more
 one-more : (n k : ℕ) (q : Token) (items : List Item) → n < length items →
-    parts_of k q (take n items) ++ part_of (k + n) (get_or items n no_item) (taken_at n q) ∷ [] ≡ parts_of k q (take (suc n) items)
+    parts_of k q (take n items) ++ part_of (k + n) (get_or items n no_item) (taken_at n q) ∷ []
+    ≡ parts_of k q (take (suc n) items)
 one-more n k q [] lt = absurd (omega arith)
 one-more zero k q (item ∷ items) lt = let e : k + 0 ≡ k = omega arith in ap (λ m. part_of m item q ∷ []) e
 one-more (suc n) k q (item ∷ items) lt =
     let e : k + suc n ≡ suc k + n = omega arith in
-    ap (λ m. part_of k item q ∷ (parts_of (suc k) row_start (take n items) ++ part_of m (get_or items n no_item) row_start ∷ [])) e
-    ∙ ap (λ u. part_of k item q ∷ (parts_of (suc k) row_start (take n items) ++ part_of (suc k + n) (get_or items n no_item) u ∷ [])) (sym (taken-start n))
+    ap (λ m. part_of k item q ∷ (parts_of (suc k) row_start (take n items) ++ part_of m (get_or items n no_item) row_start ∷ []))
+    e
+    ∙ ap (λ u. part_of k item q ∷ (parts_of (suc k) row_start (take n items) ++ part_of (suc k + n) (get_or items n no_item) u
+    ∷ [])) (sym (taken-start n))
     ∙ ap (λ us. part_of k item q ∷ us) (one-more n (suc k) row_start items (omega arith))
 
-module _ (d : FlowsData) (x : Inner) (columns : RowLaid → List PlainTree) (f : Flow) (t : Token) (inside : item_number t < length f.items) where
+module _ (d : FlowsData) (x : Inner) (columns : RowLaid → List PlainTree) (f : Flow) (t : Token)
+    (inside : item_number t < length f.items) where
   -- a place that a filled row leaves before its end isn't empty
   abbrev pub Leaves : Type 0
-  Leaves = (s : ℕ) (q : Token) (a : ℕ) (k : ℕ) → item_number t ≤ k → item_of f k ≡ Row s → q ≡ taken x f t k → (x.fill s q a).at_end ≡ false → (j : ℕ) × (rest : Token) × ((x.fill s q a).end ≡ j ∷ rest)
+  Leaves = (s : ℕ) (q : Token) (a : ℕ) (k : ℕ) → item_number t ≤ k → item_of f k ≡ Row s → q ≡ taken x f t k
+      → (x.fill s q a).at_end ≡ false → (j : ℕ) × (rest : Token) × ((x.fill s q a).end ≡ j ∷ rest)
 
   abbrev laid : Option ℕ → Option Step → Token → List Part
   laid h stop end = counted Part own_atom own_row x (laid_start d f t ++ laid_to x d f t h stop end)
@@ -64,52 +71,68 @@ module _ (d : FlowsData) (x : Inner) (columns : RowLaid → List PlainTree) (f :
   abbrev from_first : ℕ → List Part
   from_first n = parts_of (item_number t) (within t) (take n (drop (item_number t) f.items))
 
-  seam-parts : (h : Option ℕ) (stop : Option Step) (end : Token) → EndsAtSeam x f t h stop end → laid h stop end ≡ parts_between f t end
+  seam-parts : (h : Option ℕ) (stop : Option Step) (end : Token) → EndsAtSeam x f t h stop end
+      → laid h stop end ≡ parts_between f t end
   seam-parts h stop end e =
       let P : Token → Type 0 = λ u. items_to Part own_atom own_row x f t e.seam ≡ parts_between f t u in
-      seam-laid Part own_atom own_row x f d t h stop end e ∙ subst P (sym e.is) (items-are x (item_number t) (within t) (take (e.seam - item_number t) (drop (item_number t) f.items)))
+      seam-laid Part own_atom own_row x f d t h stop end e
+      ∙ subst P (sym e.is) (items-are x (item_number t) (within t)
+      (take (e.seam - item_number t) (drop (item_number t) f.items)))
 
-  row-parts : Leaves → (h : ℕ) (s : Step) (end : Token) → EndsInRow x f t h s end → laid (Some h) (Some s) end ≡ parts_between f t end
+  row-parts : Leaves → (h : ℕ) (s : Step) (end : Token) → EndsInRow x f t h s end
+      → laid (Some h) (Some s) end ≡ parts_between f t end
   row-parts leaves h s end e =
       row-laid Part own_atom own_row x f d t h s end e within_row
-      ∙ ap (λ us. us ++ row_part e.row e.from ∷ []) (items-are x (item_number t) (within t) (take (s.item - item_number t) (drop (item_number t) f.items)))
+      ∙ ap (λ us. us ++ row_part e.row e.from ∷ [])
+      (items-are x (item_number t) (within t) (take (s.item - item_number t) (drop (item_number t) f.items)))
       ∙ ap (λ part. from_first (s.item - item_number t) ++ part ∷ []) last
-      ∙ one-more (s.item - item_number t) (item_number t) (within t) (drop (item_number t) f.items) (let l = length-drop (item_number t) f.items in let later = e.later in let known = e.known in omega arith)
+      ∙ one-more (s.item - item_number t) (item_number t) (within t) (drop (item_number t) f.items)
+      (let l = length-drop (item_number t) f.items in let later = e.later in let known = e.known in omega arith)
       ∙ ap from_first counts
     where
-      within_row : (x.fill e.row e.from (room s h)).at_end ≡ false → (j : ℕ) × (rest : Token) × ((x.fill e.row e.from (room s h)).end ≡ j ∷ rest)
+      within_row : (x.fill e.row e.from (room s h)).at_end ≡ false
+          → (j : ℕ) × (rest : Token) × ((x.fill e.row e.from (room s h)).end ≡ j ∷ rest)
       within_row = leaves e.row e.from (room s h) s.item e.later e.item e.taken_from
 
       number : item_number t + (s.item - item_number t) ≡ s.item
       number = let later = e.later in omega arith
 
-      last : row_part e.row e.from ≡ part_of (item_number t + (s.item - item_number t)) (get_or (drop (item_number t) f.items) (s.item - item_number t) no_item) (taken_at (s.item - item_number t) (within t))
+      last : row_part e.row e.from ≡ part_of (item_number t + (s.item - item_number t))
+          (get_or (drop (item_number t) f.items) (s.item - item_number t) no_item) (taken_at (s.item - item_number t) (within t))
       last =
-          let item : get_or (drop (item_number t) f.items) (s.item - item_number t) no_item ≡ Row e.row = get_or-drop (item_number t) f.items (s.item - item_number t) no_item ∙ ap (item_of f) number ∙ e.item in
+          let item : get_or (drop (item_number t) f.items) (s.item - item_number t) no_item ≡ Row e.row =
+          get_or-drop (item_number t) f.items (s.item - item_number t) no_item ∙ ap (item_of f) number ∙ e.item in
           ap (λ q. row_part e.row q) e.taken_from
-          ∙ ap (λ item. part_of (item_number t + (s.item - item_number t)) item (taken_at (s.item - item_number t) (within t))) (sym item)
+          ∙ ap (λ item. part_of (item_number t + (s.item - item_number t)) item (taken_at (s.item - item_number t) (within t)))
+          (sym item)
 
       before : (u : Token) → ((j : ℕ) × (rest : Token) × (u ≡ j ∷ rest)) → items_before (s.item ∷ u) ≡ s.item + 1
       before [] some = let e = some.2 in cc
       before (j ∷ rest) some = refl
 
       counts : suc (s.item - item_number t) ≡ items_before end - item_number t
-      counts = let P : Token → Type 0 = λ u. suc (s.item - item_number t) ≡ items_before u - item_number t in subst P (sym e.is) (go (x.fill e.row e.from (room s h)).at_end refl)
+      counts = let P : Token → Type 0 = λ u. suc (s.item - item_number t) ≡ items_before u - item_number t
+          in subst P (sym e.is) (go (x.fill e.row e.from (room s h)).at_end refl)
         where
-          go : (b : Bool) → (x.fill e.row e.from (room s h)).at_end ≡ b → suc (s.item - item_number t) ≡ items_before (cond b ((s.item + 1) ∷ []) (s.item ∷ (x.fill e.row e.from (room s h)).end)) - item_number t
+          go : (b : Bool) → (x.fill e.row e.from (room s h)).at_end ≡ b
+              → suc (s.item - item_number t)
+              ≡ items_before (cond b ((s.item + 1) ∷ []) (s.item ∷ (x.fill e.row e.from (room s h)).end)) - item_number t
           go true is = let later = e.later in omega arith
           go false is = let later = e.later in let n = before (x.fill e.row e.from (room s h)).end (within_row is) in omega arith
 
-  ends-parts : Leaves → (h : Option ℕ) (stop : Option Step) (end : Token) → EndsFor x f t h stop end → laid h stop end ≡ parts_between f t end
+  ends-parts : Leaves → (h : Option ℕ) (stop : Option Step) (end : Token) → EndsFor x f t h stop end
+      → laid h stop end ≡ parts_between f t end
   ends-parts leaves None stop end e = seam-parts None stop end e
   ends-parts leaves (Some h) None end e = seam-parts (Some h) None end e
   ends-parts leaves (Some h) (Some s) end (inl e) = seam-parts (Some h) (Some s) end e
   ends-parts leaves (Some h) (Some s) end (inr e) = row-parts leaves h s end e
 
-  pub column-parts : Leaves → (number : ℕ) (h : Option ℕ) → parts_in_tree (fragment_of columns x d number f h t) ≡ parts_between f t (column_made x d f h t).end
+  pub column-parts : Leaves → (number : ℕ) (h : Option ℕ)
+      → parts_in_tree (fragment_of columns x d number f h t) ≡ parts_between f t (column_made x d f h t).end
   unfolding parts_in_tree parts_in_trees
   column-parts leaves number h =
-      column-reads Part own_atom own_row parts_in_trees columns (part-reads columns) d (continuing f t) (laid_start d f t ++ laid_to x d f t h (stop_of x d f t h) (column_made x d f h t).end)
+      column-reads Part own_atom own_row parts_in_trees columns (part-reads columns) d (continuing f t)
+      (laid_start d f t ++ laid_to x d f t h (stop_of x d f t h) (column_made x d f h t).end)
       ∙ ends-parts leaves h (stop_of x d f t h) (column_made x d f h t).end (column-ends x f t d h inside)
 
 -- ---- rows
@@ -120,10 +143,13 @@ rows-are k q (Atom height kind ∷ items) = rows-are (suc k) row_start items
 rows-are k q (Row r ∷ items) = ap (λ rs. r ∷ rs) (rows-are (suc k) row_start items)
 
 -- items of a list have no more rows than all
-pub split-count : (m n : ℕ) (items : List Item) → count_of m (flat_map row_in (take n items)) + count_of m (flat_map row_in (drop n items)) ≡ count_of m (flat_map row_in items)
+pub split-count : (m n : ℕ) (items : List Item)
+    → count_of m (flat_map row_in (take n items)) + count_of m (flat_map row_in (drop n items))
+    ≡ count_of m (flat_map row_in items)
 split-count m n items =
     sym (sum_by-append (λ k. cond (k == m) 1 0) (flat_map row_in (take n items)) (flat_map row_in (drop n items)))
-    ∙ ap (count_of m) (sym (flat_map-append row_in (take n items) (drop n items))) ∙ ap (λ xs. count_of m (flat_map row_in xs)) (take-append-drop n items)
+    ∙ ap (count_of m) (sym (flat_map-append row_in (take n items) (drop n items)))
+    ∙ ap (λ xs. count_of m (flat_map row_in xs)) (take-append-drop n items)
 
 -- in sound data a row stands once at most in a flow
 pub once-in-flow : (d : FlowsData) → IsSound d → (f : ℕ) → f < length d.flows → (m : ℕ) → m < length d.rows →

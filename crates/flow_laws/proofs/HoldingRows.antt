@@ -1,5 +1,7 @@
--- Columns one after another hold the atoms between them, and so do the columns of rows, by how many rows stand one inside another.
-use Rattle.std.proofs.Common.{◌≡◌, ℕ, zero, suc, ◌+◌, ◌<◌, ◌≤◌, Bool, true, false, List, [], ◌∷◌, ◌++◌, length, get_or, Option, Some, refl, sym, subst, ◌∙◌, ap, arith, append_assoc, inl, inr}
+-- Columns one after another hold the atoms between them, and so do the columns of rows, by how many rows stand one inside
+-- another.
+use Rattle.std.proofs.Common.{◌≡◌, ℕ, zero, suc, ◌+◌, ◌<◌, ◌≤◌, Bool, true, false, List, [], ◌∷◌, ◌++◌, length, get_or, Option}
+use Rattle.std.proofs.Common.{Some, refl, sym, subst, ◌∙◌, ap, arith, append_assoc, inl, inr}
 use Rattle.std.specs.Prelude.{All}
 use Rattle.std.specs.List.{AllByRecursion as Each, flat_map}
 use Rattle.std.proofs.lemmas.List.{append-nil, drop_more}
@@ -23,7 +25,8 @@ before : (d : FlowsData) (f : Flow) (t : Token) → IsReached d f t → is_end f
 before d f t (inl e) inner = cc
 before d f t (inr place) inner = place
 
-module _ (d : FlowsData) (x : Inner) (c : Contents) (columns : RowLaid → List PlainTree) (r : ℕ) (f : Flow) (holds : Each (ItemHolds d x c columns) f.items) (h : Option ℕ) where
+module _ (d : FlowsData) (x : Inner) (c : Contents) (columns : RowLaid → List PlainTree) (r : ℕ) (f : Flow)
+    (holds : Each (ItemHolds d x c columns) f.items) (h : Option ℕ) where
   -- the first n columns from a place on, and their trees
   abbrev pub columns_from : ℕ → Token → List Column
   columns_from n t = columns_by (column_made x d f h) f n t
@@ -32,20 +35,29 @@ module _ (d : FlowsData) (x : Inner) (c : Contents) (columns : RowLaid → List 
   next t = (column_made x d f h t).end
 
   pub columns-hold : (number n : ℕ) (t : Token) → IsReached d f t →
-      atoms_in_trees r (plain_trees (fragments_from (fragment_of columns x d number f h) t (columns_from n t))) ++ atoms_in c r f (end_of t (columns_from n t)) ≡ atoms_in c r f t
+      atoms_in_trees r (plain_trees (fragments_from (fragment_of columns x d number f h) t (columns_from n t))) ++ atoms_in c r f
+      (end_of t (columns_from n t)) ≡ atoms_in c r f t
   unfolding columns_by atoms_in_tree atoms_in_trees
   columns-hold number zero t at = refl
   columns-hold number (suc n) t at = go (is_end f t) refl (λ u reached. columns-hold number n u reached)
     where
       go : (b : Bool) → is_end f t ≡ b →
-          ((u : Token) → IsReached d f u → atoms_in_trees r (plain_trees (fragments_from (fragment_of columns x d number f h) u (columns_from n u))) ++ atoms_in c r f (end_of u (columns_from n u)) ≡ atoms_in c r f u) →
-          atoms_in_trees r (plain_trees (fragments_from (fragment_of columns x d number f h) t (elim b as (λ _. List Column) [ true ↦ [] | false ↦ column_made x d f h t ∷ columns_from n (next t) ])))
-          ++ atoms_in c r f (end_of t (elim b as (λ _. List Column) [ true ↦ [] | false ↦ column_made x d f h t ∷ columns_from n (next t) ])) ≡ atoms_in c r f t
+          ((u : Token) → IsReached d f u
+          → atoms_in_trees r (plain_trees (fragments_from (fragment_of columns x d number f h) u (columns_from n u)))
+          ++ atoms_in c r f (end_of u (columns_from n u)) ≡ atoms_in c r f u) →
+          atoms_in_trees r (plain_trees
+          (fragments_from (fragment_of columns x d number f h) t
+          (elim b as (λ _. List Column) [ true ↦ [] | false ↦ column_made x d f h t ∷ columns_from n (next t) ])))
+          ++ atoms_in c r f
+          (end_of t (elim b as (λ _. List Column) [ true ↦ [] | false ↦ column_made x d f h t ∷ columns_from n (next t) ]))
+          ≡ atoms_in c r f t
       go true e again = refl
       go false e again =
           let place = before d f t at e in
           let first = atoms_in_tree r (fragment_of columns x d number f h t) in
-          append_assoc first (atoms_in_trees r (plain_trees (fragments_from (fragment_of columns x d number f h) (next t) (columns_from n (next t))))) (atoms_in c r f (end_of (next t) (columns_from n (next t))))
+          append_assoc first (atoms_in_trees r
+          (plain_trees (fragments_from (fragment_of columns x d number f h) (next t) (columns_from n (next t)))))
+          (atoms_in c r f (end_of (next t) (columns_from n (next t))))
           ∙ ap (λ us. first ++ us) (again (next t) (column-reached d x c columns r f holds t place h))
           ∙ column-holds d x c columns r f holds t place number h
 
@@ -55,7 +67,8 @@ module _ (d : FlowsData) (x : Inner) (c : Contents) (columns : RowLaid → List 
   columns-reached (suc n) t at = go (is_end f t) refl (λ u reached. columns-reached n u reached)
     where
       go : (b : Bool) → is_end f t ≡ b → ((u : Token) → IsReached d f u → IsReached d f (end_of u (columns_from n u))) →
-          IsReached d f (end_of t (elim b as (λ _. List Column) [ true ↦ [] | false ↦ column_made x d f h t ∷ columns_from n (next t) ]))
+          IsReached d f
+          (end_of t (elim b as (λ _. List Column) [ true ↦ [] | false ↦ column_made x d f h t ∷ columns_from n (next t) ]))
       go true e again = at
       go false e again = again (next t) (column-reached d x c columns r f holds t (before d f t at e) h)
 
@@ -64,8 +77,11 @@ module _ (d : FlowsData) (x : Inner) (c : Contents) (columns : RowLaid → List 
   columns-fewer zero t at = omega arith
   columns-fewer (suc n) t at = go (is_end f t) refl (λ u reached. columns-fewer n u reached)
     where
-      go : (b : Bool) → is_end f t ≡ b → ((u : Token) → IsReached d f u → left_in x f (end_of u (columns_from n u)) ≤ left_in x f u) →
-          left_in x f (end_of t (elim b as (λ _. List Column) [ true ↦ [] | false ↦ column_made x d f h t ∷ columns_from n (next t) ])) ≤ left_in x f t
+      go : (b : Bool) → is_end f t ≡ b
+          → ((u : Token) → IsReached d f u → left_in x f (end_of u (columns_from n u)) ≤ left_in x f u) →
+          left_in x f
+          (end_of t (elim b as (λ _. List Column) [ true ↦ [] | false ↦ column_made x d f h t ∷ columns_from n (next t) ])) ≤
+          left_in x f t
       go true e again = omega arith
       go false e again =
           let place = before d f t at e in
@@ -79,7 +95,9 @@ module _ (d : FlowsData) (x : Inner) (c : Contents) (columns : RowLaid → List 
   place-fewer zero t some place inner = absurd (omega arith)
   place-fewer (suc n) t some place inner = go (is_end f t) inner
     where
-      go : (b : Bool) → b ≡ false → left_in x f (end_of t (elim b as (λ _. List Column) [ true ↦ [] | false ↦ column_made x d f h t ∷ columns_from n (next t) ])) < left_in x f t
+      go : (b : Bool) → b ≡ false → left_in x f
+          (end_of t (elim b as (λ _. List Column) [ true ↦ [] | false ↦ column_made x d f h t ∷ columns_from n (next t) ])) <
+          left_in x f t
       go true e = cc
       go false e =
           let less = column-fewer d x c columns r f holds t place h in
@@ -105,8 +123,11 @@ module _ (d : FlowsData) (x : Inner) (c : Contents) (columns : RowLaid → List 
   columns-end zero t (inr place) le = let some = left-some t place in absurd (omega arith)
   columns-end (suc n) t at le = go (is_end f t) refl (λ u reached less. columns-end n u reached less)
     where
-      go : (b : Bool) → is_end f t ≡ b → ((u : Token) → IsReached d f u → left_in x f u ≤ n → is_end f (end_of u (columns_from n u)) ≡ true) →
-          is_end f (end_of t (elim b as (λ _. List Column) [ true ↦ [] | false ↦ column_made x d f h t ∷ columns_from n (next t) ])) ≡ true
+      go : (b : Bool) → is_end f t ≡ b
+          → ((u : Token) → IsReached d f u → left_in x f u ≤ n → is_end f (end_of u (columns_from n u)) ≡ true) →
+          is_end f
+          (end_of t (elim b as (λ _. List Column) [ true ↦ [] | false ↦ column_made x d f h t ∷ columns_from n (next t) ]))
+          ≡ true
       go true e again = e
       go false e again =
           let place = before d f t at e in
@@ -115,10 +136,15 @@ module _ (d : FlowsData) (x : Inner) (c : Contents) (columns : RowLaid → List 
 
   -- and hold all atoms from a place on
   pub all-hold : (number : ℕ) (t : Token) → IsReached d f t →
-      atoms_in_trees r (plain_trees (fragments_from (fragment_of columns x d number f h) t (columns_from (left_in x f t) t))) ≡ atoms_in c r f t
+      atoms_in_trees r (plain_trees (fragments_from (fragment_of columns x d number f h) t (columns_from (left_in x f t) t)))
+      ≡ atoms_in c r f t
   all-hold number t at =
-      let trees = atoms_in_trees r (plain_trees (fragments_from (fragment_of columns x d number f h) t (columns_from (left_in x f t) t))) in
-      sym (append-nil trees) ∙ ap (λ us. trees ++ us) (sym (none-left c r f (end_of t (columns_from (left_in x f t) t)) (columns-end (left_in x f t) t at (omega arith)))) ∙ columns-hold number (left_in x f t) t at
+      let trees =
+      atoms_in_trees r (plain_trees (fragments_from (fragment_of columns x d number f h) t (columns_from (left_in x f t) t)))
+      in
+      sym (append-nil trees) ∙ ap (λ us. trees ++ us)
+      (sym (none-left c r f (end_of t (columns_from (left_in x f t) t)) (columns-end (left_in x f t) t at (omega arith))))
+      ∙ columns-hold number (left_in x f t) t at
 
 -- ---- rows within rows
 
@@ -145,11 +171,14 @@ row-holds d m s columns holds = record {
       (row_of d s).n q columns at e;
 }
 
-items-hold : (d : FlowsData) (m : ℕ) (P : ℕ → Type 0) → ((s : ℕ) → P s → RowHolds d (rows_to d m) (contents_to d m) (row_fragments d m) s) → (items : List Item) → All P (flat_map row_in items) →
+items-hold : (d : FlowsData) (m : ℕ) (P : ℕ → Type 0)
+    → ((s : ℕ) → P s → RowHolds d (rows_to d m) (contents_to d m) (row_fragments d m) s) → (items : List Item)
+    → All P (flat_map row_in items) →
     Each (ItemHolds d (rows_to d m) (contents_to d m) (row_fragments d m)) items
 items-hold d m P made [] all = tt
 items-hold d m P made (Atom height kind ∷ items) all = (tt, items-hold d m P made items all)
-items-hold d m P made (Row s ∷ items) all = (made s (all 0 s (omega arith)), items-hold d m P made items (λ k e lt. all (suc k) e (omega arith)))
+items-hold d m P made (Row s ∷ items) all =
+    (made s (all 0 s (omega arith)), items-hold d m P made items (λ k e lt. all (suc k) e (omega arith)))
 
 module _ (d : FlowsData) (sound : IsSound d) where
   -- a row of the data that has items, and stands in an earlier row
@@ -161,9 +190,13 @@ module _ (d : FlowsData) (sound : IsSound d) where
   pub rows-within : (r : ℕ) → r < length d.rows → All (IsWithin r) (rows_in (flow_in d r))
   rows-within r lt =
       let good = good-rows d sound r lt in
-      λ k e in_rows. record { known = (good k e in_rows).0; some = (good k e in_rows).1; later = (sound.inner_rows r lt k e in_rows).later }
+      λ k e in_rows. record {
+        known = (good k e in_rows).0;
+        some = (good k e in_rows).1;
+        later = (sound.inner_rows r lt k e in_rows).later;
+      }
 
-  -- a row of the data, where it has no more rows behind it
+  -- a row of the data, where it has no more rows after it
   known-holds : (m s : ℕ) → s < length d.rows → length d.rows ≤ s + m →
       RowHolds d (rows_to d m) (contents_to d m) (row_fragments d m) s
   known-holds zero s lt le = absurd (omega arith)

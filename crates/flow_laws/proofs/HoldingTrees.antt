@@ -1,5 +1,6 @@
 -- What is laid in a column stands in its tree, in order: whatever is counted of atoms and of rows.
-use Rattle.std.proofs.Common.{◌≡◌, ℕ, zero, suc, ◌+◌, ◌<◌, ◌≤◌, ◌==◌, Bool, true, false, cond, List, [], ◌∷◌, ◌++◌, length, Option, Some, None, refl, ◌∙◌, ap, arith, append_assoc}
+use Rattle.std.proofs.Common.{◌≡◌, ℕ, zero, suc, ◌+◌, ◌<◌, ◌≤◌, ◌==◌, Bool, true, false, cond, List, [], ◌∷◌, ◌++◌, length}
+use Rattle.std.proofs.Common.{Option, Some, None, refl, ◌∙◌, ap, arith, append_assoc}
 use Rattle.std.proofs.lemmas.List.{append-nil}
 use Rattle.std.proofs.lemmas.List.Concat.{flat_map-append}
 use Rattle.std.specs.List.{flat_map}
@@ -8,8 +9,38 @@ use Rattle.flow_list.specs.Data.{Edge, FlowsData, Margin, Solid, Wall, Start, En
 use Rattle.flow_data.specs.Flows.{box_of}
 use Rattle.flow_list.specs.ClonedEdges.{tops}
 use Rattle.flow_list.specs.Strip.{Strip, lay}
-use Rattle.flow_list.specs.Placing.{RowLaid, Laid, margin, solid, wall, opens, closes, atom, row, laid_edge, laid_edges, ends_gap, gap_of, behind_gap, gap_height, Placed, opens_at, closes_at, atom_at, row_at, placed_in_gap, gap_places, placed_item, laid_height, places_from}
+use Rattle.flow_list.specs.Placing.{RowLaid, Laid, margin, solid, wall, opens, closes, atom, row, laid_edge, laid_edges, ends_gap}
+use Rattle.flow_list.specs.Placing.{gap_of, behind_gap, gap_height, Placed, opens_at, closes_at, atom_at, row_at, placed_in_gap}
+use Rattle.flow_list.specs.Placing.{gap_places, placed_item, laid_height, places_from}
 use Rattle.flow_list.specs.Fragments.{closes_here, inside_box, behind_box, bottom_of, trees_of, all_trees, continued_from}
+
+-- ---- what is left is no longer: after a gap, before the end of a box and after it
+
+pub behind-length : (xs : List Laid) → length (behind_gap xs) ≤ length xs
+behind-length [] = omega arith
+behind-length (x ∷ xs) = go (ends_gap x) (behind-length xs)
+  where
+    go : (b : Bool) → length (behind_gap xs) ≤ length xs → length (cond b (x ∷ xs) (behind_gap xs)) ≤ length (x ∷ xs)
+    go true le = omega arith
+    go false le = omega arith
+
+pub inside-length : (b : ℕ) (ps : List Placed) → length (inside_box b ps) ≤ length ps
+inside-length b [] = omega arith
+inside-length b (p ∷ ps) = go (closes_here b p) (inside-length b ps)
+  where
+    go : (e : Bool) → length (inside_box b ps) ≤ length ps → length (cond e [] (p ∷ inside_box b ps)) ≤ length (p ∷ ps)
+    go true le = omega arith
+    go false le = omega arith
+
+pub behind-box-length : (b : ℕ) (ps : List Placed) → length (behind_box b ps) ≤ length ps
+behind-box-length b [] = omega arith
+behind-box-length b (p ∷ ps) = go (closes_here b p) (behind-box-length b ps)
+  where
+    go : (e : Bool) → length (behind_box b ps) ≤ length ps → length (cond e ps (behind_box b ps)) ≤ length (p ∷ ps)
+    go true le = omega arith
+    go false le = omega arith
+
+-- ---- what is counted
 
 -- With what each atom counts and each row.
 module _ (X : Type 0) (of_atom : ℕ → List X) (of_row : RowLaid → List X) where
@@ -60,17 +91,11 @@ module _ (X : Type 0) (of_atom : ℕ → List X) (of_row : RowLaid → List X) w
   split-gap (x ∷ xs) = go (ends_gap x) (split-gap xs)
     where
       go : (b : Bool) → flat_map of_laid (gap_of xs) ++ flat_map of_laid (behind_gap xs) ≡ flat_map of_laid xs →
-          flat_map of_laid (cond b [] (x ∷ gap_of xs)) ++ flat_map of_laid (cond b (x ∷ xs) (behind_gap xs)) ≡ flat_map of_laid (x ∷ xs)
+          flat_map of_laid (cond b [] (x ∷ gap_of xs)) ++ flat_map of_laid (cond b (x ∷ xs) (behind_gap xs))
+          ≡ flat_map of_laid (x ∷ xs)
       go true e = refl
-      go false e = append_assoc (of_laid x) (flat_map of_laid (gap_of xs)) (flat_map of_laid (behind_gap xs)) ∙ ap (λ us. of_laid x ++ us) e
-
-  behind-length : (xs : List Laid) → length (behind_gap xs) ≤ length xs
-  behind-length [] = omega arith
-  behind-length (x ∷ xs) = go (ends_gap x) (behind-length xs)
-    where
-      go : (b : Bool) → length (behind_gap xs) ≤ length xs → length (cond b (x ∷ xs) (behind_gap xs)) ≤ length (x ∷ xs)
-      go true le = omega arith
-      go false le = omega arith
+      go false e = append_assoc (of_laid x) (flat_map of_laid (gap_of xs)) (flat_map of_laid (behind_gap xs))
+          ∙ ap (λ us. of_laid x ++ us) e
 
   places-keep : (n y : ℕ) (xs : List Laid) → length xs < n → flat_map of_placed (places_from n y xs) ≡ flat_map of_laid xs
   unfolding places_from
@@ -78,12 +103,21 @@ module _ (X : Type 0) (of_atom : ℕ → List X) (of_row : RowLaid → List X) w
   places-keep (suc n) y xs lt =
       let le = behind-length xs in
       flat_map-append of_placed (gap_places y (y + gap_height (gap_of xs) (behind_gap xs)) [] (gap_of xs)) _
-      ∙ ap (λ us. us ++ flat_map of_placed (elim (behind_gap xs) as (λ _. List Placed) [ [] ↦ [] | x ∷ more ↦ placed_item (y + gap_height (gap_of xs) (behind_gap xs)) x ++ places_from n (y + gap_height (gap_of xs) (behind_gap xs) + laid_height x) more ])) (in-gaps y (y + gap_height (gap_of xs) (behind_gap xs)) [] (gap_of xs))
-      ∙ ap (λ us. flat_map of_laid (gap_of xs) ++ us) (rest (behind_gap xs) (y + gap_height (gap_of xs) (behind_gap xs)) (omega arith) (λ z ys lt. places-keep n z ys lt))
+      ∙ ap (λ us. us ++ flat_map of_placed
+      (elim (behind_gap xs) as (λ _. List Placed) [
+        | [] ↦ []
+        | x ∷ more ↦ placed_item (y + gap_height (gap_of xs) (behind_gap xs)) x ++ places_from n
+            (y + gap_height (gap_of xs) (behind_gap xs) + laid_height x) more
+      ]))
+      (in-gaps y (y + gap_height (gap_of xs) (behind_gap xs)) [] (gap_of xs))
+      ∙ ap (λ us. flat_map of_laid (gap_of xs) ++ us)
+      (rest (behind_gap xs) (y + gap_height (gap_of xs) (behind_gap xs)) (omega arith) (λ z ys lt. places-keep n z ys lt))
       ∙ split-gap xs
     where
-      rest : (later : List Laid) (end : ℕ) → length later ≤ n → ((z : ℕ) (ys : List Laid) → length ys < n → flat_map of_placed (places_from n z ys) ≡ flat_map of_laid ys) →
-          flat_map of_placed (elim later as (λ _. List Placed) [ [] ↦ [] | x ∷ more ↦ placed_item end x ++ places_from n (end + laid_height x) more ]) ≡ flat_map of_laid later
+      rest : (later : List Laid) (end : ℕ) → length later ≤ n
+          → ((z : ℕ) (ys : List Laid) → length ys < n → flat_map of_placed (places_from n z ys) ≡ flat_map of_laid ys) →
+          flat_map of_placed (elim later as (λ _. List Placed)
+          [ [] ↦ [] | x ∷ more ↦ placed_item end x ++ places_from n (end + laid_height x) more ]) ≡ flat_map of_laid later
       rest [] end le again = refl
       rest (x ∷ more) end le again =
           flat_map-append of_placed (placed_item end x) (places_from n (end + laid_height x) more)
@@ -95,7 +129,8 @@ module _ (X : Type 0) (of_atom : ℕ → List X) (of_row : RowLaid → List X) w
   continued-none d y (b ∷ boxes) = continued-none d (y + (box_of d b).top) boxes
 
   -- with the boxes that continue in the column
-  all-keep : (d : FlowsData) (boxes : List ℕ) (xs : List Laid) → flat_map of_placed (continued_from d 0 boxes ++ places_from (length xs + 1) (tops d boxes) xs) ≡ flat_map of_laid xs
+  all-keep : (d : FlowsData) (boxes : List ℕ) (xs : List Laid)
+      → flat_map of_placed (continued_from d 0 boxes ++ places_from (length xs + 1) (tops d boxes) xs) ≡ flat_map of_laid xs
   all-keep d boxes xs =
       flat_map-append of_placed (continued_from d 0 boxes) (places_from (length xs + 1) (tops d boxes) xs)
       ∙ ap (λ us. us ++ flat_map of_placed (places_from (length xs + 1) (tops d boxes) xs)) (continued-none d 0 boxes)
@@ -107,38 +142,29 @@ module _ (X : Type 0) (of_atom : ℕ → List X) (of_row : RowLaid → List X) w
   pub record Reads (read : PlainTrees → List X) (columns : RowLaid → List PlainTree) : Type 0 where
     pub none : read no_trees ≡ []
     pub an_atom : (k y : ℕ) (trees : PlainTrees) → read (more_trees (atom_tree k y) trees) ≡ of_atom k ++ read trees
-    pub a_piece : (b : ℕ) (starts : Bool) (y : ℕ) (bottom : Option ℕ) (kids trees : PlainTrees) → read (more_trees (piece b starts y bottom kids) trees) ≡ read kids ++ read trees
-    pub a_row : (r : RowLaid) (y : ℕ) (height : Option ℕ) (trees : PlainTrees) → read (more_trees (row_piece r.row r.from y height (plain_trees (columns r))) trees) ≡ of_row r ++ read trees
+    pub a_piece : (b : ℕ) (starts : Bool) (y : ℕ) (bottom : Option ℕ) (kids trees : PlainTrees)
+        → read (more_trees (piece b starts y bottom kids) trees) ≡ read kids ++ read trees
+    pub a_row : (r : RowLaid) (y : ℕ) (height : Option ℕ) (trees : PlainTrees)
+        → read (more_trees (row_piece r.row r.from y height (plain_trees (columns r))) trees) ≡ of_row r ++ read trees
 
-  box-splits : (b : ℕ) (ps : List Placed) → flat_map of_placed (inside_box b ps) ++ flat_map of_placed (behind_box b ps) ≡ flat_map of_placed ps
+  box-splits : (b : ℕ) (ps : List Placed)
+      → flat_map of_placed (inside_box b ps) ++ flat_map of_placed (behind_box b ps) ≡ flat_map of_placed ps
   box-splits b [] = refl
   box-splits b (opens_at c y starts ∷ ps) = box-splits b ps
   box-splits b (closes_at c y ∷ ps) = go (c == b) (box-splits b ps)
     where
       go : (e : Bool) → flat_map of_placed (inside_box b ps) ++ flat_map of_placed (behind_box b ps) ≡ flat_map of_placed ps →
-          flat_map of_placed (cond e [] (closes_at c y ∷ inside_box b ps)) ++ flat_map of_placed (cond e ps (behind_box b ps)) ≡ flat_map of_placed ps
+          flat_map of_placed (cond e [] (closes_at c y ∷ inside_box b ps)) ++ flat_map of_placed (cond e ps (behind_box b ps))
+          ≡ flat_map of_placed ps
       go true e = refl
       go false e = e
-  box-splits b (atom_at k y ∷ ps) = append_assoc (of_atom k) (flat_map of_placed (inside_box b ps)) (flat_map of_placed (behind_box b ps)) ∙ ap (λ us. of_atom k ++ us) (box-splits b ps)
-  box-splits b (row_at r y ∷ ps) = append_assoc (of_row r) (flat_map of_placed (inside_box b ps)) (flat_map of_placed (behind_box b ps)) ∙ ap (λ us. of_row r ++ us) (box-splits b ps)
+  box-splits b (atom_at k y ∷ ps) = append_assoc (of_atom k) (flat_map of_placed (inside_box b ps))
+      (flat_map of_placed (behind_box b ps)) ∙ ap (λ us. of_atom k ++ us) (box-splits b ps)
+  box-splits b (row_at r y ∷ ps) = append_assoc (of_row r) (flat_map of_placed (inside_box b ps))
+      (flat_map of_placed (behind_box b ps)) ∙ ap (λ us. of_row r ++ us) (box-splits b ps)
 
-  inside-length : (b : ℕ) (ps : List Placed) → length (inside_box b ps) ≤ length ps
-  inside-length b [] = omega arith
-  inside-length b (p ∷ ps) = go (closes_here b p) (inside-length b ps)
-    where
-      go : (e : Bool) → length (inside_box b ps) ≤ length ps → length (cond e [] (p ∷ inside_box b ps)) ≤ length (p ∷ ps)
-      go true le = omega arith
-      go false le = omega arith
-
-  behind-box-length : (b : ℕ) (ps : List Placed) → length (behind_box b ps) ≤ length ps
-  behind-box-length b [] = omega arith
-  behind-box-length b (p ∷ ps) = go (closes_here b p) (behind-box-length b ps)
-    where
-      go : (e : Bool) → length (behind_box b ps) ≤ length ps → length (cond e ps (behind_box b ps)) ≤ length (p ∷ ps)
-      go true le = omega arith
-      go false le = omega arith
-
-  trees-keep : (read : PlainTrees → List X) (columns : RowLaid → List PlainTree) → Reads read columns → (n : ℕ) (ps : List Placed) → length ps ≤ n → read (plain_trees (trees_of columns n ps)) ≡ flat_map of_placed ps
+  trees-keep : (read : PlainTrees → List X) (columns : RowLaid → List PlainTree) → Reads read columns → (n : ℕ) (ps : List Placed)
+      → length ps ≤ n → read (plain_trees (trees_of columns n ps)) ≡ flat_map of_placed ps
   unfolding trees_of
   trees-keep read columns reads zero [] le = reads.none
   trees-keep read columns reads zero (p ∷ ps) le = absurd (omega arith)
@@ -146,17 +172,23 @@ module _ (X : Type 0) (of_atom : ℕ → List X) (of_row : RowLaid → List X) w
   trees-keep read columns reads (suc n) (opens_at b y starts ∷ ps) le =
       let inside = inside-length b ps in
       let behind = behind-box-length b ps in
-      reads.a_piece b starts y (bottom_of b ps) (plain_trees (trees_of columns n (inside_box b ps))) (plain_trees (trees_of columns n (behind_box b ps)))
-      ∙ ap (λ us. us ++ read (plain_trees (trees_of columns n (behind_box b ps)))) (trees-keep read columns reads n (inside_box b ps) (omega arith))
+      reads.a_piece b starts y (bottom_of b ps) (plain_trees (trees_of columns n (inside_box b ps)))
+      (plain_trees (trees_of columns n (behind_box b ps)))
+      ∙ ap (λ us. us ++ read (plain_trees (trees_of columns n (behind_box b ps))))
+      (trees-keep read columns reads n (inside_box b ps) (omega arith))
       ∙ ap (λ us. flat_map of_placed (inside_box b ps) ++ us) (trees-keep read columns reads n (behind_box b ps) (omega arith))
       ∙ box-splits b ps
   trees-keep read columns reads (suc n) (closes_at b y ∷ ps) le = trees-keep read columns reads n ps (omega arith)
-  trees-keep read columns reads (suc n) (atom_at k y ∷ ps) le = reads.an_atom k y (plain_trees (trees_of columns n ps)) ∙ ap (λ us. of_atom k ++ us) (trees-keep read columns reads n ps (omega arith))
+  trees-keep read columns reads (suc n) (atom_at k y ∷ ps) le = reads.an_atom k y (plain_trees (trees_of columns n ps))
+      ∙ ap (λ us. of_atom k ++ us) (trees-keep read columns reads n ps (omega arith))
   trees-keep read columns reads (suc n) (row_at r y ∷ ps) le =
-      reads.a_row r y (cond r.filled None (Some r.height)) (plain_trees (trees_of columns n ps)) ∙ ap (λ us. of_row r ++ us) (trees-keep read columns reads n ps (omega arith))
+      reads.a_row r y (cond r.filled None (Some r.height)) (plain_trees (trees_of columns n ps))
+      ∙ ap (λ us. of_row r ++ us) (trees-keep read columns reads n ps (omega arith))
 
-  pub column-reads : (read : PlainTrees → List X) (columns : RowLaid → List PlainTree) → Reads read columns → (d : FlowsData) (boxes : List ℕ) (xs : List Laid) →
-      read (plain_trees (all_trees columns (continued_from d 0 boxes ++ places_from (length xs + 1) (tops d boxes) xs))) ≡ flat_map of_laid xs
+  pub column-reads : (read : PlainTrees → List X) (columns : RowLaid → List PlainTree) → Reads read columns
+      → (d : FlowsData) (boxes : List ℕ) (xs : List Laid) →
+      read (plain_trees (all_trees columns (continued_from d 0 boxes ++ places_from (length xs + 1) (tops d boxes) xs)))
+      ≡ flat_map of_laid xs
   column-reads read columns reads d boxes xs =
       let ps = continued_from d 0 boxes ++ places_from (length xs + 1) (tops d boxes) xs in
       trees-keep read columns reads (length ps) ps (omega arith) ∙ all-keep d boxes xs
@@ -184,5 +216,7 @@ module _ (X : Type 0) (of_atom : ℕ → List X) (of_row : RowLaid → List X) w
       flat_map-append of_laid (laid_edge s e) (laid_edges (lay s e) es)
       ∙ ap (λ us. us ++ flat_map of_laid (laid_edges (lay s e) es)) (edge-none s e) ∙ edges-none (lay s e) es
 
-  pub skip-edges : (s : Strip) (es : List Edge) (later : List Laid) → flat_map of_laid (laid_edges s es ++ later) ≡ flat_map of_laid later
-  skip-edges s es later = flat_map-append of_laid (laid_edges s es) later ∙ ap (λ us. us ++ flat_map of_laid later) (edges-none s es)
+  pub skip-edges : (s : Strip) (es : List Edge) (later : List Laid)
+      → flat_map of_laid (laid_edges s es ++ later) ≡ flat_map of_laid later
+  skip-edges s es later = flat_map-append of_laid (laid_edges s es) later
+      ∙ ap (λ us. us ++ flat_map of_laid later) (edges-none s es)

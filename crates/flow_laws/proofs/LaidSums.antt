@@ -1,6 +1,8 @@
--- What is laid in a column, or in a stack, is no more than the heights, margins and solid amounts of its flow, where each row counts with a
--- share that is no less than its height.
-use Rattle.std.proofs.Common.{◌≡◌, ℕ, zero, suc, ◌+◌, ◌-◌, ◌<◌, ◌≤◌, ◌==◌, Bool, true, false, cond, not, ◌&&◌, List, [], ◌∷◌, ◌++◌, length, drop, Option, Some, None, refl, sym, subst, append_assoc, ap, arith, sum_by, ◌⊎◌, inl, inr}
+-- What is laid in a column, or in a stack, is no more than the heights, margins and solid amounts of its flow, where each row
+-- counts with a share that is no less than its height.
+use Rattle.std.proofs.Common.{◌≡◌, ℕ, zero, suc, ◌+◌, ◌-◌, ◌<◌, ◌≤◌, ◌==◌, Bool, true, false, cond, not, ◌&&◌, List, [], ◌∷◌}
+use Rattle.std.proofs.Common.{◌++◌, length, drop, Option, Some, None, refl, sym, subst, append_assoc, ap, arith, sum_by, ◌⊎◌, inl}
+use Rattle.std.proofs.Common.{inr}
 use Rattle.std.specs.Prelude.{nat_lt, is_some}
 use Rattle.std.proofs.lemmas.Bool.{cases_lt}
 use Rattle.std.proofs.lemmas.Bool.Decides.{nat_tests}
@@ -16,7 +18,8 @@ use Rattle.flow_list.specs.Column.{Inner, Step, height_of, row_from, strip_behin
 use Rattle.flow_list.specs.Rows.{heights_from, amounts_in}
 use Rattle.flow_data.specs.Soundness.{flow_height}
 use Rattle.flow_list.specs.Placing.{RowLaid, Laid, margin, solid, wall, opens, closes, atom, row, laid_edge, laid_edges}
-use Rattle.flow_list.specs.Fragments.{laid_item, laid_items, fills_item, filled_row, laid_filled, strip_after, strip_filled, laid_before, laid_to}
+use Rattle.flow_list.specs.Fragments.{laid_item, laid_items, fills_item, filled_row, laid_filled, strip_after, strip_filled}
+use Rattle.flow_list.specs.Fragments.{laid_before, laid_to}
 use Rattle.flow_list.proofs.Fitting.{first-amounts, amounts-drop, first-height, heights-drop}
 use Rattle.flow_list.proofs.PlaceBounds.{Each-append, HasShare}
 use Rattle.flow_list.proofs.ColumnParts.{OfStop}
@@ -71,7 +74,8 @@ module _ (total : ℕ → ℕ) where
 
     pub edges-have : (s : Strip) (es : List Edge) → Each (HasShare share So) (laid_edges s es)
     edges-have s [] = tt
-    edges-have s (e ∷ es) = Each-append (HasShare share So) (laid_edge s e) (laid_edges (lay s e) es) (edge-has s e) (edges-have (lay s e) es)
+    edges-have s (e ∷ es) = Each-append (HasShare share So) (laid_edge s e) (laid_edges (lay s e) es) (edge-has s e)
+        (edges-have (lay s e) es)
 
   edge-le : (s : Strip) (e : Edge) → sum_by share (laid_edge s e) ≤ amount e
   edge-le s (Margin m) = go s.drops
@@ -90,9 +94,15 @@ module _ (total : ℕ → ℕ) where
 
   pub edges-le : (s : Strip) (es : List Edge) → sum_by share (laid_edges s es) ≤ sum_by amount es
   edges-le s [] = omega arith
-  edges-le s (e ∷ es) = omega (arith, edge-le s e, edges-le (lay s e) es, sum_by-append share (laid_edge s e) (laid_edges (lay s e) es), sum_by-cons amount e es)
+  edges-le s (e ∷ es) = omega (
+    arith,
+    edge-le s e,
+    edges-le (lay s e) es,
+    sum_by-append share (laid_edge s e) (laid_edges (lay s e) es),
+    sum_by-cons amount e es,
+  )
 
-  -- ---- what a flow has from an item on, behind the head before it
+  -- ---- what a flow has from an item on, after the head before it
 
   module _ (f : Flow) where
     pub sums : Inner → Inner
@@ -106,7 +116,9 @@ module _ (total : ℕ → ℕ) where
     sums-height inner (Atom height kind) = refl
     sums-height inner (Row r) = refl
 
-    pub ahead-first : (inner : Inner) (k : ℕ) → ahead inner k ≡ item_share (item_of f k) + sum_by amount (seam_of f (k + 1)).tail + sum_by amount (seam_of f (k + 1)).head + ahead inner (k + 1)
+    pub ahead-first : (inner : Inner) (k : ℕ)
+        → ahead inner k ≡ item_share (item_of f k) + sum_by amount (seam_of f (k + 1)).tail + sum_by amount
+        (seam_of f (k + 1)).head + ahead inner (k + 1)
     unfolding ahead
     ahead-first inner k =
         let a = first-height (sums inner) row_start f.items k in
@@ -115,7 +127,9 @@ module _ (total : ℕ → ℕ) where
         omega arith
 
     -- what a flow has in all, with the cloned edges of its boxes
-    pub whole-le : (d : FlowsData) (inner : Inner) (i : ℕ) → tops d (boxes_in f) + bottoms d (boxes_in f) + sum_by amount (seam_of f i).head + ahead inner i ≤ flow_height d f + sum_by total (rows_in f)
+    pub whole-le : (d : FlowsData) (inner : Inner) (i : ℕ)
+        → tops d (boxes_in f) + bottoms d (boxes_in f) + sum_by amount (seam_of f i).head + ahead inner i ≤ flow_height d f
+        + sum_by total (rows_in f)
     unfolding ahead sums
     whole-le d inner i =
         let a = reach-total (sums inner) d f total row_start (λ k e lt p. omega arith) in
@@ -141,18 +155,27 @@ module _ (total : ℕ → ℕ) where
       items-have : (s : Strip) (k : ℕ) (q : Token) (n : ℕ) → Each (HasShare share (IsRowOf f)) (laid_items inner f s k q n)
       unfolding laid_items
       items-have s k q zero = tt
-      items-have s k q (suc zero) = (item-has k q, Each-append (HasShare share (IsRowOf f)) (laid_edges (put s (height_of inner (item_of f k) q)) (seam_of f (k + 1)).tail) [] (edges-have (IsRowOf f) _ (seam_of f (k + 1)).tail) tt)
+      items-have s k q (suc zero) = (
+        item-has k q,
+        Each-append (HasShare share (IsRowOf f))
+            (laid_edges (put s (height_of inner (item_of f k) q)) (seam_of f (k + 1)).tail) []
+            (edges-have (IsRowOf f) _ (seam_of f (k + 1)).tail) tt,
+      )
       items-have s k q (suc (suc n)) = (
         item-has k q,
-        Each-append (HasShare share (IsRowOf f)) (laid_edges (put s (height_of inner (item_of f k) q)) (seam_of f (k + 1)).tail) _ (edges-have (IsRowOf f) _ (seam_of f (k + 1)).tail)
-            (Each-append (HasShare share (IsRowOf f)) (laid_edges (strip_behind inner f s k q) (seam_of f (k + 1)).head) _ (edges-have (IsRowOf f) _ (seam_of f (k + 1)).head)
+        Each-append (HasShare share (IsRowOf f)) (laid_edges (put s (height_of inner (item_of f k) q)) (seam_of f (k + 1)).tail) _
+            (edges-have (IsRowOf f) _ (seam_of f (k + 1)).tail)
+            (Each-append (HasShare share (IsRowOf f)) (laid_edges (strip_behind inner f s k q) (seam_of f (k + 1)).head) _
+            (edges-have (IsRowOf f) _ (seam_of f (k + 1)).head)
             (items-have (lay_all (strip_behind inner f s k q) (seam_of f (k + 1)).head) (k + 1) row_start (suc n))),
       )
 
       next_strip : Strip → ℕ → Token → Strip
       next_strip s k q = lay_all (strip_behind inner f s k q) (seam_of f (k + 1)).head
 
-      items-one : (s : Strip) (k : ℕ) (q : Token) → laid_items inner f s k q (suc zero) ≡ laid_item inner (item_of f k) k q ∷ (laid_edges (put s (height_of inner (item_of f k) q)) (seam_of f (k + 1)).tail ++ [])
+      items-one : (s : Strip) (k : ℕ) (q : Token)
+          → laid_items inner f s k q (suc zero) ≡ laid_item inner (item_of f k) k q
+          ∷ (laid_edges (put s (height_of inner (item_of f k) q)) (seam_of f (k + 1)).tail ++ [])
       unfolding laid_items
       items-one s k q = refl
 
@@ -161,22 +184,34 @@ module _ (total : ℕ → ℕ) where
       items-none s k q = refl
 
       items-more : (s : Strip) (k : ℕ) (q : Token) (n : ℕ) → laid_items inner f s k q (suc (suc n)) ≡
-          laid_item inner (item_of f k) k q ∷ (laid_edges (put s (height_of inner (item_of f k) q)) (seam_of f (k + 1)).tail ++ (laid_edges (strip_behind inner f s k q) (seam_of f (k + 1)).head ++ laid_items inner f (next_strip s k q) (k + 1) row_start (suc n)))
+          laid_item inner (item_of f k) k q
+          ∷ (laid_edges (put s (height_of inner (item_of f k) q)) (seam_of f (k + 1)).tail
+          ++ (laid_edges (strip_behind inner f s k q) (seam_of f (k + 1)).head ++ laid_items inner f (next_strip s k q)
+          (k + 1) row_start (suc n)))
       unfolding laid_items next_strip
       items-more s k q n = refl
 
-      sum-three : (x : Laid) (xs ys zs : List Laid) → sum_by share (x ∷ (xs ++ (ys ++ zs))) ≡ share x + sum_by share xs + sum_by share ys + sum_by share zs
-      sum-three x xs ys zs = omega (arith, sum_by-cons share x (xs ++ (ys ++ zs)), sum_by-append share xs (ys ++ zs), sum_by-append share ys zs)
+      sum-three : (x : Laid) (xs ys zs : List Laid)
+          → sum_by share (x ∷ (xs ++ (ys ++ zs))) ≡ share x + sum_by share xs + sum_by share ys + sum_by share zs
+      sum-three x xs ys zs = omega (
+        arith,
+        sum_by-cons share x (xs ++ (ys ++ zs)),
+        sum_by-append share xs (ys ++ zs),
+        sum_by-append share ys zs,
+      )
 
-      -- n items and the head behind them leave what the flow has from there on
-      items-sum : (s : Strip) (k : ℕ) (q : Token) (n e : ℕ) → k + suc n ≡ e → sum_by share (laid_items inner f s k q (suc n)) + sum_by amount (seam_of f e).head + ahead inner e ≤ ahead inner k
+      -- n items and the head after them leave what the flow has from there on
+      items-sum : (s : Strip) (k : ℕ) (q : Token) (n e : ℕ) → k + suc n ≡ e
+          → sum_by share (laid_items inner f s k q (suc n)) + sum_by amount (seam_of f e).head + ahead inner e ≤ ahead inner k
       items-sum s k q zero e is =
-          let P : ℕ → Type 0 = λ e. sum_by share (laid_items inner f s k q (suc zero)) + sum_by amount (seam_of f e).head + ahead inner e ≤ ahead inner k in
+          let P : ℕ → Type 0 = λ e. sum_by share (laid_items inner f s k q (suc zero)) + sum_by amount (seam_of f e).head + ahead
+          inner e ≤ ahead inner k in
           let z : k + 1 ≡ e = omega arith in
           let first = ahead-first inner k in
           let own = item-le k q (item_of f k) in
           let tail = edges-le (put s (height_of inner (item_of f k) q)) (seam_of f (k + 1)).tail in
-          let c = sum_by-cons share (laid_item inner (item_of f k) k q) (laid_edges (put s (height_of inner (item_of f k) q)) (seam_of f (k + 1)).tail ++ []) in
+          let c = sum_by-cons share (laid_item inner (item_of f k) k q)
+          (laid_edges (put s (height_of inner (item_of f k) q)) (seam_of f (k + 1)).tail ++ []) in
           let a = sum_by-append share (laid_edges (put s (height_of inner (item_of f k) q)) (seam_of f (k + 1)).tail) [] in
           let u = ap (sum_by share) (items-one s k q) in
           subst P z (omega arith)
@@ -186,39 +221,56 @@ module _ (total : ℕ → ℕ) where
           let tail = edges-le (put s (height_of inner (item_of f k) q)) (seam_of f (k + 1)).tail in
           let head = edges-le (strip_behind inner f s k q) (seam_of f (k + 1)).head in
           let more = items-sum (next_strip s k q) (k + 1) row_start n e (omega arith) in
-          let c = sum-three (laid_item inner (item_of f k) k q) (laid_edges (put s (height_of inner (item_of f k) q)) (seam_of f (k + 1)).tail) (laid_edges (strip_behind inner f s k q) (seam_of f (k + 1)).head) (laid_items inner f (next_strip s k q) (k + 1) row_start (suc n)) in
+          let c = sum-three (laid_item inner (item_of f k) k q)
+          (laid_edges (put s (height_of inner (item_of f k) q)) (seam_of f (k + 1)).tail)
+          (laid_edges (strip_behind inner f s k q) (seam_of f (k + 1)).head)
+          (laid_items inner f (next_strip s k q) (k + 1) row_start (suc n)) in
           let u = ap (sum_by share) (items-more s k q n) in
           omega arith
 
       before-have : (s : Strip) (k : ℕ) (q : Token) (n : ℕ) → Each (HasShare share (IsRowOf f)) (laid_before inner f s k q n)
       before-have s k q zero = tt
-      before-have s k q (suc n) = Each-append (HasShare share (IsRowOf f)) (laid_items inner f s k q (suc n)) _ (items-have s k q (suc n)) (edges-have (IsRowOf f) (strip_after inner f s k q (suc n)) (seam_of f (k + suc n)).head)
+      before-have s k q (suc n) = Each-append (HasShare share (IsRowOf f)) (laid_items inner f s k q (suc n)) _
+          (items-have s k q (suc n)) (edges-have (IsRowOf f) (strip_after inner f s k q (suc n)) (seam_of f (k + suc n)).head)
 
-      before-sum : (s : Strip) (k : ℕ) (q : Token) (n e : ℕ) → k + n ≡ e → sum_by share (laid_before inner f s k q n) + ahead inner e ≤ ahead inner k
-      before-sum s k q zero e is = let P : ℕ → Type 0 = λ e. 0 + ahead inner e ≤ ahead inner k in let z : k ≡ e = omega arith in subst P z (omega arith)
+      before-sum : (s : Strip) (k : ℕ) (q : Token) (n e : ℕ) → k + n ≡ e
+          → sum_by share (laid_before inner f s k q n) + ahead inner e ≤ ahead inner k
+      before-sum s k q zero e is = let P : ℕ → Type 0 = λ e. 0 + ahead inner e ≤ ahead inner k in let z : k ≡ e = omega arith
+          in subst P z (omega arith)
       before-sum s k q (suc n) e is =
           let P : ℕ → Type 0 = λ e. sum_by share (laid_before inner f s k q (suc n)) + ahead inner e ≤ ahead inner k in
           let a = items-sum s k q n (k + suc n) refl in
           let b = edges-le (strip_after inner f s k q (suc n)) (seam_of f (k + suc n)).head in
-          let c = sum_by-append share (laid_items inner f s k q (suc n)) (laid_edges (strip_after inner f s k q (suc n)) (seam_of f (k + suc n)).head) in
+          let c = sum_by-append share (laid_items inner f s k q (suc n))
+          (laid_edges (strip_after inner f s k q (suc n)) (seam_of f (k + suc n)).head) in
           subst P is (omega arith)
 
       -- ---- a row that is filled
 
       filled-of : (a : ℕ) (k : ℕ) (q : Token) (item : Item) → item_of f k ≡ item → a < height_of inner item q →
-          Each (HasShare share (IsRowOf f)) (filled_row (row_from item q) a) × (sum_by share (filled_row (row_from item q) a) ≤ item_share item)
+          Each (HasShare share (IsRowOf f)) (filled_row (row_from item q) a)
+          × (sum_by share (filled_row (row_from item q) a) ≤ item_share item)
       filled-of a k q (Atom height kind) is lt = (tt, omega arith)
       filled-of a k q (Row r) is lt =
-          let small = sizes r q in
-          (((omega arith, record { item = k; lt = item-known f k r is; is = is }), tt), omega (arith, sum_by-cons share (row (record { row = r; from = q; height = a; made_at = Some a; filled = true })) []))
+          let small = sizes r q in (
+            ((omega arith, record { item = k; lt = item-known f k r is; is = is }), tt),
+            omega (
+              arith,
+              sum_by-cons share
+                  (row (record { row = r; from = q; height = a; made_at = Some a; filled = true })) [],
+            ),
+          )
 
       step-filled : (s : Step) (h i k : ℕ) → IsStepFrom inner f i s → s.item ≡ k → room s h < s.height →
-          (i ≤ k) × Each (HasShare share (IsRowOf f)) (filled_row s.row (room s h)) × (sum_by share (filled_row s.row (room s h)) ≤ item_share (item_of f k))
+          (i ≤ k) × Each (HasShare share (IsRowOf f)) (filled_row s.row (room s h))
+          × (sum_by share (filled_row s.row (room s h)) ≤ item_share (item_of f k))
       step-filled s h i k of is lt =
           let height = of.height in
           let later = of.later in
-          let P : Option (ℕ × Token) → Type 0 = λ row. Each (HasShare share (IsRowOf f)) (filled_row row (room s h)) × (sum_by share (filled_row row (room s h)) ≤ item_share (item_of f s.item)) in
-          let Q : ℕ → Type 0 = λ k. (i ≤ k) × Each (HasShare share (IsRowOf f)) (filled_row s.row (room s h)) × (sum_by share (filled_row s.row (room s h)) ≤ item_share (item_of f k)) in
+          let P : Option (ℕ × Token) → Type 0 = λ row. Each (HasShare share (IsRowOf f)) (filled_row row (room s h))
+          × (sum_by share (filled_row row (room s h)) ≤ item_share (item_of f s.item)) in
+          let Q : ℕ → Type 0 = λ k. (i ≤ k) × Each (HasShare share (IsRowOf f)) (filled_row s.row (room s h))
+          × (sum_by share (filled_row s.row (room s h)) ≤ item_share (item_of f k)) in
           let made : P s.row = subst P (sym of.row) (filled-of (room s h) s.item of.from (item_of f s.item) refl (omega arith)) in
           subst Q is (later, made.0, made.1)
 
@@ -236,14 +288,20 @@ module _ (total : ℕ → ℕ) where
         where
           zero-lay : Lays i (laid_items inner f s i q zero)
           zero-lay = record { each = items-have s i q zero; le = let u = ap (sum_by share) (items-none s i q) in omega arith }
-      items-lay s i q (suc n) = record { each = items-have s i q (suc n); le = let a = items-sum s i q n (i + suc n) refl in omega arith }
+      items-lay s i q (suc n) = record {
+        each = items-have s i q (suc n);
+        le = let a = items-sum s i q n (i + suc n) refl
+            in omega arith;
+      }
 
-      -- the items before item k, and something that counts no more than that item and the tail behind it
-      behind-lay : (s : Strip) (i : ℕ) (q : Token) (k : ℕ) (ys : List Laid) → i ≤ k → Each (HasShare share (IsRowOf f)) ys → sum_by share ys ≤ item_share (item_of f k) + sum_by amount (seam_of f (k + 1)).tail →
+      -- the items before item k, and something that counts no more than that item and the tail after it
+      behind-lay : (s : Strip) (i : ℕ) (q : Token) (k : ℕ) (ys : List Laid) → i ≤ k → Each (HasShare share (IsRowOf f)) ys
+          → sum_by share ys ≤ item_share (item_of f k) + sum_by amount (seam_of f (k + 1)).tail →
           Lays i (laid_before inner f s i q (k - i) ++ ys)
       behind-lay s i q k ys later each le =
           record {
-            each = Each-append (HasShare share (IsRowOf f)) (laid_before inner f s i q (k - i)) ys (before-have s i q (k - i)) each;
+            each = Each-append (HasShare share (IsRowOf f)) (laid_before inner f s i q (k - i)) ys
+                (before-have s i q (k - i)) each;
             le =
                 let a = before-sum s i q (k - i) k (omega arith) in
                 let b = sum_by-append share (laid_before inner f s i q (k - i)) ys in
@@ -255,7 +313,8 @@ module _ (total : ℕ → ℕ) where
       before-lay s i q n =
           record {
             each = Each-append (HasShare share (IsRowOf f)) (laid_before inner f s i q n) [] (before-have s i q n) tt;
-            le = let a = before-sum s i q n (i + n) refl in let b = sum_by-append share (laid_before inner f s i q n) [] in omega arith;
+            le = let a = before-sum s i q n (i + n) refl in let b = sum_by-append share (laid_before inner f s i q n) []
+                in omega arith;
           }
 
       both : (a b : Bool) → (a && b) ≡ true → (a ≡ true) × (b ≡ true)
@@ -271,9 +330,11 @@ module _ (total : ℕ → ℕ) where
           let lt = a.1 in
           (grind (arith, nat_tests), grind (arith, nat_tests))
 
-      -- up to item k, which is filled, and with the tail behind it
-      filled-lay : (s : Strip) (i : ℕ) (q : Token) (h : Option ℕ) (stop : Option Step) (k : ℕ) (z : Strip) (tail : List Edge) → OfStop (IsStepFrom inner f i) stop → fills_item h stop k ≡ true →
-          sum_by amount tail ≤ sum_by amount (seam_of f (k + 1)).tail → Lays i (laid_before inner f s i q (k - i) ++ (laid_filled h stop ++ laid_edges z tail))
+      -- up to item k, which is filled, and with the tail after it
+      filled-lay : (s : Strip) (i : ℕ) (q : Token) (h : Option ℕ) (stop : Option Step) (k : ℕ) (z : Strip) (tail : List Edge)
+          → OfStop (IsStepFrom inner f i) stop → fills_item h stop k ≡ true →
+          sum_by amount tail ≤ sum_by amount (seam_of f (k + 1)).tail
+          → Lays i (laid_before inner f s i q (k - i) ++ (laid_filled h stop ++ laid_edges z tail))
       filled-lay s i q None stop k z tail of e le = cc
       filled-lay s i q (Some h) None k z tail of e le = cc
       filled-lay s i q (Some h) (Some x) k z tail of e le =
@@ -282,10 +343,13 @@ module _ (total : ℕ → ℕ) where
           let sum = made.2 in
           let a = sum_by-append share (filled_row x.row (room x h)) (laid_edges z tail) in
           let b = edges-le z tail in
-          behind-lay s i q k (filled_row x.row (room x h) ++ laid_edges z tail) made.0 (Each-append (HasShare share (IsRowOf f)) (filled_row x.row (room x h)) (laid_edges z tail) made.1 (edges-have (IsRowOf f) z tail)) (omega arith)
+          behind-lay s i q k (filled_row x.row (room x h) ++ laid_edges z tail) made.0
+          (Each-append (HasShare share (IsRowOf f)) (filled_row x.row (room x h)) (laid_edges z tail) made.1
+          (edges-have (IsRowOf f) z tail)) (omega arith)
 
       -- up to a place in item k
-      inside-lay : (s : Strip) (i : ℕ) (q : Token) (h : Option ℕ) (stop : Option Step) (k : ℕ) → OfStop (IsStepFrom inner f i) stop → ((a : ℕ) → h ≡ Some a → IsFilledAt a k stop) →
+      inside-lay : (s : Strip) (i : ℕ) (q : Token) (h : Option ℕ) (stop : Option Step) (k : ℕ)
+          → OfStop (IsStepFrom inner f i) stop → ((a : ℕ) → h ≡ Some a → IsFilledAt a k stop) →
           Lays i (laid_before inner f s i q (k - i) ++ laid_filled h stop)
       inside-lay s i q None stop k of at = before-lay s i q (k - i)
       inside-lay s i q (Some h) None k of at = before-lay s i q (k - i)
@@ -301,7 +365,9 @@ module _ (total : ℕ → ℕ) where
           let z : e ≡ e - 1 + 1 = grind (arith, nat_tests) in
           subst P z (omega arith)
 
-      pub to-lay : (d : FlowsData) (t : Token) (h : Option ℕ) (stop : Option Step) (end : Token) → OfStop (IsStepFrom inner f (item_number t)) stop → ((a : ℕ) → h ≡ Some a → IsEndFor a stop end) → Lays (item_number t) (laid_to inner d f t h stop end)
+      pub to-lay : (d : FlowsData) (t : Token) (h : Option ℕ) (stop : Option Step) (end : Token)
+          → OfStop (IsStepFrom inner f (item_number t)) stop → ((a : ℕ) → h ≡ Some a → IsEndFor a stop end)
+          → Lays (item_number t) (laid_to inner d f t h stop end)
       to-lay d t h stop [] of at = nothing (item_number t)
       to-lay d t h stop (e ∷ []) of at = go (fills_item h stop (e - 1)) (e == 0) refl refl
         where
@@ -309,9 +375,12 @@ module _ (total : ℕ → ℕ) where
           not-lay = items-lay (start_strip d f t) (item_number t) (within t) (e - item_number t)
 
           go : (b z : Bool) → fills_item h stop (e - 1) ≡ b → (e == 0) ≡ z → Lays (item_number t)
-              (cond (b && not z) (laid_before inner f (start_strip d f t) (item_number t) (within t) (e - 1 - item_number t) ++ laid_filled h stop ++ laid_edges (strip_filled h stop) (seam_of f e).tail)
+              (cond (b && not z) (laid_before inner f (start_strip d f t) (item_number t) (within t) (e - 1 - item_number t)
+              ++ laid_filled h stop ++ laid_edges (strip_filled h stop) (seam_of f e).tail)
               (laid_items inner f (start_strip d f t) (item_number t) (within t) (e - item_number t)))
           go true true fills none = not-lay
-          go true false fills some = rw append_assoc (filled-lay (start_strip d f t) (item_number t) (within t) h stop (e - 1) (strip_filled h stop) (seam_of f e).tail of fills (tail-at e some))
+          go true false fills some = rw append_assoc
+              (filled-lay (start_strip d f t) (item_number t) (within t) h stop (e - 1) (strip_filled h stop) (seam_of f e).tail
+              of fills (tail-at e some))
           go false z fills any = not-lay
       to-lay d t h stop (e ∷ (j ∷ rest)) of at = inside-lay (start_strip d f t) (item_number t) (within t) h stop e of at

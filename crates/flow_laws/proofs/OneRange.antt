@@ -1,5 +1,6 @@
 -- A range of heights with a reason holds none that fits.
-use Rattle.std.proofs.Common.{◌≡◌, ℕ, ◌-◌, ◌*◌, ◌<◌, ◌≤◌, Bool, true, false, cond, not, ◌||◌, List, [], ◌∷◌, length, refl, sym, ◌∙◌, ap, arith}
+use Rattle.std.proofs.Common.{◌≡◌, ℕ, ◌-◌, ◌*◌, ◌<◌, ◌≤◌, Bool, true, false, cond, not, ◌||◌, List, [], ◌∷◌, length, refl, sym}
+use Rattle.std.proofs.Common.{◌∙◌, ap, arith}
 use Rattle.std.specs.Prelude.{All}
 use Rattle.std.specs.List.{list_any}
 use Rattle.std.proofs.lemmas.Bool.{and_from, and_left, and_right, or_right}
@@ -30,7 +31,8 @@ pub any-judged : (cs : List Column) → list_any fails (up_to fails cs) ≡ list
 any-judged [] = refl
 any-judged (c ∷ cs) = go (fails c) (any-judged cs)
   where
-    go : (x : Bool) → list_any fails (up_to fails cs) ≡ list_any fails cs → (x || list_any fails (cond x [] (up_to fails cs))) ≡ (x || list_any fails cs)
+    go : (x : Bool) → list_any fails (up_to fails cs) ≡ list_any fails cs
+        → (x || list_any fails (cond x [] (up_to fails cs))) ≡ (x || list_any fails cs)
     go true e = refl
     go false e = e
 
@@ -39,13 +41,15 @@ pub all-judged : (cs : List Column) → list_any fails cs ≡ false → up_to fa
 all-judged [] e = refl
 all-judged (c ∷ cs) e = go (fails c) e (all-judged cs)
   where
-    go : (x : Bool) → (x || list_any fails cs) ≡ false → (list_any fails cs ≡ false → up_to fails cs ≡ cs) → c ∷ cond x [] (up_to fails cs) ≡ c ∷ cs
+    go : (x : Bool) → (x || list_any fails cs) ≡ false → (list_any fails cs ≡ false → up_to fails cs ≡ cs)
+        → c ∷ cond x [] (up_to fails cs) ≡ c ∷ cs
     go true e same = cc
     go false e same = ap (λ xs. c ∷ xs) (same e)
 
 fails-at : (cs : List Column) (c : ℕ) (o : Bool) → FailsAt cs c o → list_any fails cs ≡ true
 fails-at cs c o f =
-    rw (f.judged_are, list_any-append fails f.before (f.column ∷ [])) (or_right (list_any fails f.before) (list_any fails (f.column ∷ [])) (rw f.fail refl))
+    rw (f.judged_are, list_any-append fails f.before (f.column ∷ []))
+    (or_right (list_any fails f.before) (list_any fails (f.column ∷ [])) (rw f.fail refl))
 
 module _ (inner : Inner) (d : FlowsData) (r : ℕ) (q : Token) (h : ℕ) where
   all-columns : List Column
@@ -66,7 +70,8 @@ module _ (inner : Inner) (d : FlowsData) (r : ℕ) (q : Token) (h : ℕ) where
       and_left (is_end (flow_in d r) (end_of q all-columns)) (not (list_any fails all-columns)) (rw place l.rest)
 
   -- columns that are judged, reach the end and break no rule fit
-  pub judged-fits : list_any fails (judged inner d r q h) ≡ false → is_end (flow_in d r) (end_of q (judged inner d r q h)) ≡ true → fits inner d r q h ≡ true
+  pub judged-fits : list_any fails (judged inner d r q h) ≡ false → is_end (flow_in d r) (end_of q (judged inner d r q h)) ≡ true
+      → fits inner d r q h ≡ true
   unfolding judged fits all-columns
   judged-fits none ends =
       let fine : list_any fails all-columns ≡ false = sym (any-judged all-columns) ∙ none in
@@ -77,12 +82,15 @@ module _ (inner : Inner) (d : FlowsData) (r : ℕ) (q : Token) (h : ℕ) where
 
 module _ (d : FlowsData) (r : ℕ) (q : Token) where
   -- from a height on that doesn't fit, none does up to the least bound
-  pub unfit-to : (low high h : ℕ) → fits (all_rows d) d r q low ≡ false → All (λ b. high ≤ b) (bounds_of (judged (all_rows d) d r q low)) → low ≤ h → h < high → fits (all_rows d) d r q h ≡ false
+  pub unfit-to : (low high h : ℕ) → fits (all_rows d) d r q low ≡ false
+      → All (λ b. high ≤ b) (bounds_of (judged (all_rows d) d r q low)) → low ≤ h → h < high → fits (all_rows d) d r q h ≡ false
   unfolding all_rows
   unfit-to low high h none bounds le lt =
-      (breaks-stay d (length d.rows)).fits_stays r q low h le (below-each high h (bounds_of (judged (all_rows d) d r q low)) bounds lt) ∙ none
+      (breaks-stay d (length d.rows)).fits_stays r q low h le
+      (below-each high h (bounds_of (judged (all_rows d) d r q low)) bounds lt) ∙ none
 
-  pub range-rejects : TallAndAreaReject d r q → (low high h : ℕ) (reason : Reason) → RangeRejects (all_rows d) d r q low high reason → low ≤ h → h < high → fits (all_rows d) d r q h ≡ false
+  pub range-rejects : TallAndAreaReject d r q → (low high h : ℕ) (reason : Reason)
+      → RangeRejects (all_rows d) d r q low high reason → low ≤ h → h < high → fits (all_rows d) d r q h ≡ false
   range-rejects law low high h (tall k) a le lt = law.tall_rejects k h a.0 a.1 a.2 (let e = a.3 in omega arith)
   range-rejects law low high h area a le lt =
       let n = most_columns (row_of d r).n (flow_in d r) q in

@@ -12,24 +12,28 @@ use Rattle.flow_laws.specs.Constant.{IsBelowEach, ColumnStays, ColumnsStay, Fill
 use Rattle.flow_laws.proofs.BoundsAbove.{column-above, rows_to-above}
 use Rattle.flow_laws.proofs.StopStays.{over-stays, IsBelowEach-append}
 
-pub column-stays : (inner : Inner) (law : FillsStay inner) (d : FlowsData) (f : Flow) (t : Token) (lo h : ℕ) → lo ≤ h → IsBelowEach h (column inner d f t lo).bounds →
+pub column-stays : (inner : Inner) (law : FillsStay inner) (d : FlowsData) (f : Flow) (t : Token) (lo h : ℕ) → lo ≤ h
+    → IsBelowEach h (column inner d f t lo).bounds →
     ColumnStays (column inner d f t lo) (column inner d f t h)
 unfolding column
 column-stays inner law d f t lo h le b = over-stays inner law (avoids_at d f) lo h (steps_from inner d f t) le b
 
 -- ---- columns up to the first that a test stops
 
-module _ (stops : Column → Bool) (kept : (a b : Column) → ColumnStays a b → stops b ≡ stops a) (fine : (a : Column) → stops a ≡ false → a.overflow ≡ false) where
+module _ (stops : Column → Bool) (kept : (a b : Column) → ColumnStays a b → stops b ≡ stops a)
+    (fine : (a : Column) → stops a ≡ false → a.overflow ≡ false) where
   -- these columns and those stay up to the first that the test stops
   pub data StayUpTo : List Column → List Column → Type 0 where
     none : StayUpTo [] []
     ends : {a b : Column} {cs ds : List Column} → stops a ≡ true → ColumnStays a b → StayUpTo (a ∷ cs) (b ∷ ds)
     more : {a b : Column} {cs ds : List Column} → stops a ≡ false → ColumnStays a b → StayUpTo cs ds → StayUpTo (a ∷ cs) (b ∷ ds)
 
-  first-below : (h : ℕ) (c : Column) (cs : List Column) → IsBelowEach h (bounds_of (up_to stops (c ∷ cs))) → IsBelowEach h c.bounds
+  first-below : (h : ℕ) (c : Column) (cs : List Column) → IsBelowEach h (bounds_of (up_to stops (c ∷ cs)))
+      → IsBelowEach h c.bounds
   first-below h c cs b = (IsBelowEach-append h c.bounds _ b).0
 
-  rest-below : (h : ℕ) (c : Column) (cs : List Column) → stops c ≡ false → IsBelowEach h (bounds_of (up_to stops (c ∷ cs))) → IsBelowEach h (bounds_of (up_to stops cs))
+  rest-below : (h : ℕ) (c : Column) (cs : List Column) → stops c ≡ false → IsBelowEach h (bounds_of (up_to stops (c ∷ cs)))
+      → IsBelowEach h (bounds_of (up_to stops cs))
   rest-below h c cs n b = rw n at ((IsBelowEach-append h c.bounds _ b).1)
 
   pub cons-stay : (c c' : Column) (cs cs' : List Column) → ColumnStays c c' → (o : Bool) → stops c ≡ o →
@@ -47,11 +51,14 @@ module _ (stops : Column → Bool) (kept : (a b : Column) → ColumnStays a b �
       here : ℕ → List Column
       here x = let c = column inner d f t x in c ∷ columns inner d f n c.end x
 
-      go : ((u : Token) → IsBelowEach h (bounds_of (up_to stops (columns inner d f n u lo))) → StayUpTo (columns inner d f n u lo) (columns inner d f n u h)) →
-          (x : Bool) → IsBelowEach h (bounds_of (up_to stops (elim x [ true ↦ [] | false ↦ here lo ]))) → StayUpTo (elim x [ true ↦ [] | false ↦ here lo ]) (elim x [ true ↦ [] | false ↦ here h ])
+      go : ((u : Token) → IsBelowEach h (bounds_of (up_to stops (columns inner d f n u lo)))
+          → StayUpTo (columns inner d f n u lo) (columns inner d f n u h)) →
+          (x : Bool) → IsBelowEach h (bounds_of (up_to stops (elim x [ true ↦ [] | false ↦ here lo ])))
+          → StayUpTo (elim x [ true ↦ [] | false ↦ here lo ]) (elim x [ true ↦ [] | false ↦ here h ])
       go again true b = none
       go again false b =
-          let e = column-stays inner law d f t lo h le (first-below h (column inner d f t lo) (columns inner d f n (column inner d f t lo).end lo) b) in
+          let e = column-stays inner law d f t lo h le
+          (first-below h (column inner d f t lo) (columns inner d f n (column inner d f t lo).end lo) b) in
           cons-stay (column inner d f t lo) (column inner d f t h) _ _ e (stops (column inner d f t lo)) refl
           (λ k. rw (e.end (fine _ k)) (again (column inner d f t lo).end (rest-below h (column inner d f t lo) _ k b)))
 
@@ -103,14 +110,16 @@ fold-stays inner law d f n q lo h le b =
       level = λ o. level-stays overflows overflow-kept (λ a k. k) same o 0;
     }
 
-fill-stays : (inner : Inner) (law : FillsStay inner) (d : FlowsData) (r : ℕ) (q : Token) (lo h : ℕ) → lo ≤ h → IsBelowEach h (fill_in inner d r q lo).bounds → FillStays (fill_in inner d r q lo) (fill_in inner d r q h)
+fill-stays : (inner : Inner) (law : FillsStay inner) (d : FlowsData) (r : ℕ) (q : Token) (lo h : ℕ) → lo ≤ h
+    → IsBelowEach h (fill_in inner d r q lo).bounds → FillStays (fill_in inner d r q lo) (fill_in inner d r q h)
 unfolding fill_in
 fill-stays inner law d r q lo h le b = fold-stays inner law d (flow_in d r) (row_of d r).n q lo h le b
 
 -- one deeper, wherever it holds within
 pub rows_to-stay : (d : FlowsData) (depth : ℕ) → FillsStay (rows_to d depth)
 unfolding rows_to
-rows_to-stay d zero = λ r q lo h le b. record { lines = refl; overflow = refl; end = λ _. refl; at_end = λ _. refl; level = λ _. refl }
+rows_to-stay d zero = λ r q lo h le b.
+    record { lines = refl; overflow = refl; end = λ _. refl; at_end = λ _. refl; level = λ _. refl }
 rows_to-stay d (suc depth) = fill-stays (rows_to d depth) (rows_to-stay d depth) d
 
 -- ---- what is judged, and what fits
@@ -132,9 +141,12 @@ fails-fine c n = go c.overflow n
     go false n = refl
 
 module _ (inner : Inner) (law : FillsStay inner) (d : FlowsData) (r : ℕ) (q : Token) (lo h : ℕ) (le : lo ≤ h) where
-  judged-columns : IsBelowEach h (bounds_of (judged inner d r q lo)) → StayUpTo fails fails-kept fails-fine (columns inner d (flow_in d r) (most_columns (row_of d r).n (flow_in d r) q) q lo) (columns inner d (flow_in d r) (most_columns (row_of d r).n (flow_in d r) q) q h)
+  judged-columns : IsBelowEach h (bounds_of (judged inner d r q lo))
+      → StayUpTo fails fails-kept fails-fine (columns inner d (flow_in d r) (most_columns (row_of d r).n (flow_in d r) q) q lo)
+      (columns inner d (flow_in d r) (most_columns (row_of d r).n (flow_in d r) q) q h)
   unfolding judged
-  judged-columns b = columns-stay fails fails-kept fails-fine inner law d (flow_in d r) (most_columns (row_of d r).n (flow_in d r) q) q lo h le b
+  judged-columns b = columns-stay fails fails-kept fails-fine inner law d (flow_in d r)
+      (most_columns (row_of d r).n (flow_in d r) q) q lo h le b
 
   pub judged-stay : IsBelowEach h (bounds_of (judged inner d r q lo)) → ColumnsStay (judged inner d r q lo) (judged inner d r q h)
   unfolding judged
@@ -144,7 +156,9 @@ module _ (inner : Inner) (law : FillsStay inner) (d : FlowsData) (r : ℕ) (q : 
   unfolding fits
   fits-stays b = go (list_any fails (columns inner d (flow_in d r) (most_columns (row_of d r).n (flow_in d r) q) q lo)) refl
     where
-      same : StayUpTo fails fails-kept fails-fine (columns inner d (flow_in d r) (most_columns (row_of d r).n (flow_in d r) q) q lo) (columns inner d (flow_in d r) (most_columns (row_of d r).n (flow_in d r) q) q h)
+      same : StayUpTo fails fails-kept fails-fine
+          (columns inner d (flow_in d r) (most_columns (row_of d r).n (flow_in d r) q) q lo)
+          (columns inner d (flow_in d r) (most_columns (row_of d r).n (flow_in d r) q) q h)
       same = judged-columns b
 
       and-false : (x : Bool) → (x && false) ≡ false
@@ -152,8 +166,10 @@ module _ (inner : Inner) (law : FillsStay inner) (d : FlowsData) (r : ℕ) (q : 
       and-false false = refl
 
       go : (x : Bool) → list_any fails (columns inner d (flow_in d r) (most_columns (row_of d r).n (flow_in d r) q) q lo) ≡ x →
-          (is_end (flow_in d r) (end_of q (columns inner d (flow_in d r) (most_columns (row_of d r).n (flow_in d r) q) q h)) && not (list_any fails (columns inner d (flow_in d r) (most_columns (row_of d r).n (flow_in d r) q) q h)))
-          ≡ (is_end (flow_in d r) (end_of q (columns inner d (flow_in d r) (most_columns (row_of d r).n (flow_in d r) q) q lo)) && not (list_any fails (columns inner d (flow_in d r) (most_columns (row_of d r).n (flow_in d r) q) q lo)))
+          (is_end (flow_in d r) (end_of q (columns inner d (flow_in d r) (most_columns (row_of d r).n (flow_in d r) q) q h))
+          && not (list_any fails (columns inner d (flow_in d r) (most_columns (row_of d r).n (flow_in d r) q) q h)))
+          ≡ (is_end (flow_in d r) (end_of q (columns inner d (flow_in d r) (most_columns (row_of d r).n (flow_in d r) q) q lo))
+          && not (list_any fails (columns inner d (flow_in d r) (most_columns (row_of d r).n (flow_in d r) q) q lo)))
       go true e = rw (any-stays fails fails-kept fails-fine same, e, and-false, and-false) refl
       go false e = rw (any-stays fails fails-kept fails-fine same, end-stays fails fails-kept fails-fine same e q) refl
 

@@ -10,12 +10,15 @@ use Rattle.flow_data.specs.Soundness.{IsSound, IsSoundItem, NestsAtMost}
 abbrev pub IsGoodRow : FlowsData → ℕ → Type 0
 IsGoodRow d r = (r < length d.rows) × (0 < length (flow_in d r).items)
 
-pub rows-in-range : (d : FlowsData) (items : List Item) → All (IsSoundItem d) items → All (λ r. r < length d.rows) (flat_map row_in items)
+pub rows-in-range : (d : FlowsData) (items : List Item) → All (IsSoundItem d) items
+    → All (λ r. r < length d.rows) (flat_map row_in items)
 rows-in-range d [] all = λ k e lt. absurd (omega arith)
 rows-in-range d (Atom height kind ∷ items) all = rows-in-range d items (λ k e lt. all (suc k) e (omega arith))
-rows-in-range d (Row r ∷ items) all = both (all 0 (Row r) (omega arith)) (rows-in-range d items (λ k e lt. all (suc k) e (omega arith)))
+rows-in-range d (Row r ∷ items) all =
+    both (all 0 (Row r) (omega arith)) (rows-in-range d items (λ k e lt. all (suc k) e (omega arith)))
   where
-    both : r < length d.rows → All (λ r. r < length d.rows) (flat_map row_in items) → All (λ r. r < length d.rows) (r ∷ flat_map row_in items)
+    both : r < length d.rows → All (λ r. r < length d.rows) (flat_map row_in items)
+        → All (λ r. r < length d.rows) (r ∷ flat_map row_in items)
     both first rest zero e lt = first
     both first rest (suc k) e lt = rest k e (omega arith)
 
@@ -38,4 +41,5 @@ pub nests-by-number : (d : FlowsData) → IsSound d → (k r : ℕ) → r < leng
 nests-by-number d sound zero r lt le = absurd (omega arith)
 nests-by-number d sound (suc k) r lt le =
     let good = good-rows d sound r lt in
-    λ i e in_rows. nests-by-number d sound k _ (good i e in_rows).0 (let later = (sound.inner_rows r lt i e in_rows).later in omega arith)
+    λ i e in_rows. nests-by-number d sound k _ (good i e in_rows).0 (let later = (sound.inner_rows r lt i e in_rows).later
+    in omega arith)

@@ -1,5 +1,5 @@
--- Each stack reaches less than 2^60: its flow, the flows of the rows in it, and so on inwards stand in no other stack, so those of all
--- stacks together are no higher than all flows.
+-- Each stack reaches less than 2^60: its flow, the flows of the rows in it, and so on inwards stand in no other stack, so those
+-- of all stacks together are no higher than all flows.
 use Rattle.std.proofs.Common.{◌≡◌, ℕ, suc, ◌+◌, ◌<◌, ◌≤◌, ◌^◌, length, Option, refl, arith, sum_by}
 use Rattle.std.proofs.lemmas.List.Sums.{get_or-le-sum_by}
 use Rattle.flow_list.specs.Data.{FlowsData, Stack}
@@ -41,11 +41,13 @@ module _ (d : FlowsData) (sound : IsSound d) where
       let stacks = up-list (λ s. total_within d (height_in d) n (stack_of d s).flow)
       (λ (s : Stack). total_within d (height_in d) n s.flow) no_stack 0 d.stacks
       (λ i l. let z : 0 + i ≡ i = omega arith in rw z refl) in
-      let flows = up-list (λ f. flow_height d (flow_of d f)) (flow_height d) no_flow 0 d.flows (λ i l. let z : 0 + i ≡ i = omega arith in rw z refl) in
+      let flows = up-list (λ f. flow_height d (flow_of d f)) (flow_height d) no_flow 0 d.flows
+      (λ i l. let z : 0 + i ≡ i = omega arith in rw z refl) in
       let one = get_or-le-sum_by (λ (s : Stack). total_within d (height_in d) n s.flow) d.stacks s no_stack lt in
       omega arith
 
-  pub stack-extent-small : (s : ℕ) → s < length d.stacks → stack_extent d (stack_of d s).bound (flow_of d (stack_of d s).flow) < 2 ^ 60
+  pub stack-extent-small : (s : ℕ) → s < length d.stacks
+      → stack_extent d (stack_of d s).bound (flow_of d (stack_of d s).flow) < 2 ^ 60
   stack-extent-small s lt =
       let f = flow_of d (stack_of d s).flow in
       let a = stack-reach d f (row_total d (height_in d) (suc (length d.rows))) (stack_of d s).bound (rows_to d 0)

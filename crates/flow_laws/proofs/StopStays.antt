@@ -1,10 +1,13 @@
 -- A column's lines and overflow stay while the height grows, up to the least bound.
-use Rattle.std.proofs.Common.{◌≡◌, ℕ, ◌+◌, ◌-◌, ◌<◌, ◌≤◌, Bool, true, false, cond, not, ◌&&◌, List, [], ◌∷◌, ◌++◌, map, Option, Some, None, refl, sym, ◌∙◌, ap, arith}
+use Rattle.std.proofs.Common.{◌≡◌, ℕ, ◌+◌, ◌-◌, ◌<◌, ◌≤◌, Bool, true, false, cond, not, ◌&&◌, List, [], ◌∷◌, ◌++◌, map, Option}
+use Rattle.std.proofs.Common.{Some, None, refl, sym, ◌∙◌, ap, arith}
 use Rattle.std.specs.Prelude.{nat_lt, nat_le, fold}
 use Rattle.std.proofs.lemmas.Bool.{lt-ltb, le-ltb}
 use Rattle.std.proofs.lemmas.Bool.Decides.{nat_tests}
 use Rattle.flow_list.specs.Tokens.{Token}
-use Rattle.flow_list.specs.Column.{ColumnLine, Column, Filled, Inner, Step, Place, Cut, cut, longer, seams_between, inside_place, room, is_cut, fill_in_room, whole_place, best, choose, deeper, bounds_at, column_to, stopped, column_up_to, column_over}
+use Rattle.flow_list.specs.Column.{ColumnLine, Column, Filled, Inner, Step, Place, Cut, cut, longer, seams_between, inside_place}
+use Rattle.flow_list.specs.Column.{room, is_cut, fill_in_room, whole_place, best, choose, deeper, bounds_at, column_to, stopped}
+use Rattle.flow_list.specs.Column.{column_up_to, column_over}
 use Rattle.flow_laws.specs.Constant.{IsBelowEach, ColumnStays, FillStays, FillsStay}
 
 -- ---- the stop
@@ -16,7 +19,8 @@ IsBelowStop h (Some s) = h < s.need
 abbrev cut_before : Step → Cut
 cut_before s = record { before = []; stop = Some s }
 
-cut-cons : (s : Step) (c c' : Cut) (lo h : ℕ) → lo ≤ h → (b : Bool) → nat_lt lo s.need ≡ b → IsBelowStop h (cond b (cut_before s) (longer s c)).stop →
+cut-cons : (s : Step) (c c' : Cut) (lo h : ℕ) → lo ≤ h → (b : Bool) → nat_lt lo s.need ≡ b
+    → IsBelowStop h (cond b (cut_before s) (longer s c)).stop →
     (IsBelowStop h c.stop → c' ≡ c) → cond (nat_lt h s.need) (cut_before s) (longer s c') ≡ cond b (cut_before s) (longer s c)
 cut-cons s c c' lo h le true e below same = rw (lt-ltb h s.need below) refl
 cut-cons s c c' lo h le false e below same = rw (le-ltb h s.need (grind (arith, nat_tests)), same below) refl
@@ -40,7 +44,8 @@ fold-snoc : {A B : Type 0} (f : B → A → B) (b : B) (xs : List A) (x : A) →
 fold-snoc f b [] x = refl
 fold-snoc f b (y ∷ ys) x = fold-snoc f (f b y) ys x
 
-better-same : (b p q : Place) → IsSamePlace p q → IsSamePlace (cond (nat_le p.level b.level) p b) (cond (nat_le q.level b.level) q b)
+better-same : (b p q : Place) → IsSamePlace p q
+    → IsSamePlace (cond (nat_le p.level b.level) p b) (cond (nat_le q.level b.level) q b)
 better-same b p q e = go (nat_le p.level b.level) (nat_le q.level b.level) (ap (λ n. nat_le n b.level) e.level)
   where
     go : (t u : Bool) → u ≡ t → IsSamePlace (cond t p b) (cond u q b)
@@ -49,10 +54,14 @@ better-same b p q e = go (nat_le p.level b.level) (nat_le q.level b.level) (ap (
     go false true k = cc
     go false false k = same_place b
 
-choose-same : (ps : List Place) (p q other other' : Place) → IsSamePlace p q → IsSamePlace (choose (ps ++ p ∷ []) other) (choose (ps ++ q ∷ []) other')
+choose-same : (ps : List Place) (p q other other' : Place) → IsSamePlace p q
+    → IsSamePlace (choose (ps ++ p ∷ []) other) (choose (ps ++ q ∷ []) other')
 choose-same [] p q other other' e = e
 choose-same (b ∷ bs) p q other other' e =
-    rw (fold-snoc (λ (b : Place) (x : Place). cond (nat_le x.level b.level) x b) b bs p, fold-snoc (λ (b : Place) (x : Place). cond (nat_le x.level b.level) x b) b bs q) (better-same (best b bs) p q e)
+    rw (
+      fold-snoc (λ (b : Place) (x : Place). cond (nat_le x.level b.level) x b) b bs p,
+      fold-snoc (λ (b : Place) (x : Place). cond (nat_le x.level b.level) x b) b bs q,
+    ) (better-same (best b bs) p q e)
 
 -- ---- the column at a stop
 
@@ -62,7 +71,8 @@ end-same true false a b e h = cc
 end-same false true a b e h = cc
 end-same false false a b e h = ap Some (h refl)
 
-column_to-stays : (p q : Place) (stop : Option ℕ) (ls ms : List ColumnLine) (bs cs : List ℕ) (us vs : List (ℕ × Token)) → q.overflow ≡ p.overflow → (p.overflow ≡ false → q.end ≡ p.end) →
+column_to-stays : (p q : Place) (stop : Option ℕ) (ls ms : List ColumnLine) (bs cs : List ℕ) (us vs : List (ℕ × Token))
+    → q.overflow ≡ p.overflow → (p.overflow ≡ false → q.end ≡ p.end) →
     (p.overflow ≡ false → q.level ≡ p.level) → ms ≡ ls → ColumnStays (column_to p stop ls bs us) (column_to q stop ms cs vs)
 column_to-stays p q stop ls ms bs cs us vs o e l m = record {
   lines = rw (end-same p.overflow q.overflow p.end q.end o e, m) refl;
@@ -101,10 +111,13 @@ choose-inside ps false false p q o o' e h k = alike _ _ (choose-same ps p q o o'
 -- the column at the stop s, by what the tests of its room say
 abbrev stopped_by : Bool → ℕ → List Step → Step → Filled → (cuts high : Bool) → List ℕ → List (ℕ × Token) → Column
 stopped_by avoids h before s f cuts high bounds uses =
-    column_to (choose (seams_between (before ++ s ∷ []) ++ cond (cuts && not f.overflow) (inside_place avoids s (room s h) f ∷ []) []) (cond high (overflowing (inside_place avoids s (room s h) f)) (whole_place s)))
+    column_to
+    (choose (seams_between (before ++ s ∷ []) ++ cond (cuts && not f.overflow) (inside_place avoids s (room s h) f ∷ []) [])
+    (cond high (overflowing (inside_place avoids s (room s h) f)) (whole_place s)))
     (Some s.item) (cond cuts (map deeper f.lines) []) bounds uses
 
-inside-same : (avoids : Bool) (s : Step) (lo h : ℕ) (f g : Filled) → f.overflow ≡ false → FillStays f g → IsSamePlace (inside_place avoids s (room s lo) f) (inside_place avoids s (room s h) g)
+inside-same : (avoids : Bool) (s : Step) (lo h : ℕ) (f g : Filled) → f.overflow ≡ false → FillStays f g
+    → IsSamePlace (inside_place avoids s (room s lo) f) (inside_place avoids s (room s h) g)
 inside-same avoids s lo h f g none e = record {
   level = rw (e.level none) refl;
   end = rw (e.at_end none, e.end none) refl;
@@ -112,27 +125,36 @@ inside-same avoids s lo h f g none e = record {
 }
 
 -- the stop is cut at both heights
-cut-stay : (avoids : Bool) (lo h : ℕ) (before : List Step) (s : Step) (f g : Filled) (c c' w w' : Bool) (bs cs : List ℕ) (us vs : List (ℕ × Token)) → c ≡ true → c' ≡ true → w ≡ true → w' ≡ true → FillStays f g →
+cut-stay : (avoids : Bool) (lo h : ℕ) (before : List Step) (s : Step) (f g : Filled) (c c' w w' : Bool) (bs cs : List ℕ)
+    (us vs : List (ℕ × Token)) → c ≡ true → c' ≡ true → w ≡ true → w' ≡ true → FillStays f g →
     ColumnStays (stopped_by avoids lo before s f c w bs us) (stopped_by avoids h before s g c' w' cs vs)
 cut-stay avoids lo h before s f g true true true true bs cs us vs _ _ _ _ e =
-    let k = choose-inside (seams_between (before ++ s ∷ [])) f.overflow g.overflow (inside_place avoids s (room s lo) f) (inside_place avoids s (room s h) g) (overflowing (inside_place avoids s (room s lo) f)) (overflowing (inside_place avoids s (room s h) g))
-    e.overflow (λ none. inside-same avoids s lo h f g none e) (over-alike (inside_place avoids s (room s lo) f) (inside_place avoids s (room s h) g)) in
-    column_to-stays _ _ (Some s.item) (map deeper f.lines) (map deeper g.lines) bs cs us vs k.overflow k.end k.level (ap (map deeper) e.lines)
+    let k = choose-inside (seams_between (before ++ s ∷ [])) f.overflow g.overflow (inside_place avoids s (room s lo) f)
+    (inside_place avoids s (room s h) g) (overflowing (inside_place avoids s (room s lo) f))
+    (overflowing (inside_place avoids s (room s h) g))
+    e.overflow (λ none. inside-same avoids s lo h f g none e)
+    (over-alike (inside_place avoids s (room s lo) f) (inside_place avoids s (room s h) g)) in
+    column_to-stays _ _ (Some s.item) (map deeper f.lines) (map deeper g.lines) bs cs us vs k.overflow k.end k.level
+    (ap (map deeper) e.lines)
 cut-stay avoids lo h before s f g false c' w w' bs cs us vs x y z t e = cc
 cut-stay avoids lo h before s f g true false w w' bs cs us vs x y z t e = cc
 cut-stay avoids lo h before s f g true true false w' bs cs us vs x y z t e = cc
 cut-stay avoids lo h before s f g true true true false bs cs us vs x y z t e = cc
 
 -- it is cut at neither
-uncut-stay : (avoids : Bool) (lo h : ℕ) (before : List Step) (s : Step) (f g : Filled) (c c' w w' : Bool) (bs cs : List ℕ) (us vs : List (ℕ × Token)) → c ≡ false → c' ≡ false → w' ≡ w →
+uncut-stay : (avoids : Bool) (lo h : ℕ) (before : List Step) (s : Step) (f g : Filled) (c c' w w' : Bool) (bs cs : List ℕ)
+    (us vs : List (ℕ × Token)) → c ≡ false → c' ≡ false → w' ≡ w →
     ColumnStays (stopped_by avoids lo before s f c w bs us) (stopped_by avoids h before s g c' w' cs vs)
 uncut-stay avoids lo h before s f g true c' w w' bs cs us vs x y z = cc
 uncut-stay avoids lo h before s f g false true w w' bs cs us vs x y z = cc
 uncut-stay avoids lo h before s f g false false w w' bs cs us vs x y z =
-    let k = choose-alike (seams_between (before ++ s ∷ [])) (cond w (overflowing (inside_place avoids s (room s lo) f)) (whole_place s)) (cond w' (overflowing (inside_place avoids s (room s h) g)) (whole_place s)) (go w w' z) in
+    let k = choose-alike (seams_between (before ++ s ∷ []))
+    (cond w (overflowing (inside_place avoids s (room s lo) f)) (whole_place s))
+    (cond w' (overflowing (inside_place avoids s (room s h) g)) (whole_place s)) (go w w' z) in
     column_to-stays _ _ (Some s.item) [] [] bs cs us vs k.overflow k.end k.level refl
   where
-    go : (w w' : Bool) → w' ≡ w → IsAlike (cond w (overflowing (inside_place avoids s (room s lo) f)) (whole_place s)) (cond w' (overflowing (inside_place avoids s (room s h) g)) (whole_place s))
+    go : (w w' : Bool) → w' ≡ w → IsAlike (cond w (overflowing (inside_place avoids s (room s lo) f)) (whole_place s))
+        (cond w' (overflowing (inside_place avoids s (room s h) g)) (whole_place s))
     go true true z = over-alike (inside_place avoids s (room s lo) f) (inside_place avoids s (room s h) g)
     go true false z = cc
     go false true z = cc
@@ -163,7 +185,8 @@ cut-room s h e = grind (arith, nat_tests)
 pub above-place : (s : Step) (h : ℕ) → (nat_lt 0 s.height && nat_lt h (s.y + s.bottoms)) ≡ true → h < s.y + s.bottoms
 above-place s h e = grind (arith, nat_tests)
 
-fits-whole : (s : Step) (h : ℕ) → is_cut s h ≡ false → (nat_lt 0 s.height && nat_lt h (s.y + s.bottoms)) ≡ false → s.height ≤ room s h
+fits-whole : (s : Step) (h : ℕ) → is_cut s h ≡ false → (nat_lt 0 s.height && nat_lt h (s.y + s.bottoms)) ≡ false
+    → s.height ≤ room s h
 fits-whole s h e z = grind (arith, nat_tests)
 
 uncut-above : (s : Step) (h : ℕ) → h < s.y + s.bottoms → is_cut s h ≡ false
@@ -175,48 +198,63 @@ uncut-whole s h small = grind (arith, nat_tests)
 no-room : (s : Step) (h : ℕ) → h < s.y + s.bottoms → room s h ≡ 0
 no-room s h low = omega arith
 
-stop-stays : (inner : Inner) (law : FillsStay inner) (avoids : Bool) (lo h : ℕ) (before : List Step) (s : Step) (r : ℕ) (q : Token) → lo ≤ h →
+stop-stays : (inner : Inner) (law : FillsStay inner) (avoids : Bool) (lo h : ℕ) (before : List Step) (s : Step) (r : ℕ)
+    (q : Token) → lo ≤ h →
     (t : Bool) → is_cut s lo ≡ t → (z : Bool) → (nat_lt 0 s.height && nat_lt lo (s.y + s.bottoms)) ≡ z →
-    IsBelowEach h (cond z ((s.y + s.bottoms) ∷ []) [] ++ cond t ((s.y + s.bottoms + s.height) ∷ map (λ b. s.y + s.bottoms + b) (inner.fill r q (room s lo)).bounds) []) →
-    ColumnStays (stopped avoids lo before s (Some (inner.fill r q (room s lo)))) (stopped avoids h before s (Some (inner.fill r q (room s h))))
+    IsBelowEach h (cond z ((s.y + s.bottoms) ∷ []) [] ++ cond t
+    ((s.y + s.bottoms + s.height) ∷ map (λ b. s.y + s.bottoms + b) (inner.fill r q (room s lo)).bounds) []) →
+    ColumnStays (stopped avoids lo before s (Some (inner.fill r q (room s lo))))
+    (stopped avoids h before s (Some (inner.fill r q (room s h))))
 stop-stays inner law avoids lo h before s r q le true e z ez b =
     let k = (IsBelowEach-append h (cond z ((s.y + s.bottoms) ∷ []) []) _ b).1 in
     let top : h < s.y + s.bottoms + s.height = k.0 in
     let from : s.y + s.bottoms ≤ lo = cut-from s lo e in
     let left : room s lo < s.height = cut-room s lo e in
     let now : is_cut s h ≡ true = cuts-at s h (omega arith) (omega arith) in
-    let inner_below : IsBelowEach (room s h) (inner.fill r q (room s lo)).bounds = rw (room-is s h) (below-shifted h (s.y + s.bottoms) (inner.fill r q (room s lo)).bounds (omega arith) k.1) in
-    cut-stay avoids lo h before s (inner.fill r q (room s lo)) (inner.fill r q (room s h)) (is_cut s lo) (is_cut s h) (nat_lt (room s lo) s.height) (nat_lt (room s h) s.height)
+    let inner_below : IsBelowEach (room s h) (inner.fill r q (room s lo)).bounds =
+    rw (room-is s h) (below-shifted h (s.y + s.bottoms) (inner.fill r q (room s lo)).bounds (omega arith) k.1) in
+    cut-stay avoids lo h before s (inner.fill r q (room s lo)) (inner.fill r q (room s h)) (is_cut s lo) (is_cut s h)
+    (nat_lt (room s lo) s.height) (nat_lt (room s h) s.height)
     _ _ _ _ e now (lt-ltb _ _ left) (lt-ltb _ _ (omega arith))
     (law r q (room s lo) (room s h) (omega arith) inner_below)
 stop-stays inner law avoids lo h before s r q le false e true ez b =
     let low : lo < s.y + s.bottoms = above-place s lo ez in
     let top : h < s.y + s.bottoms = b.0 in
-    uncut-stay avoids lo h before s (inner.fill r q (room s lo)) (inner.fill r q (room s h)) (is_cut s lo) (is_cut s h) (nat_lt (room s lo) s.height) (nat_lt (room s h) s.height)
+    uncut-stay avoids lo h before s (inner.fill r q (room s lo)) (inner.fill r q (room s h)) (is_cut s lo) (is_cut s h)
+    (nat_lt (room s lo) s.height) (nat_lt (room s h) s.height)
     _ _ _ _ e (uncut-above s h top) (ap (λ n. nat_lt n s.height) (no-room s h top ∙ sym (no-room s lo low)))
 stop-stays inner law avoids lo h before s r q le false e false ez b =
     let small : s.height ≤ room s lo = fits-whole s lo e ez in
     let wider : room s lo ≤ room s h = omega arith in
-    uncut-stay avoids lo h before s (inner.fill r q (room s lo)) (inner.fill r q (room s h)) (is_cut s lo) (is_cut s h) (nat_lt (room s lo) s.height) (nat_lt (room s h) s.height)
+    uncut-stay avoids lo h before s (inner.fill r q (room s lo)) (inner.fill r q (room s h)) (is_cut s lo) (is_cut s h)
+    (nat_lt (room s lo) s.height) (nat_lt (room s h) s.height)
     _ _ _ _ e (uncut-whole s h (omega arith)) (le-ltb _ _ (omega arith) ∙ sym (le-ltb _ _ small))
 
-row-stays : (inner : Inner) (law : FillsStay inner) (avoids : Bool) (lo h : ℕ) (before : List Step) (s : Step) → lo ≤ h → (row : Option (ℕ × Token)) →
-    IsBelowEach h (bounds_at s lo (fill_in_room inner row (room s lo))) → ColumnStays (stopped avoids lo before s (fill_in_room inner row (room s lo))) (stopped avoids h before s (fill_in_room inner row (room s h)))
+row-stays : (inner : Inner) (law : FillsStay inner) (avoids : Bool) (lo h : ℕ) (before : List Step) (s : Step) → lo ≤ h
+    → (row : Option (ℕ × Token)) →
+    IsBelowEach h (bounds_at s lo (fill_in_room inner row (room s lo)))
+    → ColumnStays (stopped avoids lo before s (fill_in_room inner row (room s lo)))
+    (stopped avoids h before s (fill_in_room inner row (room s h)))
 row-stays inner law avoids lo h before s le None b = record { lines = refl; overflow = refl; end = λ _. refl; level = λ _. refl }
-row-stays inner law avoids lo h before s le (Some p) b = stop-stays inner law avoids lo h before s p.0 p.1 le (is_cut s lo) refl (nat_lt 0 s.height && nat_lt lo (s.y + s.bottoms)) refl b.1
+row-stays inner law avoids lo h before s le (Some p) b = stop-stays inner law avoids lo h before s p.0 p.1 le (is_cut s lo) refl
+    (nat_lt 0 s.height && nat_lt lo (s.y + s.bottoms)) refl b.1
 
 below-need : (s : Step) (lo h : ℕ) (filled : Option Filled) → IsBelowEach h (bounds_at s lo filled) → h < s.need
 below-need s lo h None b = b.0
 below-need s lo h (Some f) b = b.0
 
-up_to-stays : (inner : Inner) (law : FillsStay inner) (avoids : ℕ → Bool) (lo h : ℕ) → lo ≤ h → (before : List Step) (stop : Option Step) →
-    IsBelowEach h (column_up_to inner avoids lo before stop).bounds → IsBelowStop h stop × ColumnStays (column_up_to inner avoids lo before stop) (column_up_to inner avoids h before stop)
-up_to-stays inner law avoids lo h le before None b = (tt, record { lines = refl; overflow = refl; end = λ _. refl; level = λ _. refl })
+up_to-stays : (inner : Inner) (law : FillsStay inner) (avoids : ℕ → Bool) (lo h : ℕ) → lo ≤ h
+    → (before : List Step) (stop : Option Step) →
+    IsBelowEach h (column_up_to inner avoids lo before stop).bounds
+    → IsBelowStop h stop × ColumnStays (column_up_to inner avoids lo before stop) (column_up_to inner avoids h before stop)
+up_to-stays inner law avoids lo h le before None b =
+    (tt, record { lines = refl; overflow = refl; end = λ _. refl; level = λ _. refl })
 up_to-stays inner law avoids lo h le before (Some s) b =
     (below-need s lo h (fill_in_room inner s.row (room s lo)) b, row-stays inner law (avoids s.item) lo h before s le s.row b)
 
 -- a column stays from lo up to its least bound, where the fills within do
-pub over-stays : (inner : Inner) (law : FillsStay inner) (avoids : ℕ → Bool) (lo h : ℕ) (ss : List Step) → lo ≤ h → IsBelowEach h (column_over inner avoids lo ss).bounds →
+pub over-stays : (inner : Inner) (law : FillsStay inner) (avoids : ℕ → Bool) (lo h : ℕ) (ss : List Step) → lo ≤ h
+    → IsBelowEach h (column_over inner avoids lo ss).bounds →
     ColumnStays (column_over inner avoids lo ss) (column_over inner avoids h ss)
 over-stays inner law avoids lo h ss le b =
     let k = up_to-stays inner law avoids lo h le (cut lo ss).before (cut lo ss).stop b in

@@ -1,5 +1,5 @@
--- Needs never fall from item to item, and all that is computed on a sound flow stays small (this project's own: the data is below 2^60
--- in all).
+-- Needs never fall from item to item, and all that is computed on a sound flow stays small (this project's own: the data is below
+-- 2^60 in all).
 use Rattle.std.specs.Prelude.{ℕ, ◌+◌, ◌<◌, ◌≤◌, ◌^◌, List, [], ◌∷◌, length, Option}
 use Rattle.flow_list.specs.Data.{FlowsData}
 use Rattle.flow_data.specs.Flows.{flow_in}
@@ -27,4 +27,5 @@ pub record NeedsAndBounds (d : FlowsData) (r : ℕ) : Type 0 where
   pub loose_needs_are_small : (k : ℕ) → k < length (flow_in d r).items → loose_need (all_rows d) d (flow_in d r) k < 2 ^ 60
   pub sizes_are_small : (q : Token) → size_of d r q < 2 ^ 60
   -- how far a column reaches, at a height or without end
-  pub extents_are_small : (t : Token) (h : Option ℕ) → IsPlaceBefore d (flow_in d r) t → (column_within d (flow_in d r) h t).extent < 2 ^ 60
+  pub extents_are_small : (t : Token) (h : Option ℕ) → IsPlaceBefore d (flow_in d r) t
+      → (column_within d (flow_in d r) h t).extent < 2 ^ 60

@@ -36,7 +36,8 @@ ColumnsStay (a ∷ as_) (b ∷ bs) = ColumnStays a b × ColumnsStay as_ bs
 
 -- what the rows that stand in a flow make of a height stays up to the least bound
 abbrev pub FillsStay : Inner → Type 0
-FillsStay inner = (r : ℕ) (q : Token) (lo h : ℕ) → lo ≤ h → IsBelowEach h (inner.fill r q lo).bounds → FillStays (inner.fill r q lo) (inner.fill r q h)
+FillsStay inner = (r : ℕ) (q : Token) (lo h : ℕ) → lo ≤ h → IsBelowEach h (inner.fill r q lo).bounds
+    → FillStays (inner.fill r q lo) (inner.fill r q h)
 
 -- The law, for rows of which any number stand one inside another.
 pub record BreaksAreConstant (d : FlowsData) (depth : ℕ) : Type 0 where
@@ -46,7 +47,8 @@ pub record BreaksAreConstant (d : FlowsData) (depth : ℕ) : Type 0 where
   -- whose bounds are all above its height
   pub bounds_are_above : (f : Flow) (t : Token) (h : ℕ) → IsBelowEach h (column (rows_to d depth) d f t h).bounds
   -- of what the first n columns from a place on are together, or all of them
-  pub folds_stay : (f : Flow) (n : ℕ) (q : Token) (lo h : ℕ) → lo ≤ h → IsBelowEach h (filled_by f q (columns (rows_to d depth) d f n q lo)).bounds →
+  pub folds_stay : (f : Flow) (n : ℕ) (q : Token) (lo h : ℕ) → lo ≤ h
+      → IsBelowEach h (filled_by f q (columns (rows_to d depth) d f n q lo)).bounds →
       FillStays (filled_by f q (columns (rows_to d depth) d f n q lo)) (filled_by f q (columns (rows_to d depth) d f n q h))
   -- so of what a row makes of a height
   pub fills_stay : FillsStay (rows_to d depth)

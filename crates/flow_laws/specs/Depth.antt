@@ -17,7 +17,11 @@ pub record ToldAlike (a b : Inner) (r : ℕ) : Type 0 where
 -- all rows is what their own flows give.
 pub record DepthChangesNothing (d : FlowsData) : Type 0 where
   pub told_alike : (n r a b : ℕ) → NestsAtMost d n r → n ≤ a → n ≤ b → ToldAlike (rows_to d a) (rows_to d b) r
-  pub all_rows_size : (n r : ℕ) (q : Token) → NestsAtMost d n r → n ≤ length d.rows → (all_rows d).size r q ≡ size_in (all_rows d) d r q
-  pub all_rows_fill : (n r : ℕ) (q : Token) (h : ℕ) → NestsAtMost d n r → n ≤ length d.rows → (all_rows d).fill r q h ≡ fill_in (all_rows d) d r q h
-  -- in sound data no more rows stand one inside another than there are, so of each the same is told at each depth from their count on
-  pub count_is_deep_enough : IsSound d → (r depth : ℕ) → r < length d.rows → length d.rows ≤ depth → ToldAlike (all_rows d) (rows_to d depth) r
+  pub all_rows_size : (n r : ℕ) (q : Token) → NestsAtMost d n r → n ≤ length d.rows
+      → (all_rows d).size r q ≡ size_in (all_rows d) d r q
+  pub all_rows_fill : (n r : ℕ) (q : Token) (h : ℕ) → NestsAtMost d n r → n ≤ length d.rows
+      → (all_rows d).fill r q h ≡ fill_in (all_rows d) d r q h
+  -- in sound data no more rows stand one inside another than there are, so of each the same is told at each depth from their
+  -- count on
+  pub count_is_deep_enough : IsSound d → (r depth : ℕ) → r < length d.rows → length d.rows ≤ depth
+      → ToldAlike (all_rows d) (rows_to d depth) r

@@ -1,6 +1,8 @@
--- What stands in the tree of a column: the content from the place where the column begins to the one where it ends, each item once and in
--- order (CSS Fragmentation 3, section 2: the fragments of a box hold its content, and content doesn't stand in two of them).
-use Rattle.std.specs.Prelude.{◌≡◌, ℕ, suc, ◌+◌, ◌-◌, Option, false, List, [], ◌∷◌, ◌++◌, length, take, drop, flat_map, AllPairs, ◌≢◌}
+-- What stands in the tree of a column: the content from the place where the column begins to the one where it ends, each item
+-- once and in order (CSS Fragmentation 3, section 2: the fragments of a box hold its content, and content doesn't stand in two of
+-- them).
+use Rattle.std.specs.Prelude.{◌≡◌, ℕ, suc, ◌+◌, ◌-◌, Option, false, List, [], ◌∷◌, ◌++◌, length, take, drop, flat_map, AllPairs}
+use Rattle.std.specs.Prelude.{◌≢◌}
 use Rattle.mc_base.specs.PlainTree.{PlainTree, PlainTrees, no_trees, more_trees, plain_trees, atom, piece, row_piece, column}
 use Rattle.flow_list.specs.Data.{Flow, FlowsData, Item, Atom, Row}
 use Rattle.flow_data.specs.Flows.{flow_of, flow_in, stack_of}
@@ -70,7 +72,8 @@ row_of_part (row_part r from) = r ∷ []
 
 -- The law, of row r of sound flows.
 pub record FragmentsHoldEachItem (d : FlowsData) (r : ℕ) : Type 0 where
-  -- the atoms in a column's tree, and those from its end on, are those from its place on, in order: those in rows that are cut too
+  -- the atoms in a column's tree, and those from its end on, are those from its place on, in order: those in rows that are cut
+  -- too
   pub column_atoms : (t : Token) (h : Option ℕ) → IsPlaceBefore d (flow_in d r) t →
       atoms_in_tree r (column_fragment d r h t) ++ atoms_from d r (column_within d (flow_in d r) h t).end ≡ atoms_from d r t
   -- so they are those between the two places
@@ -78,19 +81,26 @@ pub record FragmentsHoldEachItem (d : FlowsData) (r : ℕ) : Type 0 where
       atoms_in_tree r (column_fragment d r h t) ≡ atoms_between d r t (column_within d (flow_in d r) h t).end
   -- so do the trees of any number of columns, each of which begins where the one before it ends
   pub columns_atoms : (n : ℕ) (t : Token) (h : Option ℕ) → IsPlaceBefore d (flow_in d r) t →
-      atoms_in_trees r (plain_trees (fragments_from (column_fragment d r h) t (first_columns d r n t h))) ++ atoms_from d r (end_of t (first_columns d r n t h)) ≡ atoms_from d r t
+      atoms_in_trees r (plain_trees (fragments_from (column_fragment d r h) t (first_columns d r n t h))) ++ atoms_from d r
+      (end_of t (first_columns d r n t h)) ≡ atoms_from d r t
   -- the trees of all columns from the flow's start hold each of its atoms once, in order
-  pub all_atoms : (h : Option ℕ) → atoms_in_trees r (plain_trees (fragments_from (column_fragment d r h) row_start (row_columns d r h))) ≡ atoms_from d r row_start
+  pub all_atoms : (h : Option ℕ)
+      → atoms_in_trees r (plain_trees (fragments_from (column_fragment d r h) row_start (row_columns d r h)))
+      ≡ atoms_from d r row_start
   -- so do the columns of a row that stands whole, at any height
   pub row_atoms : (height : ℕ) (h : Option ℕ) →
-      atoms_in_trees r (plain_trees (row_fragments d (suc (length d.rows)) (record { row = r; from = row_start; height = height; made_at = h; filled = false }))) ≡ atoms_from d r row_start
+      atoms_in_trees r (plain_trees
+      (row_fragments d (suc (length d.rows))
+      (record { row = r; from = row_start; height = height; made_at = h; filled = false })))
+      ≡ atoms_from d r row_start
   -- no two atoms of a row, from a place on, are one
   pub atoms_differ : (t : Token) → AllPairs (λ a b. a ≢ b) (atoms_from d r t)
   -- the items in a column's tree are those from its place to its end, each once and in order, a row that is cut with them
   pub column_parts : (t : Token) (h : Option ℕ) → IsPlaceBefore d (flow_in d r) t →
       parts_in_tree (column_fragment d r h t) ≡ parts_between (flow_in d r) t (column_within d (flow_in d r) h t).end
   -- no row is there twice
-  pub rows_once : (t : Token) (h : Option ℕ) → IsPlaceBefore d (flow_in d r) t → AllPairs (λ a b. a ≢ b) (flat_map row_of_part (parts_in_tree (column_fragment d r h t)))
+  pub rows_once : (t : Token) (h : Option ℕ) → IsPlaceBefore d (flow_in d r) t
+      → AllPairs (λ a b. a ≢ b) (flat_map row_of_part (parts_in_tree (column_fragment d r h t)))
 
 -- The tree of a stack holds each item of its flow once, in order, and each row from its start.
 abbrev pub StackHoldsEachItem : FlowsData → ℕ → Type 0

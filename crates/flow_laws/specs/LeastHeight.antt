@@ -34,4 +34,5 @@ pub record SizesAreLeast (inner : Inner) (d : FlowsData) : Type 0 where
   -- no other height is the least that fits
   pub size_is_unique : (r : ℕ) (q : Token) (h : ℕ) → IsLeast (fits inner d r q) h → h ≡ size_in inner d r q
   -- at the heights, margins, solid amounts and cloned edges all together only forced breaks remain
-  pub only_forced_remain : (f : Flow) (t : Token) (h : ℕ) → item_number t < length f.items → reach inner d f t ≤ h → EndsAtForced f (item_number t) (column inner d f t h)
+  pub only_forced_remain : (f : Flow) (t : Token) (h : ℕ) → item_number t < length f.items → reach inner d f t ≤ h
+      → EndsAtForced f (item_number t) (column inner d f t h)

@@ -1,5 +1,5 @@
--- Columns advance: each ends later than it begins, so they hold the content once as far as they go (CSS Fragmentation 3, section 4.5,
--- asks for progress).
+-- Columns advance: each ends later than it begins, so they hold the content once as far as they go (CSS Fragmentation 3, section
+-- 4.5, asks for progress).
 use Rattle.std.specs.Prelude.{◌≡◌, ℕ, zero, suc, ◌-◌, ◌<◌, ◌≤◌, true, List, [], ◌∷◌, ◌++◌, length, take, drop, Option}
 use Rattle.flow_list.specs.Data.{Flow, FlowsData, Item, Atom, Row}
 use Rattle.flow_data.specs.Flows.{flow_in}
@@ -68,17 +68,20 @@ first_columns d r n t h = columns_by (column_within d (flow_in d r) h) (flow_in 
 -- The law, of sound flows.
 pub record ColumnsAdvance (d : FlowsData) (r : ℕ) : Type 0 where
   -- a column ends later than it begins
-  pub column_advances : (t : Token) (h : Option ℕ) → IsPlaceBefore d (flow_in d r) t → IsLater d r t (column_within d (flow_in d r) h t).end
+  pub column_advances : (t : Token) (h : Option ℕ) → IsPlaceBefore d (flow_in d r) t
+      → IsLater d r t (column_within d (flow_in d r) h t).end
   -- what a row makes of a height leaves a later place
   pub fill_advances : (t : Token) (h : ℕ) → IsPlaceBefore d (flow_in d r) t → IsLater d r t ((all_rows d).fill r t h).end
   -- as many columns as there are items left, or more, reach the end
-  pub columns_end : (n : ℕ) (t : Token) (h : Option ℕ) → IsPlaceBefore d (flow_in d r) t → left_in (all_rows d) (flow_in d r) t ≤ n →
+  pub columns_end : (n : ℕ) (t : Token) (h : Option ℕ) → IsPlaceBefore d (flow_in d r) t
+      → left_in (all_rows d) (flow_in d r) t ≤ n →
       is_end (flow_in d r) (end_of t (first_columns d r n t h)) ≡ true
   -- however many there are, they hold each atom before the place where they end once, in order, those in rows that are cut too
   pub each_once : (n : ℕ) (t : Token) (h : Option ℕ) → IsPlaceBefore d (flow_in d r) t →
       held_by d r t (first_columns d r n t h) ++ atoms_from d r (end_of t (first_columns d r n t h)) ≡ atoms_from d r t
-  -- no atom stands behind the end
+  -- no atom stands after the end
   pub none_behind : (t : Token) → is_end (flow_in d r) t ≡ true → atoms_from d r t ≡ []
   -- so those that reach the end hold them all
-  pub all_held : (n : ℕ) (t : Token) (h : Option ℕ) → IsPlaceBefore d (flow_in d r) t → is_end (flow_in d r) (end_of t (first_columns d r n t h)) ≡ true →
+  pub all_held : (n : ℕ) (t : Token) (h : Option ℕ) → IsPlaceBefore d (flow_in d r) t
+      → is_end (flow_in d r) (end_of t (first_columns d r n t h)) ≡ true →
       held_by d r t (first_columns d r n t h) ≡ atoms_from d r t

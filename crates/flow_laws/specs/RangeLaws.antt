@@ -1,5 +1,5 @@
--- No height of a range fits whose reason holds, and the ranges that are given for a row are such ranges, one after another up to its size
--- (this project's own: CSS Multi-column 1, section 7.1, leaves the height of balanced columns open).
+-- No height of a range fits whose reason holds, and the ranges that are given for a row are such ranges, one after another up to
+-- its size (this project's own: CSS Multi-column 1, section 7.1, leaves the height of balanced columns open).
 use Rattle.std.specs.Prelude.{◌≡◌, ℕ, ◌+◌, ◌<◌, ◌≤◌, min, false, List, [], ◌∷◌, Option, Some, None, All}
 use Rattle.flow_list.specs.Data.{FlowsData}
 use Rattle.flow_list.specs.Tokens.{Token}
@@ -9,7 +9,8 @@ use Rattle.flow_list.specs.Rows.{fits, size_in, all_rows}
 
 -- The law of a range, of row r of sound flows from a place on: where its reason holds, no height in it fits.
 abbrev pub RangesReject : FlowsData → ℕ → Token → Type 0
-RangesReject d r q = (low high h : ℕ) (reason : Reason) → RangeRejects (all_rows d) d r q low high reason → low ≤ h → h < high → fits (all_rows d) d r q h ≡ false
+RangesReject d r q = (low high h : ℕ) (reason : Reason) → RangeRejects (all_rows d) d r q low high reason → low ≤ h → h < high
+    → fits (all_rows d) d r q h ≡ false
 
 -- ---- all ranges of a row
 
@@ -34,7 +35,8 @@ ranged_to (Some available) size = min size (available + 1)
 -- The law of all ranges, of row r of sound flows from a place on where this much is available.
 pub record RangesAccount (d : FlowsData) (r : ℕ) (q : Token) (available : Option ℕ) : Type 0 where
   -- the reason of each range holds, so no height in it fits
-  pub each_rejects : All (λ (x : Range). RangeRejects (all_rows d) d r q x.low x.high x.reason) (ranges (all_rows d) d r q available)
+  pub each_rejects : All (λ (x : Range). RangeRejects (all_rows d) d r q x.low x.high x.reason)
+      (ranges (all_rows d) d r q available)
   -- its lines are those of the columns that its reason speaks of at its least height
   pub each_tells : All (λ (x : Range). x.lines ≡ lines_of (told_of d r q x.low x.reason)) (ranges (all_rows d) d r q available)
   -- one after another they go from 0 up to the size, or up to one above what is available where that is less

@@ -1,5 +1,6 @@
 -- What a flow file within the limits has: its numbers, columns, depth, items and lines are bounded.
-use Rattle.std.proofs.Common.{◌≡◌, ℕ, suc, ◌+◌, ◌^◌, ◌<◌, ◌≤◌, List, [], ◌∷◌, length, ltb, cond, Bool, true, false, Option, Some, None, refl, sym, ap, ◌∙◌, subst, arith}
+use Rattle.std.proofs.Common.{◌≡◌, ℕ, suc, ◌+◌, ◌^◌, ◌<◌, ◌≤◌, List, [], ◌∷◌, length, ltb, cond, Bool, true, false, Option, Some}
+use Rattle.std.proofs.Common.{None, refl, sym, ap, ◌∙◌, subst, arith}
 use Rattle.std.specs.Prelude.{⊤, IfSome}
 use Rattle.std.specs.List.{AllByRecursion}
 use Rattle.std.proofs.lemmas.List.{length-append}
@@ -11,7 +12,9 @@ use Rattle.flow_text.specs.declared.line.Form.TheVariants as forms
 use Rattle.flow_text.specs.Forms.{IsForm}
 use Rattle.flow_text.specs.Text.{IsText}
 use Rattle.flow_text.specs.Grammar.{Rest, no_more, edge, place, atom, row, line, lines_of, FlowFile, content_lines, file_lines}
-use Rattle.flow_text.specs.Limits.{first_above, or_else, numbers, long_in, first_long, columns, wide_in, first_wide, is_deep, items, no_counts, has_crowded_row, or_crowded, or_many, or_deep, or_wide, or_long, limit_passed}
+use Rattle.flow_text.specs.Limits.{first_above, or_else, numbers, long_in, first_long, columns, wide_in, first_wide, is_deep}
+use Rattle.flow_text.specs.Limits.{items, no_counts, has_crowded_row, or_crowded, or_many, or_deep, or_wide, or_long}
+use Rattle.flow_text.specs.Limits.{limit_passed}
 use Rattle.flow_text.specs.TreeLimits.{file_depth, file_items, file_most_inner}
 use Rattle.flow_text.proofs.LimitLaws.{file_deep, file_items_are, file_crowded}
 use Rattle.flow_list.specs.FileFlows.{IsFile, limit_of}
@@ -59,7 +62,8 @@ none_above : (limit : ℕ) (ns : List ℕ) → first_above limit ns ≡ None →
 none_above limit [] h = tt
 none_above limit (n ∷ ns) h = go (ltb limit n) refl h (none_above limit ns)
   where
-    go : (b : Bool) → ltb limit n ≡ b → cond b (Some n) (first_above limit ns) ≡ None → (first_above limit ns ≡ None → AllByRecursion (λ n. n ≤ limit) ns) → AllByRecursion (λ n. n ≤ limit) (n ∷ ns)
+    go : (b : Bool) → ltb limit n ≡ b → cond b (Some n) (first_above limit ns) ≡ None
+        → (first_above limit ns ≡ None → AllByRecursion (λ n. n ≤ limit) ns) → AllByRecursion (λ n. n ≤ limit) (n ∷ ns)
     go true e h rest = absurd cc
     go false e h rest = (ltb-false limit n e, rest h)
 
@@ -72,12 +76,15 @@ some_columns (forms.First n w step available auto) text h = (h.0, tt)
 some_columns (forms.Row n w step x) text h = (h.0, tt)
 some_columns _ text h = tt
 
-pub low_lines : (lines : List Line) (at : ℕ) (text : List ℕ) → IsText at lines text → first_long lines ≡ None → first_wide lines ≡ None → AreLowLines lines
+pub low_lines : (lines : List Line) (at : ℕ) (text : List ℕ) → IsText at lines text → first_long lines ≡ None
+    → first_wide lines ≡ None → AreLowLines lines
 low_lines [] at text h long wide = tt
 low_lines (l ∷ lines) at text h long wide =
     let longs = neither (long_in l.form) (first_long lines) long in
-    let wides = neither (wide_in l.form) (first_wide lines) wide in
-    ((none_above (2 ^ 24) (numbers l.form) longs.0, none_above 32 (columns l.form) wides.0, some_columns l.form h.1 h.3), low_lines lines (at + length h.1 + 1) h.2 h.5 longs.1 wides.1)
+    let wides = neither (wide_in l.form) (first_wide lines) wide in (
+      (none_above (2 ^ 24) (numbers l.form) longs.0, none_above 32 (columns l.form) wides.0, some_columns l.form h.1 h.3),
+      low_lines lines (at + length h.1 + 1) h.2 h.5 longs.1 wides.1,
+    )
 
 pub line_count : (lines : List Line) (at : ℕ) (text : List ℕ) → IsText at lines text → length lines ≤ length text
 line_count [] at text h = omega arith
@@ -101,11 +108,13 @@ low_content : (content : Option Rest) (after : List Line) → AreLowLines (conte
 low_content None after h = tt
 low_content (Some r) after h = (low_rest r after h).0
 
-low_available : (n w step : ℕ) (available : Option ℕ) (auto : Bool) → IsLowForm (forms.First n w step available auto) → IfSome available (λ a. a ≤ 2 ^ 24)
+low_available : (n w step : ℕ) (available : Option ℕ) (auto : Bool) → IsLowForm (forms.First n w step available auto)
+    → IfSome available (λ a. a ≤ 2 ^ 24)
 low_available n w step None auto h = tt
 low_available n w step (Some a) auto h = h.0.1.1.1.0
 
-low_w : (n w step : ℕ) (available : Option ℕ) (auto : Bool) → IsLowForm (forms.First n w step available auto) → (w ≤ 2 ^ 24) × (step ≤ 2 ^ 24)
+low_w : (n w step : ℕ) (available : Option ℕ) (auto : Bool) → IsLowForm (forms.First n w step available auto)
+    → (w ≤ 2 ^ 24) × (step ≤ 2 ^ 24)
 low_w n w step None auto h = (h.0.1.0, h.0.1.1.0)
 low_w n w step (Some a) auto h = (h.0.1.0, h.0.1.1.0)
 
@@ -152,7 +161,8 @@ passes_none lines h =
     let e = not_many (items lines) (or_crowded (has_crowded_row no_counts lines)) c.1 in
     record { long = a.0; wide = b.0; deep = c.0; many = e.0; crowded = not_crowded (has_crowded_row no_counts lines) e.1 }
 
-within : (text : List ℕ) (file : FlowFile) → IsText 0 (file_lines file) text → AreLowLines (file_lines file) → file_depth file ≤ 3 → file_items file ≤ 100000 → file_most_inner file ≤ 2000 → IsWithinLimits text file
+within : (text : List ℕ) (file : FlowFile) → IsText 0 (file_lines file) text → AreLowLines (file_lines file) → file_depth file ≤ 3
+    → file_items file ≤ 100000 → file_most_inner file ≤ 2000 → IsWithinLimits text file
 within text file spelled low deep many inner =
     let first = low.1.0 in
     let sizes = low_w file.n file.w file.step file.available file.auto first in

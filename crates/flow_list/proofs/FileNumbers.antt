@@ -14,7 +14,8 @@ use Rattle.flow_data.proofs.Counts.{count-append, times_in, times-cons, in_parts
 abbrev pub own_rows : ℕ → Rest → List ℕ
 own_rows k rest = flat_map row_in (items_from k rest)
 
-pub count-rows_in : (j : ℕ) (rest : Rest) (k : ℕ) → count_of j (own_rows k rest) + count_of j (flat_map rows_in (flows_from k rest)) ≡ times_in j k (row_count rest)
+pub count-rows_in : (j : ℕ) (rest : Rest) (k : ℕ)
+    → count_of j (own_rows k rest) + count_of j (flat_map rows_in (flows_from k rest)) ≡ times_in j k (row_count rest)
 count-rows_in j no_more k = omega arith
 count-rows_in j (edge l rest) k = count-rows_in j rest k
 count-rows_in j (place at level rest) k = count-rows_in j rest k
@@ -26,7 +27,8 @@ count-rows_in j (row at n w step x content ended rest) k =
     let first = times-cons j k (own_rows next rest) in
     let f1 = flat_map rows_in (flows_from (suc k) content) in
     let f2 = flat_map rows_in (flows_from next rest) in
-    let split : count_of j (flat_map rows_in (flows_from (suc k) content ++ flows_from next rest)) ≡ count_of j f1 + count_of j f2 =
+    let split : count_of j (flat_map rows_in (flows_from (suc k) content ++ flows_from next rest))
+    ≡ count_of j f1 + count_of j f2 =
     ap (count_of j) (flat_map-append rows_in (flows_from (suc k) content) (flows_from next rest)) ∙ count-append j f1 f2 in
     let all = count-append j (own_rows (suc k) content) (flat_map rows_in (flows_from (suc k) content ++ flows_from next rest)) in
     let parts = in_parts j k (row_count content) (row_count rest) in
@@ -35,7 +37,8 @@ count-rows_in j (row at n w step x content ended rest) k =
 abbrev pub flow_numbers : List RowInfo → List ℕ
 flow_numbers rows = map (λ (r : RowInfo). r.flow) rows
 
-pub count-flow_numbers : (j : ℕ) (rest : Rest) (k : ℕ) → count_of j (flow_numbers (rows_from k rest)) ≡ times_in j (suc k) (row_count rest)
+pub count-flow_numbers : (j : ℕ) (rest : Rest) (k : ℕ)
+    → count_of j (flow_numbers (rows_from k rest)) ≡ times_in j (suc k) (row_count rest)
 count-flow_numbers j no_more k = omega arith
 count-flow_numbers j (edge l rest) k = count-flow_numbers j rest k
 count-flow_numbers j (place at level rest) k = count-flow_numbers j rest k
@@ -44,7 +47,8 @@ count-flow_numbers j (row at n w step x content ended rest) k =
     let next = suc k + row_count content in
     let inside = count-flow_numbers j content (suc k) in
     let place : suc next ≡ suc (suc k) + row_count content = omega arith in
-    let behind = subst (λ (m : ℕ). count_of j (flow_numbers (rows_from next rest)) ≡ times_in j m (row_count rest)) place (count-flow_numbers j rest next) in
+    let behind = subst (λ (m : ℕ). count_of j (flow_numbers (rows_from next rest)) ≡ times_in j m (row_count rest)) place
+    (count-flow_numbers j rest next) in
     let r1 = rows_from (suc k) content in
     let r2 = rows_from next rest in
     let first = times-cons j (suc k) (flow_numbers (r1 ++ r2)) in

@@ -1,5 +1,6 @@
 -- Where the rows and flows of a flow file stand in its data: row k has flow k + 1, and each row stands before those within it.
-use Rattle.std.proofs.Common.{◌≡◌, ℕ, suc, ◌+◌, ◌<◌, ◌≤◌, false, List, ◌∷◌, ◌++◌, length, drop, refl, sym, ◌∙◌, subst, arith, inl, inr, ◌⊎◌}
+use Rattle.std.proofs.Common.{◌≡◌, ℕ, suc, ◌+◌, ◌<◌, ◌≤◌, false, List, ◌∷◌, ◌++◌, length, drop, refl, sym, ◌∙◌, subst, arith, inl}
+use Rattle.std.proofs.Common.{inr, ◌⊎◌}
 use Rattle.std.specs.Prelude.{⊤}
 use Rattle.std.proofs.lemmas.Bool.{cases_lt, cases_eq}
 use Rattle.std.proofs.lemmas.List.{length-append, append_assoc}
@@ -79,7 +80,8 @@ box-lines no_more = omega arith
 box-lines (edge l rest) = omega (arith, box-lines rest, one_box l.form, length-append (line_boxes l.form) (boxes_from rest))
 box-lines (place at level rest) = omega (arith, box-lines rest)
 box-lines (atom at height rest) = omega (arith, box-lines rest)
-box-lines (row at n w step x content ended rest) = omega (arith, box-lines content, box-lines rest, length-append (boxes_from content) (boxes_from rest))
+box-lines (row at n w step x content ended rest) =
+    omega (arith, box-lines content, box-lines rest, length-append (boxes_from content) (boxes_from rest))
 
 -- ---- where they stand
 
@@ -108,10 +110,13 @@ are_placed d (row at n w step x content ended rest) k fs rs flows rows =
     let f2 = flows_from next rest in
     let r1 = rows_from (suc k) content in
     let r2 = rows_from next rest in
-    let inner_flows : drop (suc (suc k)) d.flows ≡ f1 ++ (f2 ++ fs) = behind_first d.flows ((f1 ++ f2) ++ fs) (suc k) (row_flow (suc k) content) flows ∙ append_assoc f1 f2 fs in
-    let inner_rows : drop (suc k) d.rows ≡ r1 ++ (r2 ++ rs) = behind_first d.rows ((r1 ++ r2) ++ rs) k here rows ∙ append_assoc r1 r2 rs in
+    let inner_flows : drop (suc (suc k)) d.flows ≡ f1 ++ (f2 ++ fs) =
+    behind_first d.flows ((f1 ++ f2) ++ fs) (suc k) (row_flow (suc k) content) flows ∙ append_assoc f1 f2 fs in
+    let inner_rows : drop (suc k) d.rows ≡ r1 ++ (r2 ++ rs) = behind_first d.rows ((r1 ++ r2) ++ rs) k here rows
+    ∙ append_assoc r1 r2 rs in
     let flow_at : suc (suc k) + row_count content ≡ suc next = omega arith in
-    let next_flows = subst (λ (i : ℕ). drop i d.flows ≡ f2 ++ fs) flow_at (behind_front d.flows f1 (f2 ++ fs) (suc (suc k)) (row_count content) (length-flows content (suc k)) inner_flows) in
+    let next_flows = subst (λ (i : ℕ). drop i d.flows ≡ f2 ++ fs) flow_at
+    (behind_front d.flows f1 (f2 ++ fs) (suc (suc k)) (row_count content) (length-flows content (suc k)) inner_flows) in
     let next_rows = behind_front d.rows r1 (r2 ++ rs) (suc k) (row_count content) (length-rows content (suc k)) inner_rows in (
       first_at d.rows ((r1 ++ r2) ++ rs) k here no_row rows,
       first_at d.flows ((f1 ++ f2) ++ fs) (suc k) (row_flow (suc k) content) no_flow flows,
@@ -134,10 +139,12 @@ for_each P (edge l rest) k j h low high = for_each P rest k j h low high
 for_each P (place at level rest) k j h low high = for_each P rest k j h low high
 for_each P (atom at height rest) k j h low high = for_each P rest k j h low high
 for_each P (row at n w step x content ended rest) k j h low high =
-    by_place (cases_eq j k) (cases_lt j (suc k + row_count content)) (λ lo hi. for_each P content (suc k) j h.1 lo hi) (λ lo hi. for_each P rest (suc k + row_count content) j h.2 lo hi)
+    by_place (cases_eq j k) (cases_lt j (suc k + row_count content)) (λ lo hi. for_each P content (suc k) j h.1 lo hi)
+    (λ lo hi. for_each P rest (suc k + row_count content) j h.2 lo hi)
   where
     by_place : ((j ≡ k) ⊎ (j ≡ k → ⊥)) → ((j < suc k + row_count content) ⊎ (suc k + row_count content ≤ j))
-        → (suc k ≤ j → j < suc k + row_count content → P j) → (suc k + row_count content ≤ j → j < suc k + row_count content + row_count rest → P j) → P j
+        → (suc k ≤ j → j < suc k + row_count content → P j)
+        → (suc k + row_count content ≤ j → j < suc k + row_count content + row_count rest → P j) → P j
     by_place (inl e) c inside behind = subst P (sym e) h.0
     by_place (inr ne) (inl lt) inside behind = inside (omega arith) lt
     by_place (inr ne) (inr le) inside behind = behind le (omega arith)

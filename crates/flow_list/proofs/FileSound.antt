@@ -1,5 +1,6 @@
 -- The flows that a flow file within the limits says are sound.
-use Rattle.std.proofs.Common.{◌≡◌, ℕ, zero, suc, ◌+◌, ◌-◌, ◌*◌, ◌^◌, ◌<◌, ◌≤◌, Bool, false, List, [], ◌∷◌, ◌++◌, length, Option, Some, None, refl, sym, ap, ◌∙◌, subst, arith, All, sum_by}
+use Rattle.std.proofs.Common.{◌≡◌, ℕ, zero, suc, ◌+◌, ◌-◌, ◌*◌, ◌^◌, ◌<◌, ◌≤◌, Bool, false, List, [], ◌∷◌, ◌++◌, length, Option}
+use Rattle.std.proofs.Common.{Some, None, refl, sym, ap, ◌∙◌, subst, arith, All, sum_by}
 use Rattle.std.specs.Prelude.{flat_map}
 use Rattle.std.proofs.Math.Nat.{mul-le-mul}
 use Rattle.std.proofs.lemmas.List.{append-nil}
@@ -11,18 +12,22 @@ use Rattle.flow_text.specs.Grammar.{Rest, no_more, line, FlowFile, content_lines
 use Rattle.flow_text.specs.TreeLimits.{depth, all_items, most_inner, of_content}
 use Rattle.flow_list.specs.Data.{Bound, BoxInfo, FlowsData, RowInfo, Stack}
 use Rattle.flow_data.specs.Flows.{flow_in, rows_in}
-use Rattle.flow_list.specs.FileFlows.{IsFile, limit_of, flows_of, outer_flow, row_count, row_flow, rows_from, flows_from, boxes_from, bound_of, content_flows, content_rows, content_boxes}
-use Rattle.flow_data.specs.Soundness.{count_of, flow_height, flow_owners, IsSoundFlow, IsSoundRow, IsInnerRow, NestsAtMost, flows_within, IsSoundStack, IsSound}
+use Rattle.flow_list.specs.FileFlows.{IsFile, limit_of, flows_of, outer_flow, row_count, row_flow, rows_from, flows_from}
+use Rattle.flow_list.specs.FileFlows.{boxes_from, bound_of, content_flows, content_rows, content_boxes}
+use Rattle.flow_data.specs.Soundness.{count_of, flow_height, flow_owners, IsSoundFlow, IsSoundRow, IsInnerRow, NestsAtMost}
+use Rattle.flow_data.specs.Soundness.{flows_within, IsSoundStack, IsSound}
 use Rattle.flow_data.proofs.Counts.{count-append, times_in, times-cons}
 use Rattle.flow_list.proofs.OuterFlow.{outer_sound, each_of_one}
 use Rattle.flow_list.proofs.FileFlowSound.{content_flows_all}
 use Rattle.flow_list.proofs.FileLimits.{IsLow, IsLowContent, IsWithinLimits, file_within_limits}
 use Rattle.flow_list.proofs.FileFlowSound.{content_flows_all}
-use Rattle.flow_list.proofs.FilePlaces.{length-flows, length-rows, line_total, length-lines, row-lines, box-lines, ArePlaced, are_placed, ForRows, for_each}
+use Rattle.flow_list.proofs.FilePlaces.{length-flows, length-rows, line_total, length-lines, row-lines, box-lines, ArePlaced}
+use Rattle.flow_list.proofs.FilePlaces.{are_placed, ForRows, for_each}
 use Rattle.flow_list.proofs.FileNumbers.{own_rows, count-rows_in, flow_numbers, count-flow_numbers}
 use Rattle.flow_list.proofs.FileNests.{length-items, nests, all_nest, HaveItems, have_items, inner, all_inner}
 use Rattle.flow_list.proofs.FileSums.{items_of, sum-items, IsLowBox, low_boxes, flow-heights}
-use Rattle.flow_list.proofs.FileAcross.{IsPlainFlow, outer_plain, all_plain, no_stacks_named, no_stacks_within, IsNearRow, near_rows, sound_rows, across}
+use Rattle.flow_list.proofs.FileAcross.{IsPlainFlow, outer_plain, all_plain, no_stacks_named, no_stacks_within, IsNearRow}
+use Rattle.flow_list.proofs.FileAcross.{near_rows, sound_rows, across}
 
 -- ---- the data, with what stands in the first row as one rest, which may be empty
 
@@ -63,7 +68,8 @@ record IsSmall (f : First) (rest : Rest) : Type 0 where
   line_limit : line_total rest ≤ 2 ^ 28
 
 placed : (f : First) (rest : Rest) → ArePlaced (data_of f rest) 1 rest
-placed f rest = are_placed (data_of f rest) rest 1 [] [] (sym (append-nil (flows_from 1 rest))) (sym (append-nil (rows_from 1 rest)))
+placed f rest = are_placed (data_of f rest) rest 1 [] [] (sym (append-nil (flows_from 1 rest)))
+    (sym (append-nil (rows_from 1 rest)))
 
 each_row : (P : ℕ → Type 0) (rest : Rest) → P 0 → ForRows P 1 rest → (j : ℕ) → j < suc (row_count rest) → P j
 each_row P rest first others zero lt = first
@@ -77,7 +83,8 @@ row_once j n lt = omega arith
 flow_once : (j n : ℕ) → j < suc (suc n) → times_in j 1 1 + (times_in j 2 n + times_in j 0 1) ≡ 1
 flow_once j n lt = omega arith
 
-row_belongs : (f : First) (rest : Rest) (j : ℕ) → j < suc (row_count rest) → count_of j (flat_map rows_in (data_of f rest).flows) ≡ 1
+row_belongs : (f : First) (rest : Rest) (j : ℕ) → j < suc (row_count rest)
+    → count_of j (flat_map rows_in (data_of f rest).flows) ≡ 1
 row_belongs f rest j lt =
     let inner = flat_map rows_in (flows_from 1 rest) in
     times-cons j 0 (own_rows 1 rest ++ inner)
@@ -100,7 +107,8 @@ flow_belongs f rest j lt =
 
 -- ---- the whole
 
-stack_sound : (f : First) (rest : Rest) → f.stack_w < 2 ^ 60 → All IsPlainFlow (data_of f rest).flows → IsSoundStack (data_of f rest) 0
+stack_sound : (f : First) (rest : Rest) → f.stack_w < 2 ^ 60 → All IsPlainFlow (data_of f rest).flows
+    → IsSoundStack (data_of f rest) 0
 stack_sound f rest limit plain =
     let d = data_of f rest in
     let within = flows_within d 3 0 in
@@ -122,7 +130,8 @@ first_row_sound f rest small = record {
 }
 
 near_boxes : (boxes : List BoxInfo) → All IsLowBox boxes → All (λ (b : BoxInfo). (b.x < 2 ^ 60) × (b.w < 2 ^ 60)) boxes
-near_boxes boxes low = All-weaker IsLowBox (λ (b : BoxInfo). (b.x < 2 ^ 60) × (b.w < 2 ^ 60)) (λ b h. (omega (arith, h.0), omega (arith, h.1))) boxes low
+near_boxes boxes low = All-weaker IsLowBox (λ (b : BoxInfo). (b.x < 2 ^ 60) × (b.w < 2 ^ 60))
+    (λ b h. (omega (arith, h.0), omega (arith, h.1))) boxes low
 
 all_items_few : (f : First) (rest : Rest) → sum_by (items_of (data_of f rest)) (data_of f rest).rows ≡ all_items rest
 all_items_few f rest =
@@ -140,7 +149,8 @@ low_height f rest small =
     let lines = small.line_limit in
     omega arith
 
-sound_data : (f : First) (rest : Rest) → IsSmall f rest → All (IsSoundFlow (data_of f rest)) (data_of f rest).flows → IsSound (data_of f rest)
+sound_data : (f : First) (rest : Rest) → IsSmall f rest → All (IsSoundFlow (data_of f rest)) (data_of f rest).flows
+    → IsSound (data_of f rest)
 sound_data f rest small sound =
     let d = data_of f rest in
     let low = small.low in
@@ -161,15 +171,18 @@ sound_data f rest small sound =
       stack_count = omega arith;
       some_stack = omega arith;
       flows = sound;
-      rows = All-cons (IsSoundRow d) (row_0 f) (rows_from 1 rest) (first_row_sound f rest small) (sound_rows d rest 1 low (omega arith));
+      rows = All-cons (IsSoundRow d) (row_0 f) (rows_from 1 rest) (first_row_sound f rest small)
+          (sound_rows d rest 1 low (omega arith));
       boxes = near_boxes (boxes_from rest) boxes;
       stacks = each_of_one (IsSoundStack d) (stack_sound f rest small.stack_limit plain);
       flow_belongs = λ j lt. flow_belongs f rest j (omega arith);
       row_belongs = λ j lt. row_belongs f rest j (omega arith);
       inner_rows = λ j lt.
           each_row (λ outer. All (IsInnerRow d outer) (rows_in (flow_in d outer))) rest
-          (inner d 0 rest 1 (omega arith) at small.items small.inner_limit) (all_inner d rest 1 at small.items small.inner_limit) j (omega arith);
-      nest_limit = λ j lt. each_row (NestsAtMost d 3) rest (nests d 2 rest 1 at deep) (all_nest d 2 rest 1 at (omega arith)) j (omega arith);
+          (inner d 0 rest 1 (omega arith) at small.items small.inner_limit) (all_inner d rest 1 at small.items small.inner_limit)
+          j (omega arith);
+      nest_limit = λ j lt. each_row (NestsAtMost d 3) rest (nests d 2 rest 1 at deep) (all_nest d 2 rest 1 at (omega arith)) j
+          (omega arith);
       item_limit = omega (arith, all_items_few f rest, small.item_limit);
       heights = low_height f rest small;
       across = across d boxes near plain (length d.flows) 0 0 (omega arith);
@@ -182,7 +195,12 @@ rest_of None = no_more
 rest_of (Some rest) = rest
 
 same_data : (f : First) (content : Option Rest)
-    → data_of f (rest_of content) ≡ record { flows = outer_flow ∷ content_flows content; rows = row_0 f ∷ content_rows content; boxes = content_boxes content; stacks = stack_0 f ∷ [] }
+    → data_of f (rest_of content) ≡ record {
+      flows = outer_flow ∷ content_flows content;
+      rows = row_0 f ∷ content_rows content;
+      boxes = content_boxes content;
+      stacks = stack_0 f ∷ [];
+    }
 same_data f None = refl
 same_data f (Some rest) = refl
 
@@ -203,9 +221,17 @@ rest_lines None after = omega arith
 rest_lines (Some rest) after = omega (arith, length-lines rest after)
 
 abbrev first_of : FlowFile → First
-first_of file = record { n = file.n; w = file.w; step = file.step; auto = file.auto; stack_w = (file.n - 1) * file.step + file.w; bound = bound_of file.available }
+first_of file = record {
+  n = file.n;
+  w = file.w;
+  step = file.step;
+  auto = file.auto;
+  stack_w = (file.n - 1) * file.step + file.w;
+  bound = bound_of file.available;
+}
 
-small_file : (text : List ℕ) (file : FlowFile) → length text ≤ 2 ^ 28 → IsContent file.content → IsWithinLimits text file → IsSmall (first_of file) (rest_of file.content)
+small_file : (text : List ℕ) (file : FlowFile) → length text ≤ 2 ^ 28 → IsContent file.content → IsWithinLimits text file
+    → IsSmall (first_of file) (rest_of file.content)
 small_file text file few is h =
     let n = h.column_limit in
     let w = h.w_limit in
@@ -231,17 +257,20 @@ small_file text file few is h =
     }
 
 -- where its flows are each sound
-sound_from_flows : (text : List ℕ) (file : FlowFile) → length text ≤ 2 ^ 28 → IsFile text file → limit_of file ≡ None → All (IsSoundFlow (flows_of file)) (content_flows file.content) → IsSound (flows_of file)
+sound_from_flows : (text : List ℕ) (file : FlowFile) → length text ≤ 2 ^ 28 → IsFile text file → limit_of file ≡ None
+    → All (IsSoundFlow (flows_of file)) (content_flows file.content) → IsSound (flows_of file)
 sound_from_flows text file few is none flows =
     let f = first_of file in
     let rest = rest_of file.content in
     let same : data_of f rest ≡ flows_of file = same_data f file.content in
     let small = small_file text file few is.on_grammar.content (file_within_limits text file is none) in
     let outer = outer_sound (flows_of file) (omega arith) in
-    let sound : All (IsSoundFlow (flows_of file)) (flows_of file).flows = All-cons (IsSoundFlow (flows_of file)) outer_flow (content_flows file.content) outer flows in
+    let sound : All (IsSoundFlow (flows_of file)) (flows_of file).flows =
+    All-cons (IsSoundFlow (flows_of file)) outer_flow (content_flows file.content) outer flows in
     subst IsSound same (sound_data f rest small (subst (λ (d : FlowsData). All (IsSoundFlow d) d.flows) (sym same) sound))
 
-pub file_is_sound : (text : List ℕ) (file : FlowFile) → length text ≤ 2 ^ 28 → IsFile text file → limit_of file ≡ None → IsSound (flows_of file)
+pub file_is_sound : (text : List ℕ) (file : FlowFile) → length text ≤ 2 ^ 28 → IsFile text file → limit_of file ≡ None
+    → IsSound (flows_of file)
 file_is_sound text file few is none =
     let limits = file_within_limits text file is none in
     sound_from_flows text file few is none (content_flows_all file is.lines is.on_grammar limits.low limits.item_limit)

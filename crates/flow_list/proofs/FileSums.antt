@@ -1,5 +1,6 @@
 -- How many items a flow file has, and how high its flows may be together.
-use Rattle.std.proofs.Common.{◌≡◌, ℕ, suc, ◌+◌, ◌*◌, ◌^◌, ◌<◌, ◌≤◌, false, List, [], ◌∷◌, ◌++◌, length, refl, sym, ap, ◌∙◌, subst, arith, inl, inr, ◌⊎◌, sum_by, All}
+use Rattle.std.proofs.Common.{◌≡◌, ℕ, suc, ◌+◌, ◌*◌, ◌^◌, ◌<◌, ◌≤◌, false, List, [], ◌∷◌, ◌++◌, length, refl, sym, ap, ◌∙◌, subst}
+use Rattle.std.proofs.Common.{arith, inl, inr, ◌⊎◌, sum_by, All}
 use Rattle.std.specs.Prelude.{flat_map}
 use Rattle.std.proofs.lemmas.Bool.{cases_lt}
 use Rattle.std.proofs.lemmas.List.{get_or_past}
@@ -12,7 +13,8 @@ use Rattle.flow_text.specs.Limits.{numbers}
 use Rattle.flow_text.specs.TreeLimits.{own_items, all_items}
 use Rattle.flow_list.specs.Data.{BoxInfo, Edge, Flow, FlowsData, RowInfo, Seam, Plain, Atom, Row}
 use Rattle.flow_data.specs.Flows.{no_box, flow_of, box_of, atom_height, amount, started, starts_in}
-use Rattle.flow_list.specs.FileFlows.{line_edges, edges_before, edges_behind, seam_behind, seams_behind, first_seam, row_count, items_from, row_flow, rows_from, flows_from, line_boxes, boxes_from}
+use Rattle.flow_list.specs.FileFlows.{line_edges, edges_before, edges_behind, seam_behind, seams_behind, first_seam, row_count}
+use Rattle.flow_list.specs.FileFlows.{items_from, row_flow, rows_from, flows_from, line_boxes, boxes_from}
 use Rattle.flow_data.specs.Soundness.{flow_height}
 use Rattle.flow_list.proofs.FileLimits.{AreLow, IsLow}
 use Rattle.flow_list.proofs.FilePlaces.{ArePlaced, line_total}
@@ -23,7 +25,8 @@ use Rattle.flow_list.proofs.FileNests.{length-items}
 abbrev pub items_of : FlowsData → RowInfo → ℕ
 items_of d r = length (flow_of d r.flow).items
 
-pub sum-items : (d : FlowsData) (rest : Rest) (k : ℕ) → ArePlaced d k rest → sum_by (items_of d) (rows_from k rest) + own_items rest ≡ all_items rest
+pub sum-items : (d : FlowsData) (rest : Rest) (k : ℕ) → ArePlaced d k rest
+    → sum_by (items_of d) (rows_from k rest) + own_items rest ≡ all_items rest
 sum-items d no_more k h = refl
 sum-items d (edge l rest) k h = sum-items d rest k h
 sum-items d (place at level rest) k h = sum-items d rest k h
@@ -47,7 +50,8 @@ IsLowBox b = (b.x ≤ 2 ^ 24) × (b.w ≤ 2 ^ 24) × (b.top ≤ 2 ^ 24) × (b.bo
 
 low_box : (form : Form) → AreLow (numbers form) → All IsLowBox (line_boxes form)
 low_box (forms.Start number x w avoid top bottom) h =
-    All-cons IsLowBox (record { x = x; w = w; avoid = avoid; top = top; bottom = bottom }) [] (h.1.0, h.1.1.0, h.1.1.1.0, h.1.1.1.1.0) (All-nil _)
+    All-cons IsLowBox (record { x = x; w = w; avoid = avoid; top = top; bottom = bottom }) []
+    (h.1.0, h.1.1.0, h.1.1.1.0, h.1.1.1.1.0) (All-nil _)
 low_box _ h = All-nil _
 
 pub low_boxes : (rest : Rest) → IsLow rest → All IsLowBox (boxes_from rest)
@@ -55,7 +59,8 @@ low_boxes no_more h = All-nil _
 low_boxes (edge l rest) h = All-append IsLowBox (line_boxes l.form) (boxes_from rest) (low_box l.form h.0) (low_boxes rest h.1)
 low_boxes (place at level rest) h = low_boxes rest h
 low_boxes (atom at height rest) h = low_boxes rest h.1
-low_boxes (row at n w step x content ended rest) h = All-append IsLowBox (boxes_from content) (boxes_from rest) (low_boxes content h.5) (low_boxes rest h.6)
+low_boxes (row at n w step x content ended rest) h =
+    All-append IsLowBox (boxes_from content) (boxes_from rest) (low_boxes content h.5) (low_boxes rest h.6)
 
 -- a box out of range is empty
 pub box_is_low : (d : FlowsData) → All IsLowBox d.boxes → (b : ℕ) → IsLowBox (box_of d b)
@@ -87,7 +92,13 @@ own_height d k rest = sum_by atom_height (items_from k rest) + edge_sum amount r
 
 cloned-started : (d : FlowsData) (edges : List Edge) → sum_by (cloned d) (flat_map started edges) ≡ sum_by (cloned_at d) edges
 cloned-started d [] = refl
-cloned-started d (e ∷ edges) = omega (arith, cloned-started d edges, sum_by-append (cloned d) (started e) (flat_map started edges), sum_by-cons (cloned_at d) e edges)
+cloned-started d (e ∷ edges) =
+    omega (
+      arith,
+      cloned-started d edges,
+      sum_by-append (cloned d) (started e) (flat_map started edges),
+      sum_by-cons (cloned_at d) e edges,
+    )
 
 cloned-starts : (d : FlowsData) (seams : List Seam) → sum_by (cloned d) (starts_in seams) ≤ sum_by (seam_sum (cloned_at d)) seams
 cloned-starts d [] = omega arith
@@ -116,13 +127,16 @@ edge_cloned : (d : FlowsData) (form : Form) → All IsLowBox d.boxes → sum_by 
 edge_cloned d (forms.Start number x w avoid top bottom) low = let b = box_is_low d low number in omega (arith, b.2, b.3)
 edge_cloned d _ low = omega arith
 
-edge_sum-edge : (g : Edge → ℕ) (edges : List Edge) (rest : Rest) → sum_by g (edges ++ edges_before rest) + sum_by g (edges_behind rest) + sum_by (seam_sum g) (seams_behind rest) ≡ sum_by g edges + edge_sum g rest
+edge_sum-edge : (g : Edge → ℕ) (edges : List Edge) (rest : Rest)
+    → sum_by g (edges ++ edges_before rest) + sum_by g (edges_behind rest) + sum_by (seam_sum g) (seams_behind rest)
+    ≡ sum_by g edges + edge_sum g rest
 edge_sum-edge g edges rest = omega (arith, sum_by-append g edges (edges_before rest))
 
 edge_sum-item : (g : Edge → ℕ) (rest : Rest) → sum_by (seam_sum g) (seam_behind rest ∷ seams_behind rest) ≡ edge_sum g rest
 edge_sum-item g rest = sum_by-cons (seam_sum g) (seam_behind rest) (seams_behind rest)
 
-heights : (d : FlowsData) (rest : Rest) (k : ℕ) → IsLow rest → All IsLowBox d.boxes → own_height d k rest + sum_by (flow_height d) (flows_from k rest) ≤ 2 ^ 26 * line_total rest
+heights : (d : FlowsData) (rest : Rest) (k : ℕ) → IsLow rest → All IsLowBox d.boxes
+    → own_height d k rest + sum_by (flow_height d) (flows_from k rest) ≤ 2 ^ 26 * line_total rest
 heights d no_more k low boxes = omega arith
 heights d (edge l rest) k low boxes =
     let behind = heights d rest k low.1 boxes in
@@ -151,7 +165,8 @@ heights d (row at n w step x content ended rest) k low boxes =
     let split = sum_by-append (flow_height d) (flows_from (suc k) content) (flows_from next rest) in
     omega arith
 
-pub flow-heights : (d : FlowsData) (content : Rest) (k : ℕ) → IsLow content → All IsLowBox d.boxes → sum_by (flow_height d) (row_flow k content ∷ flows_from k content) ≤ 2 ^ 26 * line_total content
+pub flow-heights : (d : FlowsData) (content : Rest) (k : ℕ) → IsLow content → All IsLowBox d.boxes
+    → sum_by (flow_height d) (row_flow k content ∷ flows_from k content) ≤ 2 ^ 26 * line_total content
 flow-heights d content k low boxes =
     let first = sum_by-cons (flow_height d) (row_flow k content) (flows_from k content) in
     let here = flow-height d k content in

@@ -8,7 +8,8 @@ pub record IsLeast (passes : ℕ → Bool) (h : ℕ) : Type 0 where
   pub itself : passes h ≡ true
   pub below : (k : ℕ) → k < h → passes k ≡ false
 
-pub least-is : (p : ℕ → Bool) (n lo top : ℕ) → ((k : ℕ) → k < lo → p k ≡ false) → lo ≤ top → top ≤ lo + n → p top ≡ true → IsLeast p (least p n lo)
+pub least-is : (p : ℕ → Bool) (n lo top : ℕ) → ((k : ℕ) → k < lo → p k ≡ false) → lo ≤ top → top ≤ lo + n → p top ≡ true
+    → IsLeast p (least p n lo)
 unfolding least
 least-is p zero lo top none a b t = record { itself = let e : top ≡ lo = omega arith in rw e at t; below = none }
 least-is p (suc n) lo top none a b t = go (λ x y z. least-is p n (lo + 1) top x y z t) (p lo) refl
@@ -20,7 +21,8 @@ least-is p (suc n) lo top none a b t = go (λ x y z. least-is p n (lo + 1) top x
         which (inl l) = omega arith
         which (inr g) = let e : a ≡ b = omega arith in let z : p a ≡ true = rw e y in cc
 
-    go : (((k : ℕ) → k < lo + 1 → p k ≡ false) → lo + 1 ≤ top → top ≤ lo + 1 + n → IsLeast p (least p n (lo + 1))) → (x : Bool) → p lo ≡ x → IsLeast p (elim x [ true ↦ lo | false ↦ least p n (lo + 1) ])
+    go : (((k : ℕ) → k < lo + 1 → p k ≡ false) → lo + 1 ≤ top → top ≤ lo + 1 + n → IsLeast p (least p n (lo + 1))) → (x : Bool)
+        → p lo ≡ x → IsLeast p (elim x [ true ↦ lo | false ↦ least p n (lo + 1) ])
     go again true e = record { itself = e; below = none }
     go again false e = again (below_more (λ k. p k ≡ false) lo none e) (differs lo top a e t) (omega arith)
 

@@ -2,7 +2,9 @@
 use Rattle.std.proofs.Common.{ℕ, zero, suc, ◌+◌, ◌≤◌, ◌≡◌, Bool, true, false, cond, List, [], ◌∷◌, ◌++◌, refl, arith, sum_by}
 use Rattle.std.specs.List.{AllByRecursion as Each}
 use Rattle.std.proofs.lemmas.List.Sums.{sum_by-cons, sum_by-append}
-use Rattle.flow_list.specs.Placing.{RowLaid, Laid, margin, solid, wall, opens, closes, atom, row, ends_gap, gap_of, behind_gap, greatest_margin, opens_among, Placed, opens_at, closes_at, atom_at, row_at, placed_in_gap, gap_places, placed_item, laid_height, gap_height, places_from}
+use Rattle.flow_list.specs.Placing.{RowLaid, Laid, margin, solid, wall, opens, closes, atom, row, ends_gap, gap_of, behind_gap}
+use Rattle.flow_list.specs.Placing.{greatest_margin, opens_among, Placed, opens_at, closes_at, atom_at, row_at, placed_in_gap}
+use Rattle.flow_list.specs.Placing.{gap_places, placed_item, laid_height, gap_height, places_from}
 use Rattle.flow_list.specs.Fragments.{place_of}
 
 -- what is so of each of two lists is so of both together
@@ -52,7 +54,8 @@ module _ (share : Laid → ℕ) (So : RowLaid → Type 0) where
   split-sum [] = refl
   split-sum (x ∷ xs) = go (split-sum xs) (ends_gap x)
     where
-      go : sum_by share (gap_of xs) + sum_by share (behind_gap xs) ≡ sum_by share xs → (b : Bool) → sum_by share (cond b [] (x ∷ gap_of xs)) + sum_by share (cond b (x ∷ xs) (behind_gap xs)) ≡ sum_by share (x ∷ xs)
+      go : sum_by share (gap_of xs) + sum_by share (behind_gap xs) ≡ sum_by share xs → (b : Bool)
+          → sum_by share (cond b [] (x ∷ gap_of xs)) + sum_by share (cond b (x ∷ xs) (behind_gap xs)) ≡ sum_by share (x ∷ xs)
       go rest true = omega arith
       go rest false = omega (arith, sum_by-cons share x (gap_of xs), sum_by-cons share x xs)
 
@@ -72,7 +75,9 @@ module _ (share : Laid → ℕ) (So : RowLaid → Type 0) where
       go rest true = all
       go rest false = rest
 
-  placed-le : (y end bottom : ℕ) (before : List Laid) (x : Laid) → y ≤ end → end ≤ bottom → y + greatest_margin before + share x ≤ bottom → HasShare share So x → Each (IsNoLower share So bottom) (placed_in_gap y end before x)
+  placed-le : (y end bottom : ℕ) (before : List Laid) (x : Laid) → y ≤ end → end ≤ bottom
+      → y + greatest_margin before + share x ≤ bottom → HasShare share So x
+      → Each (IsNoLower share So bottom) (placed_in_gap y end before x)
   placed-le y end bottom before (margin m) a b c h = tt
   placed-le y end bottom before (solid m) a b c h = tt
   placed-le y end bottom before wall a b c h = tt
@@ -85,17 +90,22 @@ module _ (share : Laid → ℕ) (So : RowLaid → Type 0) where
   placed-le y end bottom before (atom k height) a b c h = (b, tt)
   placed-le y end bottom before (row r) a b c h = ((h.0, c, h.1), tt)
 
-  gap-le : (y end bottom : ℕ) (before gap : List Laid) → y ≤ end → end ≤ bottom → y + sum_by share before + sum_by share gap ≤ bottom → Each (HasShare share So) before → Each (HasShare share So) gap → Each (IsNoLower share So bottom) (gap_places y end before gap)
+  gap-le : (y end bottom : ℕ) (before gap : List Laid) → y ≤ end → end ≤ bottom
+      → y + sum_by share before + sum_by share gap ≤ bottom → Each (HasShare share So) before → Each (HasShare share So) gap
+      → Each (IsNoLower share So bottom) (gap_places y end before gap)
   gap-le y end bottom before [] a b c l g = tt
   gap-le y end bottom before (x ∷ xs) a b c l g =
       let s = sum_by-cons share x xs in
       let m = greatest-le before l in
       let p = sum_by-append share before (x ∷ []) in
       let o = sum_by-cons share x [] in
-      Each-append (IsNoLower share So bottom) (placed_in_gap y end before x) (gap_places y end (before ++ x ∷ []) xs) (placed-le y end bottom before x a b (omega arith) g.0)
-      (gap-le y end bottom (before ++ x ∷ []) xs a b (omega arith) (Each-append (HasShare share So) before (x ∷ []) l (g.0, tt)) g.1)
+      Each-append (IsNoLower share So bottom) (placed_in_gap y end before x) (gap_places y end (before ++ x ∷ []) xs)
+      (placed-le y end bottom before x a b (omega arith) g.0)
+      (gap-le y end bottom (before ++ x ∷ []) xs a b (omega arith)
+      (Each-append (HasShare share So) before (x ∷ []) l (g.0, tt)) g.1)
 
-  item-le : (y bottom : ℕ) (x : Laid) → y + share x ≤ bottom → HasShare share So x → Each (IsNoLower share So bottom) (placed_item y x)
+  item-le : (y bottom : ℕ) (x : Laid) → y + share x ≤ bottom → HasShare share So x
+      → Each (IsNoLower share So bottom) (placed_item y x)
   item-le y bottom (margin m) a h = tt
   item-le y bottom (solid m) a h = tt
   item-le y bottom wall a h = tt
@@ -114,7 +124,8 @@ module _ (share : Laid → ℕ) (So : RowLaid → Type 0) where
   height-le (row r) h = h.0
 
   -- What is laid from y on, with these shares, is placed no lower than y and all shares together.
-  pub places-le : (n y bottom : ℕ) (xs : List Laid) → Each (HasShare share So) xs → y + sum_by share xs ≤ bottom → Each (IsNoLower share So bottom) (places_from n y xs)
+  pub places-le : (n y bottom : ℕ) (xs : List Laid) → Each (HasShare share So) xs → y + sum_by share xs ≤ bottom
+      → Each (IsNoLower share So bottom) (places_from n y xs)
   unfolding places_from
   places-le zero y bottom xs all le = tt
   places-le (suc n) y bottom xs all le =
@@ -123,19 +134,25 @@ module _ (share : Laid → ℕ) (So : RowLaid → Type 0) where
       let behind = split-behind xs all in
       let high = height (behind_gap xs) in
       Each-append (IsNoLower share So bottom) (gap_places y (y + gap_height (gap_of xs) (behind_gap xs)) [] (gap_of xs)) _
-      (gap-le y (y + gap_height (gap_of xs) (behind_gap xs)) bottom [] (gap_of xs) (omega arith) (omega arith) (omega arith) tt gap) (rest (behind_gap xs) behind (y + gap_height (gap_of xs) (behind_gap xs)) (omega arith) (λ z later each low. places-le n z bottom later each low))
+      (gap-le y (y + gap_height (gap_of xs) (behind_gap xs)) bottom [] (gap_of xs) (omega arith) (omega arith) (omega arith) tt
+      gap) (rest (behind_gap xs) behind (y + gap_height (gap_of xs) (behind_gap xs)) (omega arith)
+      (λ z later each low. places-le n z bottom later each low))
     where
       height : (later : List Laid) → gap_height (gap_of xs) later ≤ sum_by share (gap_of xs)
       height [] = omega arith
       height (x ∷ later) = greatest-le (gap_of xs) (split-gap xs all)
 
       rest : (later : List Laid) → Each (HasShare share So) later → (end : ℕ) → end + sum_by share later ≤ bottom →
-          ((z : ℕ) (ys : List Laid) → Each (HasShare share So) ys → z + sum_by share ys ≤ bottom → Each (IsNoLower share So bottom) (places_from n z ys)) → Each (IsNoLower share So bottom) (elim later [ [] ↦ [] | x ∷ more ↦ placed_item end x ++ places_from n (end + laid_height x) more ])
+          ((z : ℕ) (ys : List Laid) → Each (HasShare share So) ys → z + sum_by share ys ≤ bottom
+          → Each (IsNoLower share So bottom) (places_from n z ys))
+          → Each (IsNoLower share So bottom)
+          (elim later [ [] ↦ [] | x ∷ more ↦ placed_item end x ++ places_from n (end + laid_height x) more ])
       rest [] each end low again = tt
       rest (x ∷ more) each end low again =
           let s = sum_by-cons share x more in
           let h = height-le x each.0 in
-          Each-append (IsNoLower share So bottom) (placed_item end x) (places_from n (end + laid_height x) more) (item-le end bottom x (omega arith) each.0) (again (end + laid_height x) more each.1 (omega arith))
+          Each-append (IsNoLower share So bottom) (placed_item end x) (places_from n (end + laid_height x) more)
+          (item-le end bottom x (omega arith) each.0) (again (end + laid_height x) more each.1 (omega arith))
 
 -- ---- heights and margins alone
 
@@ -162,4 +179,5 @@ only-places bottom (row_at r y ∷ ps) all = (let a = all.0.1 in omega arith, on
 
 -- Each place is at most where the laying begins and the heights and margins of all that is laid.
 pub places-within : (n y : ℕ) (xs : List Laid) → Each (λ p. place_of p ≤ y + sum_by laid_amount xs) (places_from n y xs)
-places-within n y xs = only-places (y + sum_by laid_amount xs) (places_from n y xs) (places-le laid_amount no-so n y (y + sum_by laid_amount xs) xs (amounts-share xs) (omega arith))
+places-within n y xs = only-places (y + sum_by laid_amount xs) (places_from n y xs)
+    (places-le laid_amount no-so n y (y + sum_by laid_amount xs) xs (amounts-share xs) (omega arith))

@@ -5,7 +5,8 @@ use Rattle.std.proofs.lemmas.List.Elements.{All-from_recursion, All-nil}
 use Rattle.mc_base.specs.declared.level.Level.TheVariants.{L0}
 use Rattle.flow_list.specs.Data.{BoxInfo, Edge, FlowsData, Seam, Line, Free, Margin, Solid, Start, End, Atom, Row}
 use Rattle.flow_data.specs.Flows.{no_seam, no_flow, flow_of, row_of, box_of, open_at}
-use Rattle.flow_data.specs.Soundness.{IsSoundItem, IsSoundSeam, IsSoundFlow, IsSoundRow, IsSoundStack, IsSound, NestsAtMost, Held, FitsAcross, item_x}
+use Rattle.flow_data.specs.Soundness.{IsSoundItem, IsSoundSeam, IsSoundFlow, IsSoundRow, IsSoundStack, IsSound, NestsAtMost, Held}
+use Rattle.flow_data.specs.Soundness.{FitsAcross, item_x}
 use Rattle.flow_list.proofs.OuterFlow.{outer_sound, each_of_one, each_of_two, all_from_one}
 
 -- stack 0 holds row 0, whose flow is a line between these two seams
@@ -33,7 +34,8 @@ box_head = record { tail = []; head = Margin 8 ∷ Start 0 ∷ Solid 3 ∷ []; l
 abbrev box_tail : Seam
 box_tail = record { tail = Solid 4 ∷ End 0 ∷ Margin 8 ∷ []; head = []; level = L0 }
 
-top_edge : (k b : ℕ) → slice_get box_head.head k ≡ Some (Start b) → slice_get box_head.head (k + 1) ≡ Some (Solid (box_of in_a_box b).top)
+top_edge : (k b : ℕ) → slice_get box_head.head k ≡ Some (Start b)
+    → slice_get box_head.head (k + 1) ≡ Some (Solid (box_of in_a_box b).top)
 top_edge zero b h = absurd cc
 top_edge (suc zero) b h =
     let P : ℕ → Type 0 = λ b. slice_get box_head.head 2 ≡ Some (Solid (box_of in_a_box b).top) in
@@ -42,7 +44,8 @@ top_edge (suc zero) b h =
 top_edge (suc (suc zero)) b h = absurd cc
 top_edge (suc (suc (suc k))) b h = absurd cc
 
-bottom_edge : (k b : ℕ) → slice_get box_tail.tail k ≡ Some (End b) → slice_get box_tail.tail (k - 1) ≡ Some (Solid (box_of in_a_box b).bottom)
+bottom_edge : (k b : ℕ) → slice_get box_tail.tail k ≡ Some (End b)
+    → slice_get box_tail.tail (k - 1) ≡ Some (Solid (box_of in_a_box b).bottom)
 bottom_edge zero b h = absurd cc
 bottom_edge (suc zero) b h =
     let P : ℕ → Type 0 = λ b. slice_get box_tail.tail 0 ≡ Some (Solid (box_of in_a_box b).bottom) in
@@ -69,7 +72,8 @@ box_flow = record {
   boxes = all_from_one (λ b. b < 1) 0 (omega arith);
   distinct = λ i j b below lt. absurd (omega arith);
   nested = (refl, tt);
-  filled = all_from_one (λ b. SomeIndex (flow_of in_a_box 1).items (λ k. Contains (open_at (flow_of in_a_box 1) k) b)) 0 (0, omega arith, (0, omega arith, refl));
+  filled = all_from_one (λ b. SomeIndex (flow_of in_a_box 1).items (λ k. Contains (open_at (flow_of in_a_box 1) k) b)) 0
+      (0, omega arith, (0, omega arith, refl));
 }
 
 in_a_box-is_sound : IsSound in_a_box
@@ -89,7 +93,8 @@ in_a_box-is_sound = record {
     w_limit = omega arith;
   });
   boxes = all_from_one (λ (b : BoxInfo). (b.x < 2 ^ 60) × (b.w < 2 ^ 60)) (box_of in_a_box 0) (omega arith, omega arith);
-  stacks = each_of_one (IsSoundStack in_a_box) (record { flow = omega arith; w_limit = omega arith; named = refl; later = All-nil _ });
+  stacks = each_of_one (IsSoundStack in_a_box)
+      (record { flow = omega arith; w_limit = omega arith; named = refl; later = All-nil _ });
   flow_belongs = each_of_two _ refl refl;
   row_belongs = each_of_one _ refl;
   inner_rows = each_of_one _ (All-nil _);

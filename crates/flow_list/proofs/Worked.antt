@@ -7,7 +7,8 @@ use Rattle.flow_list.proofs.WorkedParts.{atom, seam, bare, flow, flows, one_row,
 
 -- six items of 20 in three columns
 abbrev six : FlowsData
-six = one_row 3 (atom 20 ∷ atom 20 ∷ atom 20 ∷ atom 20 ∷ atom 20 ∷ atom 20 ∷ []) (bare L0 ∷ bare L0 ∷ bare L0 ∷ bare L0 ∷ bare L0 ∷ bare L0 ∷ bare L0 ∷ [])
+six = one_row 3 (atom 20 ∷ atom 20 ∷ atom 20 ∷ atom 20 ∷ atom 20 ∷ atom 20 ∷ [])
+    (bare L0 ∷ bare L0 ∷ bare L0 ∷ bare L0 ∷ bare L0 ∷ bare L0 ∷ bare L0 ∷ [])
 
 six-height : height six None ≡ 40
 unfolding height
@@ -63,7 +64,8 @@ padded-fit = refl
 
 -- five lines of 10 with orphans and widows of 2: three lines and two
 abbrev five : FlowsData
-five = one_row 2 (atom 10 ∷ atom 10 ∷ atom 10 ∷ atom 10 ∷ atom 10 ∷ []) (bare L0 ∷ bare L1 ∷ bare L0 ∷ bare L0 ∷ bare L1 ∷ bare L0 ∷ [])
+five = one_row 2 (atom 10 ∷ atom 10 ∷ atom 10 ∷ atom 10 ∷ atom 10 ∷ [])
+    (bare L0 ∷ bare L1 ∷ bare L0 ∷ bare L0 ∷ bare L1 ∷ bare L0 ∷ [])
 
 five-height : height five None ≡ 30
 unfolding height
@@ -92,7 +94,8 @@ parted-ends = refl
 -- two items of 20, each with margin 16 above and below: at an unforced break the margins next to it are dropped, after a
 -- forced one they stay
 abbrev margins : Level → FlowsData
-margins level = one_row 2 (atom 20 ∷ atom 20 ∷ []) (seam [] L0 (Margin 16 ∷ []) ∷ seam (Margin 16 ∷ []) level (Margin 16 ∷ []) ∷ seam (Margin 16 ∷ []) L0 [] ∷ [])
+margins level = one_row 2 (atom 20 ∷ atom 20 ∷ [])
+    (seam [] L0 (Margin 16 ∷ []) ∷ seam (Margin 16 ∷ []) level (Margin 16 ∷ []) ∷ seam (Margin 16 ∷ []) L0 [] ∷ [])
 
 margins-height : height (margins L0) None ≡ 36
 unfolding height
@@ -129,7 +132,8 @@ joined-ends-within = refl
 
 -- seven items of 40 where 100 are available: four columns
 abbrev seven : FlowsData
-seven = one_row 2 (atom 40 ∷ atom 40 ∷ atom 40 ∷ atom 40 ∷ atom 40 ∷ atom 40 ∷ atom 40 ∷ []) (bare L0 ∷ bare L0 ∷ bare L0 ∷ bare L0 ∷ bare L0 ∷ bare L0 ∷ bare L0 ∷ bare L0 ∷ [])
+seven = one_row 2 (atom 40 ∷ atom 40 ∷ atom 40 ∷ atom 40 ∷ atom 40 ∷ atom 40 ∷ atom 40 ∷ [])
+    (bare L0 ∷ bare L0 ∷ bare L0 ∷ bare L0 ∷ bare L0 ∷ bare L0 ∷ bare L0 ∷ bare L0 ∷ [])
 
 seven-height : height seven (Some 100) ≡ 100
 unfolding height
@@ -153,7 +157,8 @@ relaxed-ends = refl
 
 -- three items of 40 in a row with `column-fill: auto`, where 100 are available, or 200, or any height
 abbrev filled : FlowsData
-filled = flows (flow (atom 40 ∷ atom 40 ∷ atom 40 ∷ []) (bare L0 ∷ bare L0 ∷ bare L0 ∷ bare L0 ∷ []) ∷ []) (record { flow = 1; n = 2; w = 100; step = 110; x = 0; auto = true } ∷ []) []
+filled = flows (flow (atom 40 ∷ atom 40 ∷ atom 40 ∷ []) (bare L0 ∷ bare L0 ∷ bare L0 ∷ bare L0 ∷ []) ∷ [])
+    (record { flow = 1; n = 2; w = 100; step = 110; x = 0; auto = true } ∷ []) []
 
 filled-height : height filled (Some 100) ≡ 100
 unfolding height

@@ -6,7 +6,9 @@ use Rattle.flow_list.proofs.WorkedParts.{atom, seam, bare, flow, row, flows, box
 
 -- two items of 20 in a box with 5 above and 10 below
 abbrev boxed : BoxInfo → FlowsData
-boxed b = flows (flow (atom 20 ∷ atom 20 ∷ []) (seam [] L0 (Start 0 ∷ Solid 5 ∷ []) ∷ bare L0 ∷ seam (Solid 10 ∷ End 0 ∷ []) L0 [] ∷ []) ∷ []) (row 1 2 ∷ []) (b ∷ [])
+boxed b =
+    flows (flow (atom 20 ∷ atom 20 ∷ []) (seam [] L0 (Start 0 ∷ Solid 5 ∷ []) ∷ bare L0 ∷ seam (Solid 10 ∷ End 0 ∷ []) L0 [] ∷ [])
+    ∷ []) (row 1 2 ∷ []) (b ∷ [])
 
 boxed-height : height (boxed (box false 5 10)) None ≡ 35
 unfolding height
@@ -36,7 +38,9 @@ sliced-height = refl
 
 -- the same with a second box within
 abbrev twice : FlowsData
-twice = flows (flow (atom 20 ∷ atom 20 ∷ []) (seam [] L0 (Start 0 ∷ Solid 5 ∷ Start 1 ∷ Solid 2 ∷ []) ∷ bare L0 ∷ seam (Solid 3 ∷ End 1 ∷ Solid 10 ∷ End 0 ∷ []) L0 [] ∷ []) ∷ [])
+twice = flows (flow (atom 20 ∷ atom 20 ∷ [])
+    (seam [] L0 (Start 0 ∷ Solid 5 ∷ Start 1 ∷ Solid 2 ∷ []) ∷ bare L0 ∷ seam (Solid 3 ∷ End 1 ∷ Solid 10 ∷ End 0 ∷ []) L0 []
+    ∷ []) ∷ [])
     (row 1 2 ∷ []) (box false 5 10 ∷ box false 2 3 ∷ [])
 
 twice-height : height twice None ≡ 40

@@ -9,7 +9,7 @@ use Rattle.flow_list.specs.FileFlows.{flows_of, limit_of, outer_flow}
 use Rattle.flow_list.proofs.WorkedParts as parts
 use Rattle.flow_list.proofs.WorkedParts.{seam, bare, flow}
 
--- a row in a box, between two atoms, of which the second stands behind a forced break
+-- a row in a box, between two atoms, of which the second stands after a forced break
 --
 --     flow 1
 --     row 2 100 110 - balance
@@ -43,15 +43,58 @@ boxed_content = edge (line 31 (forms.Margin 8)) (edge (line 35 (forms.Start 0 5 
     (atom 58 20 (place 63 L1 (row 67 2 40 50 6 inner_row 97 behind_row)))))
 
 abbrev boxed : FlowFile
-boxed = record { at = 0; first_at = 7; n = 2; w = 100; step = 110; available = None; auto = false; content = Some boxed_content; ended = 126 }
+boxed = record {
+  at = 0;
+  first_at = 7;
+  n = 2;
+  w = 100;
+  step = 110;
+  available = None;
+  auto = false;
+  content = Some boxed_content;
+  ended = 126;
+}
 
 boxed-file : IsFlowFile (file_lines boxed) boxed
 boxed-file = record {
   whole = refl;
   content = ([], refl, (0 ∷ [], refl, (0 ∷ [], refl, (refl, (refl, (refl, inner, behind))))));
-  numbered = (tt, (tt, (tt, (refl, (tt, (tt, (tt, (tt, (tt, (tt, (tt, (tt, (tt, (tt, (tt, (tt, (tt, (tt, (tt, (tt, tt))))))))))))))))))));
-  starts = (tt, (tt, (tt, (λ above. refl, (tt, (tt, (tt, (tt, (tt, (tt, (tt, (tt, (tt, (tt, (tt, (tt, (tt, (tt, (tt, (tt, tt))))))))))))))))))));
-  ends = (tt, (tt, (tt, (tt, (tt, (tt, (tt, (tt, (tt, (tt, (tt, (tt, (tt, (tt, (λ above. refl, (tt, (tt, (tt, (tt, (tt, tt))))))))))))))))))));
+  numbered = (
+    tt,
+    (
+      tt,
+      (tt, (refl, (tt, (tt, (tt, (tt, (tt, (tt, (tt, (tt, (tt, (tt, (tt, (tt, (tt, (tt, (tt, (tt, tt)))))))))))))))))),
+    ),
+  );
+  starts = (
+    tt,
+    (
+      tt,
+      (
+        tt,
+        (
+          λ above. refl,
+          (tt, (tt, (tt, (tt, (tt, (tt, (tt, (tt, (tt, (tt, (tt, (tt, (tt, (tt, (tt, (tt, tt)))))))))))))))),
+        ),
+      ),
+    ),
+  );
+  ends = (
+    tt,
+    (
+      tt,
+      (
+        tt,
+        (
+          tt,
+          (
+            tt,
+            (tt, (tt, (tt, (tt, (tt, (tt, (tt, (tt, (tt, (λ above. refl, (tt, (tt, (tt, (tt, (tt, tt))))))))))))))),
+          ),
+        ),
+      ),
+    ),
+  );
 }
   where
     inner : IsRest false [] inner_row
@@ -67,10 +110,12 @@ boxed-limits = refl
 boxed-flows : flows_of boxed ≡ record {
   flows = outer_flow
       ∷ flow (parts.atom 20 ∷ Row 1 ∷ parts.atom 30 ∷ [])
-      (seam [] L0 (Margin 8 ∷ Start 0 ∷ Solid 3 ∷ []) ∷ bare L1 ∷ seam (Solid 4 ∷ End 0 ∷ Margin 8 ∷ []) Forced (Margin 2 ∷ []) ∷ bare L0 ∷ [])
+      (seam [] L0 (Margin 8 ∷ Start 0 ∷ Solid 3 ∷ []) ∷ bare L1 ∷ seam (Solid 4 ∷ End 0 ∷ Margin 8 ∷ []) Forced (Margin 2 ∷ [])
+      ∷ bare L0 ∷ [])
       ∷ flow (parts.atom 10 ∷ parts.atom 10 ∷ []) (bare L0 ∷ seam [] L0 (Wall ∷ []) ∷ bare L0 ∷ [])
       ∷ [];
-  rows = record { flow = 1; n = 2; w = 100; step = 110; x = 0; auto = false } ∷ record { flow = 2; n = 2; w = 40; step = 50; x = 6; auto = false } ∷ [];
+  rows = record { flow = 1; n = 2; w = 100; step = 110; x = 0; auto = false } ∷ record
+      { flow = 2; n = 2; w = 40; step = 50; x = 6; auto = false } ∷ [];
   boxes = record { x = 5; w = 90; avoid = true; top = 3; bottom = 4 } ∷ [];
   stacks = record { flow = 0; w = 210; bound = Free } ∷ [];
 }

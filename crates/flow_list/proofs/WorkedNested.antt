@@ -10,7 +10,8 @@ use Rattle.flow_list.proofs.WorkedParts.{atom, seam, bare, flow, row, box, flows
 -- the rest of that doesn't fit any more
 abbrev nested : FlowsData
 nested = flows (flow (Row 1 ∷ []) (seam [] L0 (Start 0 ∷ Solid 20 ∷ []) ∷ seam (End 0 ∷ []) L0 [] ∷ [])
-    ∷ flow (atom 10 ∷ atom 10 ∷ atom 10 ∷ atom 10 ∷ atom 10 ∷ []) (bare L0 ∷ bare L0 ∷ seam [] L0 (Start 1 ∷ []) ∷ bare L2 ∷ bare L2 ∷ seam (End 1 ∷ []) L0 [] ∷ []) ∷ [])
+    ∷ flow (atom 10 ∷ atom 10 ∷ atom 10 ∷ atom 10 ∷ atom 10 ∷ [])
+    (bare L0 ∷ bare L0 ∷ seam [] L0 (Start 1 ∷ []) ∷ bare L2 ∷ bare L2 ∷ seam (End 1 ∷ []) L0 [] ∷ []) ∷ [])
     (row 1 2 ∷ row 2 2 ∷ []) (box false 0 0 ∷ box true 0 0 ∷ [])
 
 nested-inner : size nested 1 (0 ∷ []) ≡ 30
@@ -29,7 +30,8 @@ nested-ends : ends nested None ≡ (0 ∷ 2 ∷ []) ∷ (1 ∷ []) ∷ []
 unfolding ends
 nested-ends = refl
 
-nested-fit : fit nested (20 ∷ 29 ∷ 30 ∷ 31 ∷ 39 ∷ 40 ∷ 41 ∷ 49 ∷ 50 ∷ 51 ∷ []) ≡ false ∷ false ∷ true ∷ true ∷ true ∷ false ∷ false ∷ false ∷ true ∷ true ∷ []
+nested-fit : fit nested (20 ∷ 29 ∷ 30 ∷ 31 ∷ 39 ∷ 40 ∷ 41 ∷ 49 ∷ 50 ∷ 51 ∷ []) ≡ false ∷ false ∷ true ∷ true ∷ true ∷ false
+    ∷ false ∷ false ∷ true ∷ true ∷ []
 unfolding fit
 nested-fit = refl
 
@@ -68,7 +70,8 @@ stacked-height : height stacked None ≡ 90
 unfolding height
 stacked-height = refl
 
-stacked-lines : (column_from stacked 0 (0 ∷ []) 30).lines ≡ line 0 (Some (0 ∷ 2 ∷ [])) (Some 0) ∷ line 1 (Some (1 ∷ [])) (Some 1) ∷ line 1 (Some (2 ∷ [])) (Some 2) ∷ []
+stacked-lines : (column_from stacked 0 (0 ∷ []) 30).lines ≡ line 0 (Some (0 ∷ 2 ∷ [])) (Some 0) ∷ line 1 (Some (1 ∷ [])) (Some 1)
+    ∷ line 1 (Some (2 ∷ [])) (Some 2) ∷ []
 unfolding column_from
 stacked-lines = refl
 
@@ -76,7 +79,7 @@ stacked-ends : ends_at stacked 0 40 ≡ (1 ∷ []) ∷ (2 ∷ []) ∷ (3 ∷ [])
 unfolding ends_at
 stacked-ends = refl
 
--- a column that overflows with its first item has the level of the seam behind that, and 0 at a forced one and at the end
+-- a column that overflows with its first item has the level of the seam after that, and 0 at a forced one and at the end
 abbrev tall : Level → FlowsData
 tall level = flows (flow (atom 50 ∷ atom 50 ∷ []) (bare L0 ∷ bare level ∷ bare L2 ∷ []) ∷ []) (row 1 2 ∷ []) []
 
@@ -100,9 +103,11 @@ tall-overflows : (column_from (tall L2) 0 (0 ∷ []) 20).overflow ≡ true
 unfolding column_from
 tall-overflows = refl
 
--- the same with a row that fits the column, where the padding behind it doesn't
+-- the same with a row that fits the column, where the padding after it doesn't
 abbrev tall_row : Level → FlowsData
-tall_row level = flows (flow (Row 1 ∷ atom 10 ∷ []) (seam [] L0 (Start 0 ∷ []) ∷ seam (Solid 30 ∷ End 0 ∷ []) level [] ∷ bare L0 ∷ []) ∷ flow (atom 20 ∷ []) (bare L0 ∷ bare L0 ∷ []) ∷ [])
+tall_row level =
+    flows (flow (Row 1 ∷ atom 10 ∷ []) (seam [] L0 (Start 0 ∷ []) ∷ seam (Solid 30 ∷ End 0 ∷ []) level [] ∷ bare L0 ∷ []) ∷ flow
+    (atom 20 ∷ []) (bare L0 ∷ bare L0 ∷ []) ∷ [])
     (row 1 2 ∷ row 2 2 ∷ []) (box false 0 0 ∷ [])
 
 tall_row-level : (column_from (tall_row L2) 0 (0 ∷ []) 40).level ≡ 2
@@ -117,10 +122,11 @@ tall_row-overflow : (column_from (tall_row L2) 0 (0 ∷ []) 40).overflow ≡ tru
 unfolding column_from
 tall_row-overflow = refl
 
--- A row of one item of 20, behind padding of 30 in a column of 10: it begins too low, so it is filled at height 0. With
--- nothing in it that has room the item stands alone, and the column goes on behind the row.
+-- A row of one item of 20, after padding of 30 in a column of 10: it begins too low, so it is filled at height 0. With
+-- nothing in it that has room the item stands alone, and the column goes on after the row.
 abbrev low : List Edge → List Item → FlowsData
-low tail items = flows (flow (Row 1 ∷ []) (seam [] L0 (Start 0 ∷ Solid 30 ∷ []) ∷ seam tail L0 [] ∷ []) ∷ flow items (bare L0 ∷ bare L0 ∷ bare L0 ∷ []) ∷ []) (row 1 1 ∷ row 2 1 ∷ []) (box false 0 0 ∷ [])
+low tail items = flows (flow (Row 1 ∷ []) (seam [] L0 (Start 0 ∷ Solid 30 ∷ []) ∷ seam tail L0 [] ∷ []) ∷ flow items
+    (bare L0 ∷ bare L0 ∷ bare L0 ∷ []) ∷ []) (row 1 1 ∷ row 2 1 ∷ []) (box false 0 0 ∷ [])
 
 low-end : (column_from (low (End 0 ∷ []) (atom 20 ∷ [])) 0 (0 ∷ []) 10).end ≡ 1 ∷ []
 unfolding column_from
@@ -144,10 +150,11 @@ low-within : (column_from (low (End 0 ∷ []) (atom 20 ∷ atom 20 ∷ [])) 0 (0
 unfolding column_from
 low-within = refl
 
--- A column that begins within a row drops margins, and the row that is filled at height 0 ends that: the margin behind it
+-- A column that begins within a row drops margins, and the row that is filled at height 0 ends that: the margin after it
 -- counts.
 abbrev resumed : FlowsData
-resumed = flows (flow (Row 1 ∷ []) (seam [] L0 (Start 0 ∷ []) ∷ seam (Margin 7 ∷ Solid 5 ∷ End 0 ∷ []) L0 [] ∷ []) ∷ flow (atom 20 ∷ atom 20 ∷ []) (bare L0 ∷ bare L0 ∷ bare L0 ∷ []) ∷ []) (row 1 1 ∷ row 2 1 ∷ []) (box false 0 0 ∷ [])
+resumed = flows (flow (Row 1 ∷ []) (seam [] L0 (Start 0 ∷ []) ∷ seam (Margin 7 ∷ Solid 5 ∷ End 0 ∷ []) L0 [] ∷ []) ∷ flow
+    (atom 20 ∷ atom 20 ∷ []) (bare L0 ∷ bare L0 ∷ bare L0 ∷ []) ∷ []) (row 1 1 ∷ row 2 1 ∷ []) (box false 0 0 ∷ [])
 
 resumed-extent : (column_from resumed 0 (0 ∷ 1 ∷ []) 0).extent ≡ 12
 unfolding column_from
@@ -159,7 +166,8 @@ resumed-end = refl
 
 -- Inside keeps its own level where the row's end is reached: a box around avoids a break.
 abbrev kept : FlowsData
-kept = flows (flow (Row 1 ∷ []) (seam [] L0 (Start 0 ∷ []) ∷ seam (End 0 ∷ []) L0 [] ∷ []) ∷ flow (atom 20 ∷ []) (bare L0 ∷ bare L0 ∷ []) ∷ []) (row 1 1 ∷ row 2 1 ∷ []) (box true 0 0 ∷ [])
+kept = flows (flow (Row 1 ∷ []) (seam [] L0 (Start 0 ∷ []) ∷ seam (End 0 ∷ []) L0 [] ∷ []) ∷ flow (atom 20 ∷ [])
+    (bare L0 ∷ bare L0 ∷ []) ∷ []) (row 1 1 ∷ row 2 1 ∷ []) (box true 0 0 ∷ [])
 
 kept-level : (column_from kept 0 (0 ∷ []) 10).level ≡ 2
 unfolding column_from
@@ -191,7 +199,8 @@ around-fit = refl
 -- A row of one row of one item, that begins too low in a column of 10: nothing of it is judged there, but the sizes of both
 -- rows are used.
 abbrev low_twice : FlowsData
-low_twice = flows (flow (Row 1 ∷ []) (seam [] L0 (Start 0 ∷ Solid 30 ∷ []) ∷ seam (End 0 ∷ []) L0 [] ∷ []) ∷ flow (Row 2 ∷ []) (bare L0 ∷ bare L0 ∷ [])
+low_twice = flows (flow (Row 1 ∷ []) (seam [] L0 (Start 0 ∷ Solid 30 ∷ []) ∷ seam (End 0 ∷ []) L0 [] ∷ []) ∷ flow (Row 2 ∷ [])
+    (bare L0 ∷ bare L0 ∷ [])
     ∷ flow (atom 20 ∷ []) (bare L0 ∷ bare L0 ∷ []) ∷ []) (row 1 1 ∷ row 2 1 ∷ row 3 1 ∷ []) (box false 0 0 ∷ [])
 
 low_twice-uses : (column_from low_twice 0 (0 ∷ []) 10).uses ≡ (1, 0 ∷ []) ∷ (2, 0 ∷ []) ∷ []
@@ -212,7 +221,8 @@ low_twice-end = refl
 
 -- A row of two columns whose first one overflows: its lines and bounds go up to that column, the uses are those of both.
 abbrev spilled : FlowsData
-spilled = flows (flow (Row 1 ∷ []) (bare L0 ∷ bare L0 ∷ []) ∷ flow (atom 50 ∷ Row 2 ∷ []) (bare L0 ∷ bare L0 ∷ bare L0 ∷ []) ∷ flow (atom 10 ∷ []) (bare L0 ∷ bare L0 ∷ []) ∷ [])
+spilled = flows (flow (Row 1 ∷ []) (bare L0 ∷ bare L0 ∷ []) ∷ flow (atom 50 ∷ Row 2 ∷ []) (bare L0 ∷ bare L0 ∷ bare L0 ∷ [])
+    ∷ flow (atom 10 ∷ []) (bare L0 ∷ bare L0 ∷ []) ∷ [])
     (row 1 1 ∷ row 2 2 ∷ row 3 1 ∷ []) []
 
 spilled-uses : (column_from spilled 0 (0 ∷ []) 20).uses ≡ (1, 0 ∷ []) ∷ (2, 0 ∷ []) ∷ []

@@ -44,25 +44,31 @@ abbrev pub one_row : ℕ → List Item → List Seam → FlowsData
 one_row n items seams = flows (flow items seams ∷ []) (row 1 n ∷ []) (box false 0 0 ∷ [])
 
 unfoldable pub size : FlowsData → ℕ → Token → ℕ
-unfolding column steps endless_column columns_by fits least size_in fill_in rows_to all_rows size_of height_fits row_columns row_height columns_of_row
+unfolding column steps endless_column columns_by fits least size_in fill_in rows_to all_rows size_of height_fits row_columns
+    row_height columns_of_row
 size d r q = size_of d r q
 
 unfoldable pub ends_at : FlowsData → ℕ → ℕ → List Token
-unfolding column steps endless_column columns_by fits least size_in fill_in rows_to all_rows size_of height_fits row_columns row_height columns_of_row
+unfolding column steps endless_column columns_by fits least size_in fill_in rows_to all_rows size_of height_fits row_columns
+    row_height columns_of_row
 ends_at d r h = map (λ (c : Column). c.end) (row_columns d r (Some h))
 
 unfoldable pub fit : FlowsData → List ℕ → List Bool
-unfolding column steps endless_column columns_by fits least size_in fill_in rows_to all_rows size_of height_fits row_columns row_height columns_of_row
+unfolding column steps endless_column columns_by fits least size_in fill_in rows_to all_rows size_of height_fits row_columns
+    row_height columns_of_row
 fit d heights = map (height_fits d 0) heights
 
 unfoldable pub height : FlowsData → Option ℕ → ℕ
-unfolding column steps endless_column columns_by fits least size_in fill_in rows_to all_rows size_of height_fits row_columns row_height columns_of_row
+unfolding column steps endless_column columns_by fits least size_in fill_in rows_to all_rows size_of height_fits row_columns
+    row_height columns_of_row
 height d available = row_height d 0 available
 
 unfoldable pub ends : FlowsData → Option ℕ → List Token
-unfolding column steps endless_column columns_by fits least size_in fill_in rows_to all_rows size_of height_fits row_columns row_height columns_of_row
+unfolding column steps endless_column columns_by fits least size_in fill_in rows_to all_rows size_of height_fits row_columns
+    row_height columns_of_row
 ends d available = map (λ (c : Column). c.end) (columns_of_row d 0 available)
 
 unfoldable pub column_from : FlowsData → ℕ → Token → ℕ → Column
-unfolding column steps endless_column columns_by fits least size_in fill_in rows_to all_rows size_of height_fits row_columns row_height columns_of_row
+unfolding column steps endless_column columns_by fits least size_in fill_in rows_to all_rows size_of height_fits row_columns
+    row_height columns_of_row
 column_from d r t h = column (all_rows d) d (flow_in d r) t h

@@ -14,7 +14,8 @@ unfolding drawn certified result_lines
 printed d = result_lines d
 
 -- six items of 20 in three columns
-six-result : printed (one_row 3 (atom 20 ∷ atom 20 ∷ atom 20 ∷ atom 20 ∷ atom 20 ∷ atom 20 ∷ []) (bare L0 ∷ bare L0 ∷ bare L0 ∷ bare L0 ∷ bare L0 ∷ bare L0 ∷ bare L0 ∷ []))
+six-result : printed (one_row 3 (atom 20 ∷ atom 20 ∷ atom 20 ∷ atom 20 ∷ atom 20 ∷ atom 20 ∷ [])
+    (bare L0 ∷ bare L0 ∷ bare L0 ∷ bare L0 ∷ bare L0 ∷ bare L0 ∷ bare L0 ∷ []))
     ≡ codes "mcol 2" ∷ codes "0 stack 0 0 0 320 40" ∷ codes "1 row 0 0 0 0 320 40"
     ∷ codes "2 col 0 0 0 100 40" ∷ codes "3 atom 0 0 0 100 20" ∷ codes "3 atom 1 0 20 100 20"
     ∷ codes "2 col 1 110 0 100 40" ∷ codes "3 atom 2 110 0 100 20" ∷ codes "3 atom 3 110 20 100 20"
@@ -30,9 +31,11 @@ wide = record { x = 0; w = 10240; avoid = false; top = 0; bottom = 0 }
 
 abbrev container : FlowsData
 container = record {
-  flows = flow (Atom 1920 (Bounded 2 1 0) ∷ []) (seam [] L0 (Start 0 ∷ Wall ∷ Start 1 ∷ Start 2 ∷ Wall ∷ []) ∷ seam (Wall ∷ End 2 ∷ End 1 ∷ Wall ∷ End 0 ∷ []) L0 [] ∷ [])
+  flows = flow (Atom 1920 (Bounded 2 1 0) ∷ [])
+      (seam [] L0 (Start 0 ∷ Wall ∷ Start 1 ∷ Start 2 ∷ Wall ∷ []) ∷ seam (Wall ∷ End 2 ∷ End 1 ∷ Wall ∷ End 0 ∷ []) L0 [] ∷ [])
       ∷ flow (Row 0 ∷ []) (bare L0 ∷ bare L0 ∷ [])
-      ∷ flow (Atom 1280 (Line 2 0 0 5120) ∷ Atom 1280 (Line 2 1 0 5120) ∷ Atom 1280 (Line 2 2 0 5120) ∷ []) (bare L0 ∷ bare L1 ∷ bare L1 ∷ bare L0 ∷ [])
+      ∷ flow (Atom 1280 (Line 2 0 0 5120) ∷ Atom 1280 (Line 2 1 0 5120) ∷ Atom 1280 (Line 2 2 0 5120) ∷ [])
+      (bare L0 ∷ bare L1 ∷ bare L1 ∷ bare L0 ∷ [])
       ∷ [];
   rows = record { flow = 2; n = 2; w = 5120; step = 5120; x = 0; auto = true } ∷ [];
   boxes = wide ∷ wide ∷ wide ∷ [];
@@ -40,9 +43,12 @@ container = record {
 }
 
 container-result : printed container
-    ≡ codes "mcol 2" ∷ codes "0 stack 0 0 0 10240 1920" ∷ codes "1 box 0 se 0 0 10240 1920" ∷ codes "2 box 1 se 0 0 10240 1920" ∷ codes "3 box 2 se 0 0 10240 1920"
-    ∷ codes "4 stack 1 0 0 10240 1920" ∷ codes "5 row 0 0 0 0 10240 1920" ∷ codes "6 col 0 0 0 5120 1920" ∷ codes "7 line 2 0 0 0 5120 1280"
-    ∷ codes "6 col 1 5120 0 5120 1920" ∷ codes "7 line 2 1 5120 0 5120 1280" ∷ codes "6 col 2 10240 0 5120 1920" ∷ codes "7 line 2 2 10240 0 5120 1280"
+    ≡ codes "mcol 2" ∷ codes "0 stack 0 0 0 10240 1920" ∷ codes "1 box 0 se 0 0 10240 1920" ∷ codes "2 box 1 se 0 0 10240 1920"
+    ∷ codes "3 box 2 se 0 0 10240 1920"
+    ∷ codes "4 stack 1 0 0 10240 1920" ∷ codes "5 row 0 0 0 0 10240 1920" ∷ codes "6 col 0 0 0 5120 1920" ∷ codes
+    "7 line 2 0 0 0 5120 1280"
+    ∷ codes "6 col 1 5120 0 5120 1920" ∷ codes "7 line 2 1 5120 0 5120 1280" ∷ codes "6 col 2 10240 0 5120 1920" ∷ codes
+    "7 line 2 2 10240 0 5120 1280"
     ∷ codes "cert" ∷ codes "auto 0 1920 1920" ∷ codes "end" ∷ []
 unfolding printed
 container-result = refl

@@ -30,7 +30,13 @@ edge_in true seam e = record { tail = seam.tail ++ e ∷ []; head = seam.head; l
 edge_in false seam e = record { tail = seam.tail; head = seam.head ++ e ∷ []; level = seam.level }
 
 abbrev pub with_edge : OpenRow → Edge → OpenRow
-with_edge row e = record { flow = row.flow; items = row.items; seams = row.seams; seam = edge_in row.in_tail row.seam e; in_tail = row.in_tail }
+with_edge row e = record {
+  flow = row.flow;
+  items = row.items;
+  seams = row.seams;
+  seam = edge_in row.in_tail row.seam e;
+  in_tail = row.in_tail;
+}
 
 abbrev pub with_item : OpenRow → Item → OpenRow
 with_item row item =
@@ -38,7 +44,13 @@ with_item row item =
 
 abbrev pub with_place : OpenRow → Level → OpenRow
 with_place row level =
-    record { flow = row.flow; items = row.items; seams = row.seams; seam = record { tail = row.seam.tail; head = row.seam.head; level = level }; in_tail = false }
+    record {
+      flow = row.flow;
+      items = row.items;
+      seams = row.seams;
+      seam = record { tail = row.seam.tail; head = row.seam.head; level = level };
+      in_tail = false;
+    }
 
 abbrev pub closed : OpenRow → Flow
 closed row = record { opened = []; items = row.items; seams = row.seams ++ row.seam ∷ [] }
@@ -105,14 +117,15 @@ step s (forms.First n w st available auto) = first s n w st available auto
 step s (forms.Margin u) = edge s (Margin u)
 step s (forms.Solid u) = edge s (Solid u)
 step s forms.Wall = edge s Wall
-step s (forms.Start number x w avoid top bottom) = start s number (record { x = x; w = w; avoid = avoid; top = top; bottom = bottom })
+step s (forms.Start number x w avoid top bottom) =
+    start s number (record { x = x; w = w; avoid = avoid; top = top; bottom = bottom })
 step s (forms.End number) = edge s (End number)
 step s (forms.Atom u) = in_row s (with_item s.row (Atom u Plain))
 step s (forms.Row n w st x) = inner_row s n w st x
 step s (forms.Break level) = in_row s (with_place s.row level)
 step s forms.Close = close s
 
--- the parts behind these lines
+-- the parts after these lines
 abbrev pub run : Parts → List Line → Parts
 run s [] = s
 run s (l ∷ lines) = run (step s l.form) lines

@@ -1,6 +1,7 @@
--- The certificate of a layout: for each balanced row why each lower height was rejected, with the sizes of inner rows that this rests on
--- (this project's own).
-use Rattle.std.specs.Prelude.{ℕ, zero, suc, ◌==◌, Bool, true, false, cond, ◌&&◌, List, [], ◌∷◌, ◌++◌, length, drop, filter, map, Option, Some, None}
+-- The certificate of a layout: for each balanced row why each lower height was rejected, with the sizes of inner rows that this
+-- rests on (this project's own).
+use Rattle.std.specs.Prelude.{ℕ, zero, suc, ◌==◌, Bool, true, false, cond, ◌&&◌, List, [], ◌∷◌, ◌++◌, length, drop, filter, map}
+use Rattle.std.specs.Prelude.{Option, Some, None}
 use Rattle.std.specs.List.{flat_map, list_any}
 use Rattle.flow_list.specs.Data.{Bound, Flow, FlowsData, Item, Atom, Row}
 use Rattle.flow_data.specs.Flows.{row_of, flow_of, flow_in, stack_of}
@@ -17,8 +18,8 @@ Use = ℕ × Token
 
 -- ---- the sizes that each line rests on
 
--- For each line of what a row makes of a height from a place on: the rows among the items of the line's column, through its stop. The
--- k-th list belongs to the k-th line.
+-- For each line of what a row makes of a height from a place on: the rows among the items of the line's column, through its stop.
+-- The k-th list belongs to the k-th line.
 pub record Owned : Type 0 where
   pub fill : ℕ → Token → ℕ → List (List Use)
 
@@ -26,7 +27,7 @@ abbrev pub owned_in_fill : Owned → Option Use → ℕ → List (List Use)
 owned_in_fill owned None a = []
 owned_in_fill owned (Some r) a = owned.fill r.0 r.1 a
 
--- the same of a column with this stop behind these items, at a height
+-- the same of a column with this stop after these items, at a height
 abbrev pub owned_by : Owned → ℕ → List Step → Option Step → List (List Use)
 owned_by owned h before None = rows_among before ∷ []
 owned_by owned h before (Some s) = rows_among (before ++ s ∷ []) ∷ cond (is_cut s h) (owned_in_fill owned s.row (room s h)) []
@@ -44,11 +45,15 @@ unfoldable pub owned_to : FlowsData → ℕ → Owned
 owned_to d zero = record { fill = λ r q a. [] }
 owned_to d (suc depth) =
     let inner = rows_to d depth in
-    record { fill = λ r q a. columns_owned (λ t. column_owned (owned_to d depth) inner d (flow_in d r) t a) q (to_overflow (columns inner d (flow_in d r) (row_of d r).n q a)) }
+    record {
+      fill = λ r q a. columns_owned (λ t. column_owned (owned_to d depth) inner d (flow_in d r) t a) q
+          (to_overflow (columns inner d (flow_in d r) (row_of d r).n q a));
+    }
 
 -- for each line of a range of row r from a place on: the sizes that it rests on, those of the k-th line in the k-th list
 unfoldable pub range_owned : FlowsData → ℕ → Token → Range → List (List Use)
-range_owned d r q range = columns_owned (λ t. column_owned (owned_to d (length d.rows)) (all_rows d) d (flow_in d r) t range.low) q (judged (all_rows d) d r q range.low)
+range_owned d r q range = columns_owned (λ t. column_owned (owned_to d (length d.rows)) (all_rows d) d (flow_in d r) t range.low)
+    q (judged (all_rows d) d r q range.low)
 
 -- ---- the sizes that are used, in order
 
@@ -78,7 +83,7 @@ size_uses d u = flat_map (range_uses d u.0 u.1) (size_ranges d u.0 u.1) ++ uses_
 unfoldable pub row_uses : FlowsData → ℕ → Option ℕ → List Use
 row_uses d r available = flat_map (range_uses d r row_start) (row_ranges d r available) ++ uses_of (columns_of_row d r available)
 
--- ---- the book: each size that is used stands once, behind the sizes that it uses itself
+-- ---- the book: each size that is used stands once, after the sizes that it uses itself
 
 abbrev pub same_token : Token → Token → Bool
 same_token [] [] = true
@@ -124,7 +129,8 @@ numbers_below (suc n) = numbers_below n ++ n ∷ []
 -- the rows directly in stacks, by their numbers, which are those of the document's order
 unfoldable pub rows_in_stacks : FlowsData → List StackRow
 rows_in_stacks d =
-    let all = flat_map (λ s. stack_rows d (stack_of d s).bound (flow_of d (stack_of d s).flow) 0 (flow_of d (stack_of d s).flow).items) (numbers_below (length d.stacks)) in
+    let all = flat_map (λ s. stack_rows d (stack_of d s).bound (flow_of d (stack_of d s).flow) 0
+    (flow_of d (stack_of d s).flow).items) (numbers_below (length d.stacks)) in
     flat_map (λ n. filter (λ (r : StackRow). r.row == n) all) (numbers_below (length d.rows))
 
 -- An entry: the size of a row from a place on; a balanced row directly in a stack; one with `column-fill: auto` in effect.
@@ -142,7 +148,8 @@ row_book d book r = entered d (suc (length d.rows)) book (row_uses d r.row r.ava
 -- before the entry of each row stand the sizes that it uses and that don't stand before
 abbrev pub entries_behind : FlowsData → List Use → List StackRow → List Entry
 entries_behind d book [] = []
-entries_behind d book (r ∷ rs) = map size_entry (drop (length book) (row_book d book r)) ++ entry_of d r ∷ entries_behind d (row_book d book r) rs
+entries_behind d book (r ∷ rs) = map size_entry (drop (length book) (row_book d book r)) ++ entry_of d r ∷ entries_behind d
+    (row_book d book r) rs
 
 abbrev pub book_behind : FlowsData → List Use → List StackRow → List Use
 book_behind d book [] = book

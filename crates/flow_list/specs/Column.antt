@@ -1,5 +1,6 @@
 -- One column of a flow at a given height: where it ends, and what of that would change at a greater height.
-use Rattle.std.specs.Prelude.{ℕ, zero, suc, ◌+◌, ◌-◌, ◌==◌, Bool, true, false, cond, not, ◌||◌, ◌&&◌, List, [], ◌∷◌, ◌++◌, map, length, nat_lt, nat_le, Option, Some, None}
+use Rattle.std.specs.Prelude.{ℕ, zero, suc, ◌+◌, ◌-◌, ◌==◌, Bool, true, false, cond, not, ◌||◌, ◌&&◌, List, [], ◌∷◌, ◌++◌, map}
+use Rattle.std.specs.Prelude.{length, nat_lt, nat_le, Option, Some, None}
 use Rattle.std.specs.List.{best_of, flat_map}
 use Rattle.mc_base.specs.declared.level.Level.{Level}
 use Rattle.mc_base.specs.declared.level.Level.TheVariants.{Forced, L0, L1, L2}
@@ -86,7 +87,7 @@ pub record Step : Type 0 where
   pub bottoms : ℕ
   pub bottoms_after : ℕ
 
--- the strip behind item k, which is taken from q, and the tail of the seam after it
+-- the strip after item k, which is taken from q, and the tail of the seam after it
 abbrev pub strip_behind : Inner → Flow → Strip → ℕ → Token → Strip
 strip_behind inner f s k q = lay_all (put s (height_of inner (item_of f k) q)) (seam_of f (k + 1)).tail
 
@@ -123,7 +124,8 @@ unforced_start d f i = lay_all (strip_at (tops d (open_across f i)) true) (seam_
 -- margins stay, and within a row no head is repeated.
 abbrev pub start_strip : FlowsData → Flow → Token → Strip
 start_strip d f [] = strip_at 0 false
-start_strip d f (i ∷ []) = lay_all (strip_at (tops d (open_across f i)) (not (i == 0 || is_forced (seam_of f i).level))) (seam_of f i).head
+start_strip d f (i ∷ []) = lay_all (strip_at (tops d (open_across f i)) (not (i == 0 || is_forced (seam_of f i).level)))
+    (seam_of f i).head
 start_strip d f (i ∷ (j ∷ rest)) = strip_at (tops d (open_at f i)) true
 
 -- the items of the column that begins at a place, up to the next forced seam or the end
@@ -165,7 +167,8 @@ better_place (Some best) later = cond (nat_le later.level best.level) later best
 -- the seams before these items, where the item before the first one needs this much
 abbrev pub seams_before : ℕ → List Step → List Place
 seams_before need [] = []
-seams_before need (s ∷ ss) = record { level = rank s.level; end = s.item ∷ []; extent = need; overflow = false } ∷ seams_before s.need ss
+seams_before need (s ∷ ss) = record { level = rank s.level; end = s.item ∷ []; extent = need; overflow = false } ∷ seams_before
+    s.need ss
 
 -- the seams between these items
 abbrev pub seams_between : List Step → List Place
@@ -185,8 +188,8 @@ is_cut s h = nat_le (s.y + s.bottoms) h && nat_lt (room s h) s.height
 abbrev pub tail_from : ℕ → List Edge → ℕ
 tail_from y tail = (lay_all (strip_at y false) tail).y
 
--- Where a column ends that fills a row, at a room: within the row, or behind it where the row's end was reached. A break
--- within a row is as bad as the row's worst one, or of level 2 where an open box avoids it. Behind the row the tail of the
+-- Where a column ends that fills a row, at a room: within the row, or after it where the row's end was reached. A break
+-- within a row is as bad as the row's worst one, or of level 2 where an open box avoids it. After the row the tail of the
 -- next seam has to fit where the cloned edges of the open boxes would stand.
 abbrev pub inside_place : Bool → Step → ℕ → Filled → Place
 inside_place avoids s a filled = record {
@@ -206,7 +209,7 @@ abbrev pub inside : Bool → Step → ℕ → Option Filled → List Place
 inside avoids s h None = []
 inside avoids s h (Some filled) = cond (is_cut s h && not filled.overflow) (inside_place avoids s (room s h) filled ∷ []) []
 
--- the place behind an item that is placed whole though it overflows
+-- the place after an item that is placed whole though it overflows
 abbrev pub whole_place : Step → Place
 whole_place s = record { level = s.next; end = (s.item + 1) ∷ []; extent = s.need; overflow = true }
 
@@ -215,7 +218,8 @@ abbrev pub alone_place : Bool → Step → ℕ → Option Filled → Place
 alone_place avoids s h None = whole_place s
 alone_place avoids s h (Some filled) =
     let p = inside_place avoids s (room s h) filled in
-    cond (nat_lt (room s h) s.height) (record { level = p.level; end = p.end; extent = p.extent; overflow = true }) (whole_place s)
+    cond (nat_lt (room s h) s.height) (record { level = p.level; end = p.end; extent = p.extent; overflow = true })
+    (whole_place s)
 
 -- of a first place and these later ones the one of least level, and of those the latest
 abbrev pub best : Place → List Place → Place
@@ -276,10 +280,12 @@ column_to p stop lines bounds uses = record {
 -- best of the seams up to the stop and the place inside it (CSS Fragmentation 3, section 4.5)
 abbrev pub stopped : Bool → ℕ → List Step → Step → Option Filled → Column
 stopped avoids h before s filled =
-    column_to (choose (seams_between (before ++ s ∷ []) ++ inside avoids s h filled) (alone_place avoids s h filled)) (Some s.item)
-    (inner_lines (is_cut s h) filled) (bounds_at s h filled) (rows_among (before ++ s ∷ []) ++ inner_uses (fills before s h) filled)
+    column_to (choose (seams_between (before ++ s ∷ []) ++ inside avoids s h filled) (alone_place avoids s h filled))
+    (Some s.item)
+    (inner_lines (is_cut s h) filled) (bounds_at s h filled)
+    (rows_among (before ++ s ∷ []) ++ inner_uses (fills before s h) filled)
 
--- the place behind the last of these items, a forced seam or the end
+-- the place after the last of these items, a forced seam or the end
 abbrev pub last_place : Place → List Step → Place
 last_place p [] = p
 last_place p (s ∷ ss) = last_place (record { level = 0; end = (s.item + 1) ∷ []; extent = s.need; overflow = false }) ss

@@ -14,7 +14,8 @@ use Rattle.flow_text.specs.Faults.{IsFirstFault}
 use Rattle.flow_text.specs.Grammar.{Rest, no_more, edge, place, atom, row, FlowFile, IsFlowFile, file_lines}
 use Rattle.flow_text.specs.Limits.{limit_passed}
 use Rattle.flow_text.specs.Text.{IsText}
-use Rattle.flow_list.specs.Data.{Bound, BoxInfo, Edge, Flow, FlowsData, Item, RowInfo, Seam, Stack, Plain, Free, Each, Margin, Solid, Wall, Start, End, Atom, Row}
+use Rattle.flow_list.specs.Data.{Bound, BoxInfo, Edge, Flow, FlowsData, Item, RowInfo, Seam, Stack, Plain, Free, Each, Margin}
+use Rattle.flow_list.specs.Data.{Solid, Wall, Start, End, Atom, Row}
 use Rattle.flow_data.specs.Flows.{no_seam}
 
 -- ---- seams
@@ -36,7 +37,7 @@ edges_before (place at level rest) = []
 edges_before (atom at height rest) = []
 edges_before (row at n w step x content ended rest) = []
 
--- the edges between the next break place and the item behind it
+-- the edges between the next break place and the item after it
 abbrev pub edges_behind : Rest → List Edge
 edges_behind no_more = []
 edges_behind (edge l rest) = edges_behind rest
@@ -52,11 +53,11 @@ next_level (place at level rest) = level
 next_level (atom at height rest) = L0
 next_level (row at n w step x content ended rest) = L0
 
--- the seam between an item and what is left of its row behind it
+-- the seam between an item and what is left of its row after it
 abbrev pub seam_behind : Rest → Seam
 seam_behind rest = record { tail = edges_before rest; head = edges_behind rest; level = next_level rest }
 
--- the seams behind the items that are left
+-- the seams after the items that are left
 abbrev pub seams_behind : Rest → List Seam
 seams_behind no_more = []
 seams_behind (edge l rest) = seams_behind rest

@@ -1,25 +1,30 @@
--- The fragment of a column: what stands in it, box within box, with its place from the column's top (CSS Fragmentation 3, section 2).
-use Rattle.std.specs.Prelude.{ℕ, zero, suc, ◌+◌, ◌-◌, ◌==◌, Bool, true, false, cond, not, ◌||◌, ◌&&◌, List, [], ◌∷◌, ◌++◌, length, nat_lt, Option, Some, None, is_some}
+-- The fragment of a column: what stands in it, box within box, with its place from the column's top (CSS Fragmentation 3, section
+-- 2).
+use Rattle.std.specs.Prelude.{ℕ, zero, suc, ◌+◌, ◌-◌, ◌==◌, Bool, true, false, cond, not, ◌||◌, ◌&&◌, List, [], ◌∷◌, ◌++◌, length}
+use Rattle.std.specs.Prelude.{nat_lt, Option, Some, None, is_some}
 use Rattle.mc_base.specs.PlainTree.{PlainTree, plain_trees, atom as atom_tree, piece, row_piece, column as column_tree}
 use Rattle.flow_list.specs.Data.{Bound, Flow, FlowsData, Item, Atom, Row}
 use Rattle.flow_data.specs.Flows.{box_of, row_of, flow_of, flow_in, stack_of, item_of, seam_of, open_at}
 use Rattle.flow_list.specs.ClonedEdges.{open_across, tops}
 use Rattle.flow_list.specs.Tokens.{Token, row_start, item_number, within}
 use Rattle.flow_list.specs.Strip.{Strip, strip_at, put, lay_all, begins}
-use Rattle.flow_list.specs.Column.{Column, Inner, Step, height_of, strip_behind, start_strip, steps_from, is_forced, cut, room, column, endless_column}
+use Rattle.flow_list.specs.Column.{Column, Inner, Step, height_of, strip_behind, start_strip, steps_from, is_forced, cut, room}
+use Rattle.flow_list.specs.Column.{column, endless_column}
 use Rattle.flow_list.specs.Rows.{columns_by, left_in, rows_to, all_rows}
 use Rattle.flow_list.specs.RowHeights.{row_height, balanced_height, size_of}
 use Rattle.flow_list.specs.Stacks.{available_to, height_in_stack, stack_strip, stack_extent}
-use Rattle.flow_list.specs.Placing.{RowLaid, Laid, atom, row, laid_edges, Placed, opens_at, closes_at, atom_at, row_at, places_from}
+use Rattle.flow_list.specs.Placing.{RowLaid, Laid, atom, row, laid_edges, Placed, opens_at, closes_at, atom_at, row_at}
+use Rattle.flow_list.specs.Placing.{places_from}
 
 -- ---- what is laid in a column
 
 -- an item that stands in a column whole, taken from a place
 abbrev pub laid_item : Inner → Item → ℕ → Token → Laid
 laid_item inner (Atom height kind) k q = atom k height
-laid_item inner (Row r) k q = row (record { row = r; from = q; height = inner.size r q; made_at = Some (inner.size r q); filled = false })
+laid_item inner (Row r) k q =
+    row (record { row = r; from = q; height = inner.size r q; made_at = Some (inner.size r q); filled = false })
 
--- n items from item k on, with the tails behind them and the heads between them; the first is taken from q
+-- n items from item k on, with the tails after them and the heads between them; the first is taken from q
 unfoldable pub laid_items : Inner → Flow → Strip → ℕ → Token → ℕ → List Laid
 laid_items inner f s k q zero = []
 laid_items inner f s k q (suc n) =
@@ -27,10 +32,11 @@ laid_items inner f s k q (suc n) =
     laid_item inner (item_of f k) k q ∷ laid_edges (put s (height_of inner (item_of f k) q)) (seam_of f (k + 1)).tail
     ++ elim n [
       | zero ↦ []
-      | suc m ↦ laid_edges behind (seam_of f (k + 1)).head ++ laid_items inner f (lay_all behind (seam_of f (k + 1)).head) (k + 1) row_start n
+      | suc m ↦ laid_edges behind (seam_of f (k + 1)).head ++ laid_items inner f (lay_all behind (seam_of f (k + 1)).head) (k + 1)
+          row_start n
     ]
 
--- the strip behind these items and the tail behind the last of them; before the first head where there are none
+-- the strip after these items and the tail after the last of them; before the first head where there are none
 unfoldable pub strip_after : Inner → Flow → Strip → ℕ → Token → ℕ → Strip
 strip_after inner f s k q zero = s
 strip_after inner f s k q (suc n) = elim n [
@@ -41,7 +47,8 @@ strip_after inner f s k q (suc n) = elim n [
 -- the head that a column begins with, and the boxes that continue in it from an earlier one, the outermost first
 abbrev pub laid_start : FlowsData → Flow → Token → List Laid
 laid_start d f [] = []
-laid_start d f (i ∷ []) = laid_edges (strip_at (tops d (open_across f i)) (not (i == 0 || is_forced (seam_of f i).level))) (seam_of f i).head
+laid_start d f (i ∷ []) = laid_edges (strip_at (tops d (open_across f i)) (not (i == 0 || is_forced (seam_of f i).level)))
+    (seam_of f i).head
 laid_start d f (i ∷ (j ∷ rest)) = []
 
 abbrev pub continuing : Flow → Token → List ℕ
@@ -75,7 +82,7 @@ laid_filled None stop = []
 laid_filled (Some h) None = []
 laid_filled (Some h) (Some s) = filled_row s.row (room s h)
 
--- where the strip stands behind the row that is filled
+-- where the strip stands after the row that is filled
 abbrev pub strip_filled : Option ℕ → Option Step → Strip
 strip_filled None stop = strip_at 0 false
 strip_filled (Some h) None = strip_at 0 false
@@ -84,17 +91,20 @@ strip_filled (Some h) (Some s) = strip_at (s.y + room s h) false
 -- the items from k on before a row that is filled, with the head before it
 abbrev pub laid_before : Inner → Flow → Strip → ℕ → Token → ℕ → List Laid
 laid_before inner f s k q zero = []
-laid_before inner f s k q (suc n) = laid_items inner f s k q (suc n) ++ laid_edges (strip_after inner f s k q (suc n)) (seam_of f (k + (suc n))).head
+laid_before inner f s k q (suc n) = laid_items inner f s k q (suc n) ++ laid_edges (strip_after inner f s k q (suc n))
+    (seam_of f (k + (suc n))).head
 
--- What is laid in the column that begins at t and ends at a place: whole items up to that place; or up to a row that is filled, then the
--- row, and the tail behind it where the row's end was reached.
+-- What is laid in the column that begins at t and ends at a place: whole items up to that place; or up to a row that is filled,
+-- then the row, and the tail after it where the row's end was reached.
 abbrev pub laid_to : Inner → FlowsData → Flow → Token → Option ℕ → Option Step → Token → List Laid
 laid_to inner d f t h stop [] = []
 laid_to inner d f t h stop (e ∷ []) =
     cond (fills_item h stop (e - 1) && not (e == 0))
-    (laid_before inner f (start_strip d f t) (item_number t) (within t) (e - 1 - item_number t) ++ laid_filled h stop ++ laid_edges (strip_filled h stop) (seam_of f e).tail)
+    (laid_before inner f (start_strip d f t) (item_number t) (within t) (e - 1 - item_number t) ++ laid_filled h stop
+    ++ laid_edges (strip_filled h stop) (seam_of f e).tail)
     (laid_items inner f (start_strip d f t) (item_number t) (within t) (e - item_number t))
-laid_to inner d f t h stop (e ∷ (j ∷ rest)) = laid_before inner f (start_strip d f t) (item_number t) (within t) (e - item_number t) ++ laid_filled h stop
+laid_to inner d f t h stop (e ∷ (j ∷ rest)) =
+    laid_before inner f (start_strip d f t) (item_number t) (within t) (e - item_number t) ++ laid_filled h stop
 
 -- where the first item or edge of a column stands: below the upper cloned edges of the boxes that continue
 abbrev pub places_in : FlowsData → Flow → Token → List Laid → List Placed
@@ -109,7 +119,7 @@ closes_here b (closes_at c y) = c == b
 closes_here b (atom_at k y) = false
 closes_here b (row_at r y) = false
 
--- what stands before box b ends, what stands behind that, and where it ends
+-- what stands before box b ends, what stands after that, and where it ends
 abbrev pub inside_box : ℕ → List Placed → List Placed
 inside_box b [] = []
 inside_box b (x ∷ xs) = cond (closes_here b x) [] (x ∷ inside_box b xs)
@@ -128,7 +138,8 @@ abbrev pub bottom_of : ℕ → List Placed → Option ℕ
 bottom_of b [] = None
 bottom_of b (x ∷ xs) = cond (closes_here b x) (Some (place_of x)) (bottom_of b xs)
 
--- The trees of what is placed: each box with what stands before its end, atoms and rows; n counts them. The columns of a row are given.
+-- The trees of what is placed: each box with what stands before its end, atoms and rows; n counts them. The columns of a row are
+-- given.
 unfoldable pub trees_of : (RowLaid → List PlainTree) → ℕ → List Placed → List PlainTree
 trees_of columns zero xs = []
 trees_of columns (suc n) [] = []
@@ -153,7 +164,9 @@ column_made inner d f (Some h) t = column inner d f t h
 abbrev pub fragment_of : (RowLaid → List PlainTree) → Inner → FlowsData → (number : ℕ) → Flow → Option ℕ → Token → PlainTree
 fragment_of columns inner d number f h t =
     let c = column_made inner d f h t in
-    column_tree number t c.end c.extent (plain_trees (all_trees columns (places_in d f t (laid_start d f t ++ laid_to inner d f t h (stop_of inner d f t h) c.end))))
+    column_tree number t c.end c.extent
+    (plain_trees (all_trees columns
+    (places_in d f t (laid_start d f t ++ laid_to inner d f t h (stop_of inner d f t h) c.end))))
 
 -- the fragments of these columns, of which the first begins at t
 abbrev pub fragments_from : (Token → PlainTree) → Token → List Column → List PlainTree
@@ -199,7 +212,8 @@ stack_laid d bound f k (suc n) =
     let s = stack_strip d bound f k in
     let behind = put s (height_in_stack d bound (item_of f k) (begins s)) in
     laid_in_stack d bound f k (item_of f k)
-    ∷ laid_edges behind (seam_of f (k + 1)).tail ++ laid_edges (lay_all behind (seam_of f (k + 1)).tail) (seam_of f (k + 1)).head ++ stack_laid d bound f (k + 1) n
+    ∷ laid_edges behind (seam_of f (k + 1)).tail ++ laid_edges (lay_all behind (seam_of f (k + 1)).tail) (seam_of f (k + 1)).head
+    ++ stack_laid d bound f (k + 1) n
 
 -- the fragment of a stack: its strip as one column, from its start to its end
 unfoldable pub stack_fragment : FlowsData → ℕ → PlainTree
@@ -209,4 +223,5 @@ stack_fragment d s =
     let bound = (stack_of d s).bound in
     let laid = laid_edges (strip_at (tops d f.opened) false) (seam_of f 0).head ++ stack_laid d bound f 0 (length f.items) in
     column_tree number row_start (length f.items ∷ []) (stack_extent d bound f)
-    (plain_trees (all_trees (row_fragments d (suc (length d.rows))) (continued_from d 0 f.opened ++ places_from (length laid + 1) (tops d f.opened) laid)))
+    (plain_trees (all_trees (row_fragments d (suc (length d.rows)))
+    (continued_from d 0 f.opened ++ places_from (length laid + 1) (tops d f.opened) laid)))

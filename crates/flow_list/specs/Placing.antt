@@ -1,13 +1,15 @@
--- Where things stand in a column: margins that adjoin collapse to one gap, and what stands in a gap stands at its end (CSS 2.1, section
--- 8.3.1, leaves the place of boxes within collapsed margins to a rule of its own; that they stand at the gap's end is this project's own).
+-- Where things stand in a column: margins that adjoin collapse to one gap, and what stands in a gap stands at its end (CSS 2.1,
+-- section
+-- 8.3.1, leaves the place of boxes within collapsed margins to a rule of its own; that they stand at the gap's end is this
+-- project's own).
 use Rattle.std.specs.Prelude.{ℕ, zero, suc, ◌+◌, ◌==◌, max, Bool, true, false, cond, not, ◌||◌, List, [], ◌∷◌, ◌++◌, Option}
 use Rattle.std.specs.List.{list_any}
 use Rattle.flow_list.specs.Data.{Edge, Margin, Solid, Wall, Start, End}
 use Rattle.flow_list.specs.Strip.{Strip, lay}
 use Rattle.flow_list.specs.Tokens.{Token}
 
--- A row as it stands in a column, from a place in it on: its height, the height at which its columns are made (none: they have no end), and
--- whether it is filled, so that only as many of them as it has stand there.
+-- A row as it stands in a column, from a place in it on: its height, the height at which its columns are made (none: they have no
+-- end), and whether it is filled, so that only as many of them as it has stand there.
 pub record RowLaid : Type 0 where
   pub row : ℕ
   pub from : Token
@@ -15,8 +17,8 @@ pub record RowLaid : Type 0 where
   pub made_at : Option ℕ
   pub filled : Bool
 
--- What is laid in a column, in order: margins that count, solid amounts above 0, walls, starts and ends of boxes, atoms with their heights
--- and rows. A box that continues from an earlier column starts before all else.
+-- What is laid in a column, in order: margins that count, solid amounts above 0, walls, starts and ends of boxes, atoms with
+-- their heights and rows. A box that continues from an earlier column starts before all else.
 pub data Laid : Type 0 where
   margin : (amount : ℕ) → Laid
   solid : (amount : ℕ) → Laid
@@ -88,8 +90,8 @@ pub data Placed : Type 0 where
   atom_at : (item y : ℕ) → Placed
   row_at : RowLaid → (y : ℕ) → Placed
 
--- Something in a gap from y to end, behind these others of the gap: a box that ends here and started before the gap stands at the gap's
--- start, a row where the margins before it put it, and all else at the gap's end.
+-- Something in a gap from y to end, after these others of the gap: a box that ends here and started before the gap stands at the
+-- gap's start, a row where the margins before it put it, and all else at the gap's end.
 abbrev pub placed_in_gap : (y end : ℕ) → (before : List Laid) → Laid → List Placed
 placed_in_gap y end before (margin m) = []
 placed_in_gap y end before (solid a) = []

@@ -1,6 +1,7 @@
--- Ranges of heights that don't fit a row, with the reason why (this project's own: CSS Multi-column 1, section 7.1, leaves the height of
--- balanced columns open).
-use Rattle.std.specs.Prelude.{◌≡◌, ℕ, zero, suc, ◌+◌, ◌-◌, ◌*◌, ◌/◌, ◌<◌, ◌≤◌, max, min, Bool, true, false, cond, List, [], ◌∷◌, ◌++◌, length, drop, nat_lt, nat_le, fold, sum_by, Option, Some, None, IfSome, All}
+-- Ranges of heights that don't fit a row, with the reason why (this project's own: CSS Multi-column 1, section 7.1, leaves the
+-- height of balanced columns open).
+use Rattle.std.specs.Prelude.{◌≡◌, ℕ, zero, suc, ◌+◌, ◌-◌, ◌*◌, ◌/◌, ◌<◌, ◌≤◌, max, min, Bool, true, false, cond, List, [], ◌∷◌}
+use Rattle.std.specs.Prelude.{◌++◌, length, drop, nat_lt, nat_le, fold, sum_by, Option, Some, None, IfSome, All}
 use Rattle.std.specs.List.{flat_map}
 use Rattle.flow_list.specs.Data.{Flow, FlowsData, Item, Atom, Row}
 use Rattle.flow_list.specs.Atoms.{IsAtom}
@@ -33,8 +34,8 @@ lines_of cs = flat_map (λ (c : Column). c.lines) cs
 
 -- ---- reasons
 
--- Why a height doesn't fit: an atom is too high (tall), there is too much for the columns (area), the columns that may be used leave a
--- place (left), or one of them, counted from 1, ends at a bad break (bad) or overflows (over).
+-- Why a height doesn't fit: an atom is too high (tall), there is too much for the columns (area), the columns that may be used
+-- leave a place (left), or one of them, counted from 1, ends at a bad break (bad) or overflows (over).
 pub data Reason : Type 0 where
   tall : (item : ℕ) → Reason
   area : Reason
@@ -71,11 +72,15 @@ pub record LeavesRest (f : Flow) (q : Token) (cs : List Column) (at : Token) : T
 -- No height from low up to, but not including, high fits row r from a place on, for this reason.
 abbrev pub RangeRejects : Inner → FlowsData → (r : ℕ) → (q : Token) → (low high : ℕ) → Reason → Type 0
 RangeRejects inner d r q low high (tall k) =
-    (item_number q ≤ k) × (k < length (flow_in d r).items) × IsAtom (item_of (flow_in d r) k) × (high ≤ loose_need inner d (flow_in d r) k)
+    (item_number q ≤ k) × (k < length (flow_in d r).items) × IsAtom (item_of (flow_in d r) k)
+    × (high ≤ loose_need inner d (flow_in d r) k)
 RangeRejects inner d r q low high area = most_columns (row_of d r).n (flow_in d r) q * (high - 1) < atoms_height (flow_in d r) q
-RangeRejects inner d r q low high (left at) = LeavesRest (flow_in d r) q (judged inner d r q low) at × All (λ b. high ≤ b) (bounds_of (judged inner d r q low))
-RangeRejects inner d r q low high (bad c) = FailsAt (judged inner d r q low) c false × All (λ b. high ≤ b) (bounds_of (judged inner d r q low))
-RangeRejects inner d r q low high (over c) = FailsAt (judged inner d r q low) c true × All (λ b. high ≤ b) (bounds_of (judged inner d r q low))
+RangeRejects inner d r q low high (left at) = LeavesRest (flow_in d r) q (judged inner d r q low) at
+    × All (λ b. high ≤ b) (bounds_of (judged inner d r q low))
+RangeRejects inner d r q low high (bad c) = FailsAt (judged inner d r q low) c false
+    × All (λ b. high ≤ b) (bounds_of (judged inner d r q low))
+RangeRejects inner d r q low high (over c) = FailsAt (judged inner d r q low) c true
+    × All (λ b. high ≤ b) (bounds_of (judged inner d r q low))
 
 -- ---- the search
 
@@ -106,7 +111,8 @@ spread much n = (much + n - 1) / n
 -- the reason at a height of these judged columns from a place on, the first of which is column c; none where the height fits
 abbrev pub reason_of : Flow → (c : ℕ) → Token → List Column → Option Reason
 reason_of f c q [] = cond (is_end f q) None (Some (left q))
-reason_of f c q (first ∷ cs) = cond first.overflow (Some (over c)) (cond (nat_lt 0 first.level) (Some (bad c)) (reason_of f (c + 1) first.end cs))
+reason_of f c q (first ∷ cs) =
+    cond first.overflow (Some (over c)) (cond (nat_lt 0 first.level) (Some (bad c)) (reason_of f (c + 1) first.end cs))
 
 -- the least of these and of top, where that is given: none where there is neither
 abbrev pub least_bound : Option ℕ → List ℕ → Option ℕ
@@ -118,8 +124,8 @@ abbrev pub is_past : Option ℕ → ℕ → Bool
 is_past None h = false
 is_past (Some top) h = nat_le top h
 
--- the ranges from a height on, of which there are n at most: each up to the least bound of the columns judged where it begins, until a
--- height fits or the top is reached
+-- the ranges from a height on, of which there are n at most: each up to the least bound of the columns judged where it begins,
+-- until a height fits or the top is reached
 unfoldable pub searched : Inner → FlowsData → ℕ → Token → Option ℕ → ℕ → ℕ → List Range
 searched inner d r q top zero low = []
 searched inner d r q top (suc n) low = elim (is_past top low) [
@@ -131,7 +137,8 @@ searched inner d r q top (suc n) low = elim (is_past top low) [
         | Some reason ↦
             elim (least_bound top (bounds_of cs)) [
               | None ↦ []
-              | Some high ↦ record { low = low; high = high; reason = reason; lines = lines_of cs } ∷ searched inner d r q top n high
+              | Some high ↦ record { low = low; high = high; reason = reason; lines = lines_of cs } ∷ searched inner d r q top
+                  n high
             ]
       ]
 ]
@@ -139,15 +146,16 @@ searched inner d r q top (suc n) low = elim (is_past top low) [
 -- a range from one height up to another, or none where that is empty; cut at the top where that is given
 abbrev pub range_up_to : Option ℕ → (low high : ℕ) → Reason → List Range
 range_up_to None low high reason = cond (nat_lt low high) (record { low = low; high = high; reason = reason; lines = [] } ∷ []) []
-range_up_to (Some top) low high reason = cond (nat_lt low (min high top)) (record { low = low; high = min high top; reason = reason; lines = [] } ∷ []) []
+range_up_to (Some top) low high reason =
+    cond (nat_lt low (min high top)) (record { low = low; high = min high top; reason = reason; lines = [] } ∷ []) []
 
 -- one above what is available
 abbrev pub top_of : Option ℕ → Option ℕ
 top_of None = None
 top_of (Some available) = Some (available + 1)
 
--- The ranges of a row from a place on, where this much is available: up to what the highest atom needs, up to where the atoms have room in
--- the columns, and then as the columns tell. They end at the first height that fits, or one above what is available.
+-- The ranges of a row from a place on, where this much is available: up to what the highest atom needs, up to where the atoms
+-- have room in the columns, and then as the columns tell. They end at the first height that fits, or one above what is available.
 unfoldable pub ranges : Inner → FlowsData → ℕ → Token → Option ℕ → List Range
 ranges inner d r q available =
     let f = flow_in d r in

@@ -1,5 +1,6 @@
 -- The heights and the columns of the rows that stand outside any columns (CSS Multi-column 1, sections 7 and 8.2).
-use Rattle.std.specs.Prelude.{◌≡◌, ℕ, ◌-◌, ◌^◌, ◌<◌, ◌==◌, max, min, Bool, true, false, cond, not, ◌||◌, List, [], ◌∷◌, length, map, nat_lt, nat_le, fold, Option, Some, None}
+use Rattle.std.specs.Prelude.{◌≡◌, ℕ, ◌-◌, ◌^◌, ◌<◌, ◌==◌, max, min, Bool, true, false, cond, not, ◌||◌, List, [], ◌∷◌, length}
+use Rattle.std.specs.Prelude.{map, nat_lt, nat_le, fold, Option, Some, None}
 use Rattle.std.specs.List.{list_any}
 use Rattle.flow_list.specs.Data.{Flow, FlowsData}
 use Rattle.flow_data.specs.Flows.{row_of, flow_in, seam_of}
@@ -26,7 +27,8 @@ column_within d f (Some h) q = column (all_rows d) d f q h
 
 -- all columns of a row, at a height or without end
 unfoldable pub row_columns : FlowsData → ℕ → Option ℕ → List Column
-row_columns d r height = columns_by (column_within d (flow_in d r) height) (flow_in d r) (left_in (all_rows d) (flow_in d r) row_start) row_start
+row_columns d r height = columns_by (column_within d (flow_in d r) height) (flow_in d r)
+    (left_in (all_rows d) (flow_in d r) row_start) row_start
 
 -- the places where these columns end, and the places before these items
 abbrev pub ends_of : List Column → List Token
@@ -71,7 +73,8 @@ greatest_extent cs = fold (λ most (c : Column). max most c.extent) 0 cs
 -- as the longest column reaches.
 abbrev pub filled_height : Flow → Option ℕ → List Column → ℕ
 filled_height f None cs = greatest_extent cs
-filled_height f (Some available) cs = cond (list_any (λ (c : Column). is_unforced f c.end || nat_lt available c.extent) cs) available (greatest_extent cs)
+filled_height f (Some available) cs = cond (list_any (λ (c : Column). is_unforced f c.end || nat_lt available c.extent) cs)
+    available (greatest_extent cs)
 
 -- the same, told by how far the longest column reaches and whether a column was broken
 abbrev pub filled_to : Option ℕ → ℕ → Bool → ℕ
@@ -85,8 +88,10 @@ fill_limit (Some available) = available
 
 -- the height of a row that stands outside any columns, where this much is available
 unfoldable pub row_height : FlowsData → ℕ → Option ℕ → ℕ
-row_height d r available = cond (row_of d r).auto (filled_height (flow_in d r) available (row_columns d r available)) (balanced_height available (size_of d r row_start))
+row_height d r available = cond (row_of d r).auto (filled_height (flow_in d r) available (row_columns d r available))
+    (balanced_height available (size_of d r row_start))
 
 -- the columns of that row: with `column-fill: auto` as high as is available, else as high as the row
 unfoldable pub columns_of_row : FlowsData → ℕ → Option ℕ → List Column
-columns_of_row d r available = row_columns d r (cond (row_of d r).auto available (Some (balanced_height available (size_of d r row_start))))
+columns_of_row d r available =
+    row_columns d r (cond (row_of d r).auto available (Some (balanced_height available (size_of d r row_start))))

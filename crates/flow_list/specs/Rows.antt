@@ -1,5 +1,6 @@
 -- Columns one after another, the heights that fit, and what a row is to the flow that it stands in.
-use Rattle.std.specs.Prelude.{ℕ, zero, suc, ◌+◌, ◌-◌, max, Bool, true, false, cond, not, ◌||◌, ◌&&◌, List, [], ◌∷◌, length, nat_lt, take, drop, fold, count_by, sum_by}
+use Rattle.std.specs.Prelude.{ℕ, zero, suc, ◌+◌, ◌-◌, max, Bool, true, false, cond, not, ◌||◌, ◌&&◌, List, [], ◌∷◌, length}
+use Rattle.std.specs.Prelude.{nat_lt, take, drop, fold, count_by, sum_by}
 use Rattle.std.specs.List.{list_any, flat_map}
 use Rattle.flow_list.specs.Data.{Flow, FlowsData, Item, Seam, Atom, Row}
 use Rattle.flow_data.specs.Flows.{row_of, flow_in, amount, boxes_in}
@@ -62,7 +63,8 @@ amounts_in seams = sum_by (λ (s : Seam). sum_by amount s.tail + sum_by amount s
 -- the heights, the margins, the solid amounts and the cloned edges of a flow from a place on, all together: at this height
 -- only forced breaks remain, so it fits
 abbrev pub reach : Inner → FlowsData → Flow → Token → ℕ
-reach inner d f q = tops d (boxes_in f) + bottoms d (boxes_in f) + amounts_in f.seams + heights_from inner (within q) (drop (item_number q) f.items)
+reach inner d f q = tops d (boxes_in f) + bottoms d (boxes_in f) + amounts_in f.seams + heights_from inner (within q)
+    (drop (item_number q) f.items)
 
 -- the size of a row from a place on: the least height that fits
 unfoldable pub size_in : Inner → FlowsData → ℕ → Token → ℕ

@@ -1,5 +1,5 @@
--- Stacks: flows that are laid outside any columns, in one column without end (CSS 2.1, section 9.4.1; that breaks have no effect there is
--- this project's own).
+-- Stacks: flows that are laid outside any columns, in one column without end (CSS 2.1, section 9.4.1; that breaks have no effect
+-- there is this project's own).
 use Rattle.std.specs.Prelude.{ℕ, zero, suc, ◌+◌, ◌-◌, ◌==◌, max, false, cond, length, Option, Some, None}
 use Rattle.flow_list.specs.Data.{Bound, Flow, FlowsData, Item, Free, Each, Left, Atom, Row}
 use Rattle.flow_data.specs.Flows.{flow_of, stack_of, item_of, seam_of}
@@ -7,8 +7,8 @@ use Rattle.flow_list.specs.ClonedEdges.{open_across, tops, bottoms}
 use Rattle.flow_list.specs.RowHeights.{row_height}
 use Rattle.flow_list.specs.Strip.{Strip, strip_at, put, lay_all, begins}
 
--- The height that is available to a row directly in a stack, where it begins: any, this much, or what is left of the stack's own height,
--- at least 1px.
+-- The height that is available to a row directly in a stack, where it begins: any, this much, or what is left of the stack's own
+-- height, at least 1px.
 abbrev pub available_at : Bound → ℕ → Option ℕ
 available_at Free x = None
 available_at (Each height) x = Some height
@@ -19,7 +19,7 @@ abbrev pub height_in_stack : FlowsData → Bound → Item → ℕ → ℕ
 height_in_stack d bound (Atom height kind) x = height
 height_in_stack d bound (Row r) x = row_height d r (available_at bound x)
 
--- the strip of a stack's flow before its item k, behind the head of seam k
+-- the strip of a stack's flow before its item k, after the head of seam k
 unfoldable pub stack_strip : FlowsData → Bound → Flow → ℕ → Strip
 stack_strip d bound f zero = lay_all (strip_at (tops d (open_across f 0)) false) (seam_of f 0).head
 stack_strip d bound f (suc k) =

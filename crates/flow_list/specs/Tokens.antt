@@ -27,7 +27,8 @@ is_end f t = nat_le (length f.items) (item_number t)
 abbrev pub IsPlaceBefore : FlowsData → Flow → Token → Type 0
 IsPlaceBefore d f [] = ⊥
 IsPlaceBefore d f (i ∷ []) = i < length f.items
-IsPlaceBefore d f (i ∷ (j ∷ rest)) = (i < length f.items) × (r : ℕ) × (item_of f i ≡ Row r) × IsPlaceBefore d (flow_in d r) (j ∷ rest)
+IsPlaceBefore d f (i ∷ (j ∷ rest)) = (i < length f.items) × (r : ℕ) × (item_of f i ≡ Row r)
+    × IsPlaceBefore d (flow_in d r) (j ∷ rest)
 
 -- a place in a flow: its end, or a place before that
 abbrev pub IsPlace : FlowsData → Flow → Token → Type 0

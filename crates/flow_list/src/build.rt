@@ -12,7 +12,7 @@ use flow_text::{Form, Line, Pile};
 use mc_base::{Level, List, NoMemory, Units};
 use std::alloc::Global;
 
-/// A row that isn't ended: the number of its flow, its items and seams so far, the seam behind its last item, and whether
+/// A row that isn't ended: the number of its flow, its items and seams so far, the seam after its last item, and whether
 /// that seam has no break place yet.
 #[derive(Drop)]
 pub struct OpenRow {
@@ -74,7 +74,7 @@ impl OpenRow {
     ghost use Rattle.std.specs.Prelude.{◌≡◌, IfOk};
     ghost use Rattle.flow_list.specs.Building as building;
 
-    /// An edge, before or behind the break place.
+    /// An edge, before or after the break place.
     fn with_edge(self, edge: Edge) -> Result<OpenRow, NoMemory>
         ensures { IfOk result (λ row. row ≡ building.with_edge self edge) }
     {

@@ -3,7 +3,7 @@
 use mc_base::{List, Units};
 
 /// A row that was laid out: its number, its height in units of 1/64 px, and the items before which its columns end, in
-/// order. A column that ends behind the last item has the count of items there.
+/// order. A column that ends after the last item has the count of items there.
 #[derive(Drop)]
 pub struct FlatRow {
     pub row: u32,

@@ -93,7 +93,7 @@ pub fn item_count(flows: &Flows, flow: u32) -> u32
     flows.flow(flow).items.len() as u32
 }
 
-/// Seam `k` of a flow: the one before item `k`, or behind the last item.
+/// Seam `k` of a flow: the one before item `k`, or after the last item.
 pub fn seam_at(flows: &Flows, flow: u32, k: u32) -> &Seam
     requires flow { flow < length flows.now.flows }
     requires seam { k < length (flow_of flows.now flow).seams }

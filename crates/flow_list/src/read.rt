@@ -15,11 +15,12 @@ use std::alloc::Global;
 /// The flows that a flow file says, of a text of at most 2^28 bytes.
 ///
 /// `Grammar` comes off the grammar of flow files, with the first fault and its byte, and `Limit` on it where a limit of
-/// flows is passed, the first of `length`, `columns`, `nest`, `items` and `inner-items`. `NoMemory` is want of memory.
+/// flows is passed, the first of `length`, `columns`, `nest`, `items` and `inner-items`. `NoMemory` is out of memory.
 pub fn read_flow(alloc: Global, text: &[u8]) -> Result<Flows, Refusal>
     requires { length text.now ≤ 2 ^ 28 }
     // What is read are the flows of a flow file that the text is, within its limits.
-    ensures found { IfOk result (λ flows. (file : FlowFile) × IsFile text.now file × (limit_of file ≡ None) × (flows ≡ flows_of file)) }
+    ensures found { IfOk result (λ flows. (file : FlowFile) × IsFile text.now file × (limit_of file ≡ None)
+        × (flows ≡ flows_of file)) }
 
     // A flow file within its limits is read, unless memory runs out.
     ensures only { (file : FlowFile) → IsFile text.now file →

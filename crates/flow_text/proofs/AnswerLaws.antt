@@ -1,5 +1,6 @@
 -- What an answer says of the text.
-use Rattle.std.proofs.Common.{◌≡◌, ℕ, List, Bool, true, false, cond, ltb, Option, Some, None, Result, Ok, Err, refl, ap, ◌∙◌, subst}
+use Rattle.std.proofs.Common.{◌≡◌, ℕ, List, Bool, true, false, cond, ltb, Option, Some, None, Result, Ok, Err, refl, ap, ◌∙◌}
+use Rattle.std.proofs.Common.{subst}
 use Rattle.std.specs.Prelude.{IfErr, IfOk, IsErrOf}
 use Rattle.mc_base.specs.declared.refusal.Refusal.{Refusal}
 use Rattle.mc_base.specs.declared.refusal.Refusal.TheVariants as refusals
@@ -9,7 +10,8 @@ use Rattle.flow_text.specs.Text.{IsText, lines_of}
 use Rattle.flow_text.specs.Grammar.{FlowFile, IsFlowFile}
 use Rattle.mc_base.specs.declared.refusal.LimitName.TheVariants.{Items}
 use Rattle.flow_text.specs.Faults.{IsFirstFault}
-use Rattle.flow_text.specs.Limits.{limit_passed, first_long, first_wide, is_deep, items, has_crowded_row, no_counts, or_crowded, or_many, or_deep, or_wide, or_long}
+use Rattle.flow_text.specs.Limits.{limit_passed, first_long, first_wide, is_deep, items, has_crowded_row, no_counts, or_crowded}
+use Rattle.flow_text.specs.Limits.{or_many, or_deep, or_wide, or_long}
 use Rattle.flow_text.proofs.FaultLaws.{first_fault}
 use Rattle.flow_text.proofs.OneFault.{fault_is_told}
 use Rattle.flow_text.specs.Answer.{IsAnswer, refusal_of, or_lines, within_limits, faulty, answered, answer_of, IsRead, IsRefused}
@@ -39,13 +41,15 @@ pub found : (text : List ℕ) (r : Result (List Line) Refusal) → IsAnswer r (a
 found text (Ok lines) h = is_read text lines h
 found text (Err e) h = tt
 
-pub only : (text : List ℕ) (r : Result (List Line) Refusal) → IsAnswer r (answer_of text) → (lines : List Line) (file : FlowFile) → IsText 0 lines text → IsFlowFile lines file → IsAnswer r (within_limits lines)
+pub only : (text : List ℕ) (r : Result (List Line) Refusal) → IsAnswer r (answer_of text) → (lines : List Line) (file : FlowFile)
+    → IsText 0 lines text → IsFlowFile lines file → IsAnswer r (within_limits lines)
 only text r h lines file spelled is =
     let e = text_again text lines spelled (file_is_read lines file is) in
     rw e at h
 
 -- a first fault is told
-pub told : (text : List ℕ) (r : Result (List Line) Refusal) → IsAnswer r (answer_of text) → (f : Fault) → IsFirstFault text f → IsAnswer r (faulty f)
+pub told : (text : List ℕ) (r : Result (List Line) Refusal) → IsAnswer r (answer_of text) → (f : Fault) → IsFirstFault text f
+    → IsAnswer r (faulty f)
 told text r h f first = rw (fault_is_told text f first) at h
 
 -- a refusal by a limit
@@ -76,17 +80,20 @@ deep : (d : Bool) (n : ℕ) (b : Bool) (g : Refusal) → or_deep d (or_many n (o
 deep true n b g h = some_limit _ g tt h
 deep false n b g h = many n b g h
 
-wide : (o : Option ℕ) (d : Bool) (n : ℕ) (b : Bool) (g : Refusal) → or_wide o (or_deep d (or_many n (or_crowded b))) ≡ Some g → IsLimit g
+wide : (o : Option ℕ) (d : Bool) (n : ℕ) (b : Bool) (g : Refusal) → or_wide o (or_deep d (or_many n (or_crowded b))) ≡ Some g
+    → IsLimit g
 wide (Some c) d n b g h = some_limit _ g tt h
 wide None d n b g h = deep d n b g h
 
-long : (l o : Option ℕ) (d : Bool) (n : ℕ) (b : Bool) (g : Refusal) → or_long l (or_wide o (or_deep d (or_many n (or_crowded b)))) ≡ Some g → IsLimit g
+long : (l o : Option ℕ) (d : Bool) (n : ℕ) (b : Bool) (g : Refusal)
+    → or_long l (or_wide o (or_deep d (or_many n (or_crowded b)))) ≡ Some g → IsLimit g
 long (Some u) o d n b g h = some_limit _ g tt h
 long None o d n b g h = wide o d n b g h
 
 pub passed_limit : (lines : List Line) (g : Refusal) → limit_passed lines ≡ Some g → IsLimit g
 unfolding limit_passed
-passed_limit lines g h = long (first_long lines) (first_wide lines) (is_deep 0 lines) (items lines) (has_crowded_row no_counts lines) g h
+passed_limit lines g h = long (first_long lines) (first_wide lines) (is_deep 0 lines) (items lines)
+    (has_crowded_row no_counts lines) g h
 
 abbrev pub denied : Refusal → Result (List Line) Refusal
 denied r = Err r
@@ -122,9 +129,11 @@ fault_answered text g h = by_lines (lines_of text) refl h
   where
     by_lines : (r : Result (List Line) Fault) → lines_of text ≡ r → answered r ≡ denied (refusal_of g) → IsFirstFault text g
     by_lines (Ok ls) is h = absurd (passed_limit ls (refusal_of g) (lines_denied (limit_passed ls) ls (refusal_of g) h))
-    by_lines (Err f) is h = subst (IsFirstFault text) (same_fault f g (denied_is (refusal_of f) (refusal_of g) h)) (first_fault text f is)
+    by_lines (Err f) is h = subst (IsFirstFault text) (same_fault f g (denied_is (refusal_of f) (refusal_of g) h))
+        (first_fault text f is)
 
-pub first : (text : List ℕ) (r : Result (List Line) Refusal) → IsAnswer r (answer_of text) → (g : Fault) → IsErrOf r (refusal_of g) → IsFirstFault text g
+pub first : (text : List ℕ) (r : Result (List Line) Refusal) → IsAnswer r (answer_of text) → (g : Fault)
+    → IsErrOf r (refusal_of g) → IsFirstFault text g
 first text (Ok lines) h g e = absurd cc
 first text (Err refusals.NoMemory) h g e = absurd cc
 first text (Err (refusals.Grammar input offset rule)) h g e = fault_answered text g (h ∙ e)
@@ -144,14 +153,17 @@ data Reason (text : List ℕ) (r : Refusal) : Type 0 where
   by_limit : (lines : List Line) → lines_of text ≡ given_lines lines → limit_passed lines ≡ Some r → Reason text r
   by_fault : (fault : Fault) → lines_of text ≡ failed_lines fault → refusal_of fault ≡ r → Reason text r
 
-reason : (text : List ℕ) (r : Refusal) (read : Result (List Line) Fault) → lines_of text ≡ read → answered read ≡ denied r → Reason text r
+reason : (text : List ℕ) (r : Refusal) (read : Result (List Line) Fault) → lines_of text ≡ read → answered read ≡ denied r
+    → Reason text r
 reason text r (Ok lines) is h = by_limit lines is (lines_denied (limit_passed lines) lines r h)
 reason text r (Err fault) is h = by_fault fault is (denied_is (refusal_of fault) r h)
 
 refused_by : (text : List ℕ) (r : Refusal) → Reason text r → IsRefused text r
-refused_by text (refusals.Grammar input offset rule) (by_limit lines is limit) = absurd (passed_limit lines (refusals.Grammar input offset rule) limit)
+refused_by text (refusals.Grammar input offset rule) (by_limit lines is limit) =
+    absurd (passed_limit lines (refusals.Grammar input offset rule) limit)
 refused_by text (refusals.Grammar input offset rule) (by_fault fault is same) = (fault, first_fault text fault is, same)
-refused_by text (refusals.Construct input offset name) (by_limit lines is limit) = passed_limit lines (refusals.Construct input offset name) limit
+refused_by text (refusals.Construct input offset name) (by_limit lines is limit) =
+    passed_limit lines (refusals.Construct input offset name) limit
 refused_by text (refusals.Construct input offset name) (by_fault fault is same) = absurd cc
 refused_by text (refusals.Limit name reached limit) (by_limit lines is passed) =
     let takes = text_takes text lines is in

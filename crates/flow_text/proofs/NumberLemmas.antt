@@ -1,5 +1,6 @@
 -- Digits, and the number that they spell.
-use Rattle.std.proofs.Common.{◌≡◌, ℕ, zero, suc, ◌+◌, ◌*◌, ◌-◌, ◌^◌, ◌<◌, ◌≤◌, List, [], ◌∷◌, length, take, Bool, true, false, refl, subst, arith}
+use Rattle.std.proofs.Common.{◌≡◌, ℕ, zero, suc, ◌+◌, ◌*◌, ◌-◌, ◌^◌, ◌<◌, ◌≤◌, List, [], ◌∷◌, length, take, Bool, true, false}
+use Rattle.std.proofs.Common.{refl, subst, arith}
 use Rattle.std.proofs.Math.Nat.{pow-le-pow_right}
 use Rattle.std.specs.Char.{digit_value, is_ascii_digit}
 use Rattle.std.specs.Int.{IsInRange}
@@ -22,7 +23,8 @@ pub digit_is : (c : ℕ) → IsInRange 48 57 c → digit_value c ≡ c - 48
 digit_is c h = grind (arith, nat_tests)
 
 -- a number of at most 18 digits has room for one more
-pub one_more_fits : (ds : List ℕ) (i : ℕ) → AllDigits 10 ds → length ds ≤ 19 → i < length ds → digits_value 10 (take i ds) * 10 + 9 < 2 ^ 64
+pub one_more_fits : (ds : List ℕ) (i : ℕ) → AllDigits 10 ds → length ds ≤ 19 → i < length ds
+    → digits_value 10 (take i ds) * 10 + 9 < 2 ^ 64
 one_more_fits ds i h few below =
     let small = digits_value-lt 10 (take i ds) (all_digits_take i ds h) in
     let short : length (take i ds) ≤ 18 = omega (arith, length-take-le i ds) in
@@ -39,6 +41,8 @@ pub all_digits_front : (bytes : List ℕ) → AllDigits 10 (take (digits_len byt
 all_digits_front [] = tt
 all_digits_front (b ∷ bytes) = by_test (is_ascii_digit b) refl (all_digits_front bytes)
   where
-    by_test : (t : Bool) → is_ascii_digit b ≡ t → AllDigits 10 (take (digits_len bytes) bytes) → AllDigits 10 (take (digits_len (b ∷ bytes)) (b ∷ bytes))
-    by_test true is h = rw is (subst (λ (n : ℕ). AllDigits 10 (take n (b ∷ bytes))) (one_more (digits_len bytes)) (digits_of_test b is, h))
+    by_test : (t : Bool) → is_ascii_digit b ≡ t → AllDigits 10 (take (digits_len bytes) bytes)
+        → AllDigits 10 (take (digits_len (b ∷ bytes)) (b ∷ bytes))
+    by_test true is h = rw is (subst (λ (n : ℕ). AllDigits 10 (take n (b ∷ bytes))) (one_more (digits_len bytes))
+        (digits_of_test b is, h))
     by_test false is h = rw is tt

@@ -1,5 +1,6 @@
 -- A text has at most one first fault: the one that is read.
-use Rattle.std.proofs.Common.{◌≡◌, ℕ, suc, ◌+◌, ◌<◌, List, [], ◌∷◌, ◌++◌, length, take, drop, Bool, true, false, eqb, ltb, cond, not, Option, Some, None, Result, Ok, Err, refl, sym, ap, ◌∙◌, inl, inr, arith, length-append}
+use Rattle.std.proofs.Common.{◌≡◌, ℕ, suc, ◌+◌, ◌<◌, List, [], ◌∷◌, ◌++◌, length, take, drop, Bool, true, false, eqb, ltb, cond}
+use Rattle.std.proofs.Common.{not, Option, Some, None, Result, Ok, Err, refl, sym, ap, ◌∙◌, inl, inr, arith, length-append}
 use Rattle.std.specs.Prelude.{◌⊎◌, MatchBool}
 use Rattle.flow_text.specs.declared.line.Line.{Line}
 use Rattle.flow_text.specs.declared.line.Form.{Form}
@@ -16,7 +17,8 @@ use Rattle.mc_base.specs.SoundText.{sound_len}
 use Rattle.flow_text.specs.Grammar.{FlowFile, IsFlowFile}
 use Rattle.flow_text.specs.Text.{IsText, line_len, cuts, line_at, read_on, ended_at, lines_in, lines_of}
 use Rattle.flow_text.specs.Run.{run}
-use Rattle.flow_text.specs.Faults.{Seen, fault_at, is_flow, is_item_end, IsOver, seen, EndFault, RowsFault, BaseFault, DueFault, ShapeFault, IsCutShort, IsMisshapen, IsMisplaced, IsFaultOfLines, IsFirstFault}
+use Rattle.flow_text.specs.Faults.{Seen, fault_at, is_flow, is_item_end, IsOver, seen, EndFault, RowsFault, BaseFault, DueFault}
+use Rattle.flow_text.specs.Faults.{ShapeFault, IsCutShort, IsMisshapen, IsMisplaced, IsFaultOfLines, IsFirstFault}
 use Rattle.flow_text.proofs.Complete.{passed, file_is_read}
 use Rattle.flow_text.proofs.Sound.{read_is_file}
 use Rattle.flow_text.proofs.TextLemmas.{first_line}
@@ -60,8 +62,10 @@ one_in_rows front s base at (forms.Break level) f g h k = h ∙ sym k
 one_in_rows front s base at forms.Close f g h k = h ∙ sym k
 
 one_behind : (b : Bool) (front : List Line) (s : Seen) (base l : Line) (f g : Fault)
-    → MatchBool b (f ≡ fault_at l.at 5) ((IsOver front × (f ≡ fault_at l.at 7)) ⊎ ((IsOver front → ⊥) × RowsFault front s base l.at l.form f))
-    → MatchBool b (g ≡ fault_at l.at 5) ((IsOver front × (g ≡ fault_at l.at 7)) ⊎ ((IsOver front → ⊥) × RowsFault front s base l.at l.form g))
+    → MatchBool b (f ≡ fault_at l.at 5)
+    ((IsOver front × (f ≡ fault_at l.at 7)) ⊎ ((IsOver front → ⊥) × RowsFault front s base l.at l.form f))
+    → MatchBool b (g ≡ fault_at l.at 5)
+    ((IsOver front × (g ≡ fault_at l.at 7)) ⊎ ((IsOver front → ⊥) × RowsFault front s base l.at l.form g))
     → f ≡ g
 one_behind true front s base l f g h k = h ∙ sym k
 one_behind false front s base l f g (inl a) (inl b) = a.1 ∙ sym b.1
@@ -112,7 +116,10 @@ told_cut front r at rest size g h cut = rw cut.0 (ends_so front r size g h (refl
 
 -- one line on
 first_read : (r : Reading) (front : List Line) (at : ℕ) (rest : List ℕ) → 0 < length rest
-    → read_on r front (cuts at rest) ≡ (line_at r at (take (line_len rest) rest) (not (eqb (length (drop (line_len rest) rest)) 0)) >>= λ line. structure.take r line >>= λ next. read_on next (front ++ line ∷ []) (cuts (at + line_len rest + 1) (drop (suc (line_len rest)) rest)))
+    → read_on r front (cuts at rest)
+    ≡ (line_at r at (take (line_len rest) rest) (not (eqb (length (drop (line_len rest) rest)) 0)) >>= λ line.
+    structure.take r line >>= λ next.
+    read_on next (front ++ line ∷ []) (cuts (at + line_len rest + 1) (drop (suc (line_len rest)) rest)))
 unfolding read_on
 first_read r front at rest some = rw (first_line at rest some) refl
 
@@ -121,14 +128,16 @@ told_misshapen : (front : List Line) (r : Reading) (at : ℕ) (rest : List ℕ) 
 told_misshapen front r at rest size g h bad =
     by_line (seen_result (line_at r at (take (line_len rest) rest) (not (eqb (length (drop (line_len rest) rest)) 0))))
   where
-    by_line : ((x : Line) × (line_at r at (take (line_len rest) rest) (not (eqb (length (drop (line_len rest) rest)) 0)) ≡ Ok x)) ⊎ ((f : Fault) × (line_at r at (take (line_len rest) rest) (not (eqb (length (drop (line_len rest) rest)) 0)) ≡ Err f))
+    by_line : ((x : Line) × (line_at r at (take (line_len rest) rest) (not (eqb (length (drop (line_len rest) rest)) 0)) ≡ Ok x))
+        ⊎ ((f : Fault) × (line_at r at (take (line_len rest) rest) (not (eqb (length (drop (line_len rest) rest)) 0)) ≡ Err f))
         → Told r front at rest size g
     by_line (inl s) =
         let t = line_takes r at (take (line_len rest) rest) _ s.0 s.1 in
         absurd (bad.1 s.0.form (take (line_len rest) rest) (drop (suc (line_len rest)) rest) t.1 (feed_at rest t.0))
     by_line (inr s) =
         let also = misshapen front r at rest s.0 bad.0 h s.1 in
-        let same = one_of_shape (seen front).due (seen front).base at (take (line_len rest) rest) (ltb (line_len rest) (length rest)) s.0 g also.2 bad.2 in
+        let same = one_of_shape (seen front).due (seen front).base at (take (line_len rest) rest)
+        (ltb (line_len rest) (length rest)) s.0 g also.2 bad.2 in
         fails_as front s.0 g _ (rw (first_read r front at rest bad.0, s.1) refl) same
 
 some_bytes : (text more rest : List ℕ) → rest ≡ text ++ 10 ∷ more → 0 < length rest
@@ -136,7 +145,8 @@ some_bytes text more rest e = let n = length-append text (10 ∷ more) in rw e (
 
 told_misplaced : (front : List Line) (r : Reading) (at : ℕ) (rest : List ℕ) (size : ℕ) (g : Fault)
     → run readings.Opening front ≡ passed r → IsMisplaced front at rest g → Told r front at rest size g
-told_misplaced front r at rest size g h (l, text, more, at_is, form, rest_is, no_more, fault_is) = by_place (seen_result (structure.take r l))
+told_misplaced front r at rest size g h (l, text, more, at_is, form, rest_is, no_more, fault_is) =
+    by_place (seen_result (structure.take r l))
   where
     some : 0 < length rest
     some = some_bytes text more rest rest_is
@@ -188,5 +198,6 @@ one_fault text f g h k = let same : failed_lines f ≡ failed_lines g = sym (fau
 pub no_fault_of_file : (text : List ℕ) (lines : List Line) (file : FlowFile) (g : Fault) → IsText 0 lines text
     → IsFlowFile lines file → IsFirstFault text g → ⊥
 no_fault_of_file text lines file g spelled is h =
-    let two : lines_are lines ≡ failed_lines g = sym (text_again text lines spelled (file_is_read lines file is)) ∙ fault_is_told text g h in
+    let two : lines_are lines ≡ failed_lines g = sym (text_again text lines spelled (file_is_read lines file is))
+    ∙ fault_is_told text g h in
     cc

@@ -1,6 +1,7 @@
 -- Which fault of a flow file is the first, told by the grammar: some flow file begins with the lines before it, and none
 -- goes on so. The rule that is broken is told by where the line stands.
-use Rattle.std.specs.Prelude.{◌≡◌, ℕ, ◌+◌, ◌<◌, nat_lt, slice_index, List, [], ◌∷◌, ◌++◌, length, take, Bool, true, false, if◌then◌else◌, Option, Some, None, MatchBool, ◌⊎◌}
+use Rattle.std.specs.Prelude.{◌≡◌, ℕ, ◌+◌, ◌<◌, nat_lt, slice_index, List, [], ◌∷◌, ◌++◌, length, take, Bool, true, false}
+use Rattle.std.specs.Prelude.{if◌then◌else◌, Option, Some, None, MatchBool, ◌⊎◌}
 use Rattle.flow_text.specs.declared.line.Line.{Line}
 use Rattle.flow_text.specs.declared.line.Form.{Form}
 use Rattle.flow_text.specs.declared.line.Form.TheVariants as forms
@@ -30,7 +31,7 @@ is_edge (forms.Start number x w avoid top bottom) = true
 is_edge (forms.End number) = true
 is_edge _ = false
 
--- What stands before a line: the last line that is no edge, the first edge behind it, the start right before whose upper
+-- What stands before a line: the last line that is no edge, the first edge after it, the start right before whose upper
 -- amount is due, and the lower amounts of the boxes started so far.
 pub record Seen : Type 0 where
   pub base : Option Line
@@ -90,16 +91,19 @@ end_fault base (forms.Row n w step x) first at = fault_at base.at 6
 end_fault base (forms.Break level) first at = fault_at base.at 5
 end_fault base _ first at = fault_at at 6
 
--- an end in a tail breaks rule 8 where it could stand behind its box's lower amount
+-- an end in a tail breaks rule 8 where it could stand after its box's lower amount
 abbrev pub EndFault : List Line → List ℕ → ℕ → ℕ → Fault → Type 0
 EndFault front bottoms at number f =
-    ((f ≡ fault_at at 8) × IsFront (front ++ (line at (forms.Solid (slice_index bottoms number)) ∷ line at (forms.End number) ∷ [])))
-    ⊎ ((f ≡ fault_at at 6) × (IsFront (front ++ (line at (forms.Solid (slice_index bottoms number)) ∷ line at (forms.End number) ∷ [])) → ⊥))
+    ((f ≡ fault_at at 8) × IsFront
+    (front ++ (line at (forms.Solid (slice_index bottoms number)) ∷ line at (forms.End number) ∷ [])))
+    ⊎ ((f ≡ fault_at at 6)
+    × (IsFront (front ++ (line at (forms.Solid (slice_index bottoms number)) ∷ line at (forms.End number) ∷ [])) → ⊥))
 
--- what a line in the rows breaks that may not stand behind these
+-- what a line in the rows breaks that may not stand after these
 abbrev pub RowsFault : List Line → Seen → Line → ℕ → Form → Fault → Type 0
 RowsFault front s base at (forms.Start number x w avoid top bottom) f = f ≡ fault_at at (if is_item_end base.form then 5 else 6)
-RowsFault front s base at (forms.End number) f = MatchBool (is_item_end base.form) (EndFault front s.bottoms at number f) (f ≡ fault_at at 5)
+RowsFault front s base at (forms.End number) f =
+    MatchBool (is_item_end base.form) (EndFault front s.bottoms at number f) (f ≡ fault_at at 5)
 RowsFault front s base at forms.Close f = f ≡ end_fault base base.form s.first at
 RowsFault front s base at _ f = f ≡ fault_at at 5
 
@@ -110,14 +114,15 @@ is_flow _ = false
 abbrev pub BaseFault : Option Line → List Line → Seen → Line → Fault → Type 0
 BaseFault None front s l f = f ≡ fault_at l.at 3
 BaseFault (Some base) front s l f =
-    MatchBool (is_flow base.form) (f ≡ fault_at l.at 5) ((IsOver front × (f ≡ fault_at l.at 7)) ⊎ ((IsOver front → ⊥) × RowsFault front s base l.at l.form f))
+    MatchBool (is_flow base.form) (f ≡ fault_at l.at 5)
+    ((IsOver front × (f ≡ fault_at l.at 7)) ⊎ ((IsOver front → ⊥) × RowsFault front s base l.at l.form f))
 
 abbrev pub DueFault : Option Due → List Line → Seen → Line → Fault → Type 0
 DueFault (Some d) front s l f = f ≡ fault_at d.at 8
 DueFault None front s l f = BaseFault s.base front s l f
 
--- What a line breaks that may not stand behind these: a start whose amount is due breaks rule 8 itself; the first line is
--- rule 3; behind the last `end` rule 7.
+-- What a line breaks that may not stand after these: a start whose amount is due breaks rule 8 itself; the first line is
+-- rule 3; after the last `end` rule 7.
 abbrev pub LineFault : List Line → Line → Fault → Type 0
 LineFault front l f = DueFault (seen front).due front (seen front) l f
 
@@ -125,9 +130,10 @@ LineFault front l f = DueFault (seen front).due front (seen front) l f
 abbrev pub Begins : ℕ → List Line → List ℕ → ℕ → List ℕ → Type 0
 Begins at [] bytes end rest = (end ≡ at) × (rest ≡ bytes)
 Begins at (l ∷ lines) bytes end rest =
-    (l.at ≡ at) × (text : List ℕ) × (more : List ℕ) × IsForm l.form text × (bytes ≡ text ++ 10 ∷ more) × Begins (at + length text + 1) lines more end rest
+    (l.at ≡ at) × (text : List ℕ) × (more : List ℕ) × IsForm l.form text × (bytes ≡ text ++ 10 ∷ more)
+    × Begins (at + length text + 1) lines more end rest
 
--- a text of this size ends behind these lines
+-- a text of this size ends after these lines
 abbrev pub ending_fault : Option Due → Option Line → ℕ → Fault
 ending_fault (Some d) base size = fault_at d.at 8
 ending_fault None None size = fault_at 0 3
@@ -156,12 +162,14 @@ IsCutShort front rest size f = (rest ≡ []) × (IsOver front → ⊥) × (f ≡
 -- no line stands here
 abbrev pub IsMisshapen : List Line → ℕ → List ℕ → Fault → Type 0
 IsMisshapen front at rest f =
-    (0 < length rest) × NoLine rest × ShapeFault (seen front).due (seen front).base at (take (line_len rest) rest) (nat_lt (line_len rest) (length rest)) f
+    (0 < length rest) × NoLine rest
+    × ShapeFault (seen front).due (seen front).base at (take (line_len rest) rest) (nat_lt (line_len rest) (length rest)) f
 
 -- a line stands here that no flow file has here
 abbrev pub IsMisplaced : List Line → ℕ → List ℕ → Fault → Type 0
 IsMisplaced front at rest f =
-    (l : Line) × (text : List ℕ) × (more : List ℕ) × (l.at ≡ at) × IsForm l.form text × (rest ≡ text ++ 10 ∷ more) × (IsFront (front ++ l ∷ []) → ⊥) × LineFault front l f
+    (l : Line) × (text : List ℕ) × (more : List ℕ) × (l.at ≡ at) × IsForm l.form text × (rest ≡ text ++ 10 ∷ more)
+    × (IsFront (front ++ l ∷ []) → ⊥) × LineFault front l f
 
 -- The first fault of the lines of a text, of this size: some flow file begins with the lines before it.
 pub record IsFaultOfLines (text : List ℕ) (f : Fault) : Type 0 where

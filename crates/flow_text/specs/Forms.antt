@@ -1,5 +1,6 @@
 -- What the lines of a flow file look like, and what is read in a line.
-use Rattle.std.specs.Prelude.{◌≡◌, ℕ, ◌==◌, ◌<◌, ◌≤◌, nat_lt, nat_eq, List, [], ◌∷◌, ◌++◌, length, drop, Bool, true, false, if◌then◌else◌, Option, Some, None, IfSome, codes, ◌⊎◌}
+use Rattle.std.specs.Prelude.{◌≡◌, ℕ, ◌==◌, ◌<◌, ◌≤◌, nat_lt, nat_eq, List, [], ◌∷◌, ◌++◌, length, drop, Bool, true, false}
+use Rattle.std.specs.Prelude.{if◌then◌else◌, Option, Some, None, IfSome, codes, ◌⊎◌}
 use Rattle.std.specs.List.{starts_with}
 use Rattle.std.specs.Str.{bytes_eq}
 use Rattle.mc_base.specs.declared.level.Level.{Level}
@@ -44,11 +45,13 @@ IsForm (Solid u) text = IsNumber u × (text ≡ codes "s" ++ field u)
 IsForm Wall text = text ≡ codes "w"
 IsForm (Start number x w avoid top bottom) text =
     IsNumber number × IsNumber x × IsNumber w × IsNumber top × IsNumber bottom
-    × (amounts : List ℕ) × IsAmounts top bottom amounts × (text ≡ codes "(" ++ (field number ++ (field x ++ (field w ++ (inside_text avoid ++ amounts)))))
+    × (amounts : List ℕ) × IsAmounts top bottom amounts
+    × (text ≡ codes "(" ++ (field number ++ (field x ++ (field w ++ (inside_text avoid ++ amounts)))))
 IsForm (End number) text = IsNumber number × (text ≡ codes ")" ++ field number)
 IsForm (Atom u) text = IsNumber u × (text ≡ codes "a" ++ field u)
 IsForm (Row n w step x) text =
-    (0 < n) × IsNumber n × IsNumber w × IsNumber step × IsNumber x × (text ≡ codes "row" ++ (field n ++ (field w ++ (field step ++ field x))))
+    (0 < n) × IsNumber n × IsNumber w × IsNumber step × IsNumber x
+    × (text ≡ codes "row" ++ (field n ++ (field w ++ (field step ++ field x))))
 IsForm (Break level) text = text ≡ codes "|" ++ level_text level
 IsForm Close text = text ≡ codes "end"
 
@@ -71,20 +74,23 @@ last_byte (b ∷ c ∷ []) = if b == 32 then Some c else None
 last_byte (b ∷ c ∷ d ∷ bytes) = None
 
 abbrev pub level_of : ℕ → Option Level
-level_of c = if c == 70 then Some Forced else (if c == 48 then Some L0 else (if c == 49 then Some L1 else (if c == 50 then Some L2 else None)))
+level_of c = if c == 70 then Some Forced else
+    (if c == 48 then Some L0 else (if c == 49 then Some L1 else (if c == 50 then Some L2 else None)))
 
 unfoldable pub level_at : List ℕ → Option Level
 level_at bytes = last_byte bytes >>= level_of
 
 unfoldable pub fill_at : List ℕ → Option Bool
-fill_at bytes = if bytes_eq bytes (codes " balance") then Some false else (if bytes_eq bytes (codes " auto") then Some true else None)
+fill_at bytes = if bytes_eq bytes (codes " balance") then Some false else
+    (if bytes_eq bytes (codes " auto") then Some true else None)
 
 abbrev pub or_else : {A : Type 0} → Option A → Option A → Option A
 or_else None other = other
 or_else (Some x) other = Some x
 
 unfoldable pub inside_at : List ℕ → Option (Bool × List ℕ)
-inside_at bytes = or_else (behind (codes " auto") bytes >>= λ rest. Some (false, rest)) (behind (codes " avoid") bytes >>= λ rest. Some (true, rest))
+inside_at bytes = or_else (behind (codes " auto") bytes >>= λ rest. Some (false, rest))
+    (behind (codes " avoid") bytes >>= λ rest. Some (true, rest))
 
 abbrev pub both_at : List ℕ → Option (ℕ × ℕ)
 both_at bytes = field_at bytes >>= λ top. last_field top.1 >>= λ bottom. Some (top.0, bottom)
@@ -95,13 +101,15 @@ amounts_at (b ∷ bytes) = both_at (b ∷ bytes)
 
 unfoldable pub start_at : List ℕ → Option Form
 start_at bytes =
-    field_at bytes >>= λ number. field_at number.1 >>= λ x. field_at x.1 >>= λ w. inside_at w.1 >>= λ inside. amounts_at inside.1 >>= λ amounts.
+    field_at bytes >>= λ number. field_at number.1 >>= λ x. field_at x.1 >>= λ w. inside_at w.1 >>= λ inside.
+    amounts_at inside.1 >>= λ amounts.
     Some (Start number.0 x.0 w.0 inside.0 amounts.0 amounts.1)
 
--- behind a fourth number: nothing, or how the row is filled
+-- after a fourth number: nothing, or how the row is filled
 abbrev pub row_end : ℕ → ℕ → ℕ → ℕ × List ℕ → Option Form
 row_end n w step (x, []) = Some (Row n w step x)
-row_end n w step (x, b ∷ bytes) = if nat_lt x 64 then None else (fill_at (b ∷ bytes) >>= λ auto. Some (First n w step (Some x) auto))
+row_end n w step (x, b ∷ bytes) =
+    if nat_lt x 64 then None else (fill_at (b ∷ bytes) >>= λ auto. Some (First n w step (Some x) auto))
 
 abbrev pub row_open : ℕ → ℕ → ℕ → Option (List ℕ) → List ℕ → Option Form
 row_open n w step (Some rest) bytes = fill_at rest >>= λ auto. Some (First n w step None auto)
@@ -111,7 +119,8 @@ unfoldable pub row_behind : ℕ → ℕ → ℕ → List ℕ → Option Form
 row_behind n w step bytes = row_open n w step (behind (codes " -") bytes) bytes
 
 unfoldable pub row_at : List ℕ → Option Form
-row_at bytes = field_at bytes >>= λ n. (if n.0 == 0 then None else (field_at n.1 >>= λ w. field_at w.1 >>= λ step. row_behind n.0 w.0 step.0 step.1))
+row_at bytes = field_at bytes >>= λ n.
+    (if n.0 == 0 then None else (field_at n.1 >>= λ w. field_at w.1 >>= λ step. row_behind n.0 w.0 step.0 step.1))
 
 unfoldable pub word_of : List ℕ → Option Form
 word_of text =

@@ -1,5 +1,6 @@
 -- Which lines are a flow file: the grammar, as the rows that the lines stand for. It is this project's own.
-use Rattle.std.specs.Prelude.{◌≡◌, ℕ, suc, ◌<◌, ◌==◌, slice_index, List, [], ◌∷◌, ◌++◌, Bool, true, false, if◌then◌else◌, Option, Some, None}
+use Rattle.std.specs.Prelude.{◌≡◌, ℕ, suc, ◌<◌, ◌==◌, slice_index, List, [], ◌∷◌, ◌++◌, Bool, true, false, if◌then◌else◌, Option}
+use Rattle.std.specs.Prelude.{Some, None}
 use Rattle.mc_base.specs.declared.level.Level.{Level}
 use Rattle.flow_text.specs.declared.line.Line.{Line}
 use Rattle.flow_text.specs.declared.line.Form.{Form}
@@ -35,8 +36,8 @@ abbrev pub ended_box : ℕ → List ℕ → Option (List ℕ)
 ended_box number [] = None
 ended_box number (b ∷ boxes) = if b == number then Some boxes else None
 
--- The open boxes of a row behind an edge, the innermost first, or None where the edge may not stand: a start stands in a
--- head (before the first item or behind a break place), an end in a tail (behind an item).
+-- The open boxes of a row after an edge, the innermost first, or None where the edge may not stand: a start stands in a
+-- head (before the first item or after a break place), an end in a tail (after an item).
 abbrev pub boxes_behind : Form → Bool → List ℕ → Option (List ℕ)
 boxes_behind (forms.Margin u) in_tail boxes = Some boxes
 boxes_behind (forms.Solid u) in_tail boxes = Some boxes
@@ -48,7 +49,7 @@ boxes_behind (forms.End number) false boxes = None
 boxes_behind _ in_tail boxes = None
 
 -- A row may go on so in a tail or a head, with these boxes open: between two items stands exactly one break place, none
--- stands before the first or behind the last, and no box is open at the row's end. A row inside a row has an item.
+-- stands before the first or after the last, and no box is open at the row's end. A row inside a row has an item.
 abbrev pub IsRest : Bool → List ℕ → Rest → Type 0
 IsRest in_tail boxes no_more = (in_tail ≡ true) × (boxes ≡ [])
 IsRest in_tail boxes (edge l rest) = (next : List ℕ) × (boxes_behind l.form in_tail boxes ≡ Some next) × IsRest in_tail next rest
@@ -82,7 +83,7 @@ abbrev pub StartsCloned : List Line → Type 0
 StartsCloned [] = Unit {0}
 StartsCloned (l ∷ lines) = IsFollowed l.form lines × StartsCloned lines
 
--- An end whose box has a lower amount that isn't 0 stands right behind that amount. `bottoms` are the lower amounts of
+-- An end whose box has a lower amount that isn't 0 stands right after that amount. `bottoms` are the lower amounts of
 -- the boxes started so far, by number, and `before` is the amount of the line before, where that is a solid amount.
 abbrev pub IsPreceded : List ℕ → Option ℕ → Form → Type 0
 IsPreceded bottoms before (forms.End number) = 0 < slice_index bottoms number → before ≡ Some (slice_index bottoms number)
@@ -98,7 +99,8 @@ solid_of _ = None
 
 abbrev pub EndsCloned : List ℕ → Option ℕ → List Line → Type 0
 EndsCloned bottoms before [] = Unit {0}
-EndsCloned bottoms before (l ∷ lines) = IsPreceded bottoms before l.form × EndsCloned (bottoms_behind bottoms l.form) (solid_of l.form) lines
+EndsCloned bottoms before (l ∷ lines) = IsPreceded bottoms before l.form
+    × EndsCloned (bottoms_behind bottoms l.form) (solid_of l.form) lines
 
 -- A flow file: its first row, what stands in it, and the bytes at which its first two lines and its last one begin.
 pub record FlowFile : Type 0 where
@@ -124,7 +126,8 @@ IsContent (Some rest) = IsRest false [] rest
 
 abbrev pub file_lines : FlowFile → List Line
 file_lines f =
-    line f.at forms.Flow ∷ line f.first_at (forms.First f.n f.w f.step f.available f.auto) ∷ content_lines f.content (line f.ended forms.Close ∷ [])
+    line f.at forms.Flow ∷ line f.first_at (forms.First f.n f.w f.step f.available f.auto) ∷ content_lines f.content
+    (line f.ended forms.Close ∷ [])
 
 -- These lines are this flow file.
 pub record IsFlowFile (lines : List Line) (f : FlowFile) : Type 0 where

@@ -1,5 +1,6 @@
 -- The limits of a flow file, on its lines.
-use Rattle.std.specs.Prelude.{ℕ, ◌+◌, ◌-◌, nat_lt, List, [], ◌∷◌, length, filter, Bool, true, false, ◌&&◌, ◌||◌, not, ◌==◌, if◌then◌else◌, Option, Some, None}
+use Rattle.std.specs.Prelude.{ℕ, ◌+◌, ◌-◌, nat_lt, List, [], ◌∷◌, length, filter, Bool, true, false, ◌&&◌, ◌||◌, not, ◌==◌}
+use Rattle.std.specs.Prelude.{if◌then◌else◌, Option, Some, None}
 use Rattle.mc_base.specs.declared.refusal.Refusal.{Refusal}
 use Rattle.mc_base.specs.declared.refusal.Refusal.TheVariants.{Limit}
 use Rattle.mc_base.specs.declared.refusal.LimitName.TheVariants.{Items, InnerItems, Columns, Nest, Length}
@@ -65,14 +66,14 @@ is_item _ = false
 abbrev pub items : List Line → ℕ
 items lines = length (filter (λ line. is_item line.form) lines)
 
--- how many rows are open behind a line
+-- how many rows are open after a line
 abbrev pub open_behind : ℕ → Form → ℕ
 open_behind n (forms.First c w step available auto) = n + 1
 open_behind n (forms.Row c w step x) = n + 1
 open_behind n forms.Close = n - 1
 open_behind n _ = n
 
--- whether more than three rows are open behind one of the lines
+-- whether more than three rows are open after one of the lines
 abbrev pub is_deep : ℕ → List Line → Bool
 is_deep n [] = false
 is_deep n (line ∷ lines) = nat_lt 3 (open_behind n line.form) || is_deep (open_behind n line.form) lines
@@ -88,7 +89,7 @@ abbrev pub popped : List ℕ → Counts
 popped [] = no_counts
 popped (n ∷ ns) = record { inner = n; outer = ns }
 
--- the items so far of each open row, behind a line
+-- the items so far of each open row, after a line
 abbrev pub counted : Counts → Form → Counts
 counted c (forms.Atom u) = record { inner = one_more c.inner; outer = c.outer }
 counted c (forms.Row n w step x) = record { inner = 0; outer = one_more c.inner ∷ c.outer }
@@ -98,7 +99,7 @@ counted c _ = c
 abbrev pub crowded : Counts → Bool
 crowded c = not (length c.outer == 0) && nat_lt 2000 c.inner
 
--- whether a row inside another one has more than 2,000 items behind one of the lines
+-- whether a row inside another one has more than 2,000 items after one of the lines
 abbrev pub has_crowded_row : Counts → List Line → Bool
 has_crowded_row c [] = false
 has_crowded_row c (line ∷ lines) = crowded (counted c line.form) || has_crowded_row (counted c line.form) lines
@@ -122,4 +123,6 @@ or_long (Some n) other = Some (Limit Length n 16777216)
 
 -- the first limit that the lines pass
 unfoldable pub limit_passed : List Line → Option Refusal
-limit_passed lines = or_long (first_long lines) (or_wide (first_wide lines) (or_deep (is_deep 0 lines) (or_many (items lines) (or_crowded (has_crowded_row no_counts lines)))))
+limit_passed lines = or_long (first_long lines)
+    (or_wide (first_wide lines) (or_deep (is_deep 0 lines)
+    (or_many (items lines) (or_crowded (has_crowded_row no_counts lines)))))

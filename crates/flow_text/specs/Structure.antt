@@ -1,6 +1,7 @@
 -- Which line may follow which, told line by line: a file is read by these steps, and the first that can't be made is its
 -- first fault.
-use Rattle.std.specs.Prelude.{ℕ, ◌==◌, nat_lt, slice_index, List, [], ◌∷◌, ◌++◌, length, Bool, true, false, ◌||◌, if◌then◌else◌, Option, Some, None, Result, Ok, Err}
+use Rattle.std.specs.Prelude.{ℕ, ◌==◌, nat_lt, slice_index, List, [], ◌∷◌, ◌++◌, length, Bool, true, false, ◌||◌, if◌then◌else◌}
+use Rattle.std.specs.Prelude.{Option, Some, None, Result, Ok, Err}
 use Rattle.flow_text.specs.declared.line.Line.{Line}
 use Rattle.flow_text.specs.declared.line.Form.{Form}
 use Rattle.flow_text.specs.declared.line.Form.TheVariants as forms
@@ -52,14 +53,26 @@ in_phase row phase = record { at = row.at; phase = phase; boxes = row.boxes }
 
 -- a margin, a solid amount or a wall
 abbrev pub edge : Rows → ℕ → Option ℕ → Rows
-edge s at solid = record { row = in_phase s.row (touched s.row.phase at); outer = s.outer; bottoms = s.bottoms; due = None; solid = solid }
+edge s at solid = record {
+  row = in_phase s.row (touched s.row.phase at);
+  outer = s.outer;
+  bottoms = s.bottoms;
+  due = None;
+  solid = solid;
+}
 
 -- the start of a box: in a head, and by its number
 abbrev pub start : Rows → ℕ → ℕ → ℕ → ℕ → Result Rows Fault
 start s at number top bottom =
     if is_filled s.row.phase then fault at 5 else
     (if number == length s.bottoms
-    then Ok (record { row = record { at = s.row.at; phase = touched s.row.phase at; boxes = number ∷ s.row.boxes }; outer = s.outer; bottoms = s.bottoms ++ bottom ∷ []; due = due_of at top; solid = None })
+    then Ok (record {
+      row = record { at = s.row.at; phase = touched s.row.phase at; boxes = number ∷ s.row.boxes };
+      outer = s.outer;
+      bottoms = s.bottoms ++ bottom ∷ [];
+      due = due_of at top;
+      solid = None;
+    })
     else fault at 6)
 
 abbrev pub end_innermost : Rows → ℕ → ℕ → List ℕ → Result Rows Fault
@@ -67,25 +80,32 @@ end_innermost s at number [] = fault at 6
 end_innermost s at number (b ∷ boxes) =
     if b == number then
     (if is_cloned (bottom_of s.bottoms number) s.solid
-    then Ok (record { row = record { at = s.row.at; phase = s.row.phase; boxes = boxes }; outer = s.outer; bottoms = s.bottoms; due = None; solid = None })
+    then Ok (record {
+      row = record { at = s.row.at; phase = s.row.phase; boxes = boxes };
+      outer = s.outer;
+      bottoms = s.bottoms;
+      due = None;
+      solid = None;
+    })
     else fault at 8)
     else fault at 6
 
--- the end of a box: in a tail, of the innermost box of its row, behind the box's lower amount
+-- the end of a box: in a tail, of the innermost box of its row, after the box's lower amount
 abbrev pub end : Rows → ℕ → ℕ → Result Rows Fault
 end s at number = if is_filled s.row.phase then end_innermost s at number s.row.boxes else fault at 5
 
 abbrev pub in_row : Rows → OpenRow → Rows
 in_row s row = record { row = row; outer = s.outer; bottoms = s.bottoms; due = None; solid = None }
 
--- an item: not behind another one
+-- an item: not after another one
 abbrev pub item : Rows → ℕ → Result Rows Fault
 item s at = if is_filled s.row.phase then fault at 5 else Ok (in_row s (in_phase s.row phases.Filled))
 
 abbrev pub inner_row : Rows → ℕ → Result Rows Fault
-inner_row s at = if is_filled s.row.phase then fault at 5 else Ok (record { row = open_row at; outer = in_phase s.row phases.Filled ∷ s.outer; bottoms = s.bottoms; due = None; solid = None })
+inner_row s at = if is_filled s.row.phase then fault at 5 else Ok
+    (record { row = open_row at; outer = in_phase s.row phases.Filled ∷ s.outer; bottoms = s.bottoms; due = None; solid = None })
 
--- a break place: behind an item
+-- a break place: after an item
 abbrev pub break_place : Rows → ℕ → Result Rows Fault
 break_place s at = if is_filled s.row.phase then Ok (in_row s (in_phase s.row (phases.Behind at))) else fault at 5
 
@@ -95,7 +115,8 @@ boxes_fault (b ∷ boxes) at = Some (record { at = at; rule = 6 })
 
 abbrev pub fault_in_phase : Phase → OpenRow → Bool → ℕ → Option Fault
 fault_in_phase phases.Empty row nested at = if nested then Some (record { at = row.at; rule = 6 }) else None
-fault_in_phase (phases.Leading first) row nested at = if nested then Some (record { at = row.at; rule = 6 }) else Some (record { at = first; rule = 5 })
+fault_in_phase (phases.Leading first) row nested at =
+    if nested then Some (record { at = row.at; rule = 6 }) else Some (record { at = first; rule = 5 })
 fault_in_phase phases.Filled row nested at = boxes_fault row.boxes at
 fault_in_phase (phases.Behind place) row nested at = Some (record { at = place; rule = 5 })
 
@@ -105,7 +126,8 @@ fault_at_end row nested at = fault_in_phase row.phase row nested at
 
 abbrev pub close_in : List OpenRow → Rows → ℕ → Result Reading Fault
 close_in [] s at = unless (fault_at_end s.row false at) (Ok readings.Ended)
-close_in (o ∷ os) s at = unless (fault_at_end s.row true at) (Ok (readings.Within (record { row = o; outer = os; bottoms = s.bottoms; due = None; solid = None })))
+close_in (o ∷ os) s at = unless (fault_at_end s.row true at)
+    (Ok (readings.Within (record { row = o; outer = os; bottoms = s.bottoms; due = None; solid = None })))
 
 abbrev pub close : Rows → ℕ → Result Reading Fault
 close s at = close_in s.outer s at

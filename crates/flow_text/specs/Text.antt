@@ -1,5 +1,6 @@
 -- The text of a flow file: its lines with their offsets, and what is read in it.
-use Rattle.std.specs.Prelude.{◌≡◌, ℕ, suc, ◌+◌, ◌==◌, nat_lt, List, [], ◌∷◌, ◌++◌, length, Bool, true, false, ◌||◌, if◌then◌else◌, Option, Some, None, Result, Ok, Err}
+use Rattle.std.specs.Prelude.{◌≡◌, ℕ, suc, ◌+◌, ◌==◌, nat_lt, List, [], ◌∷◌, ◌++◌, length, Bool, true, false, ◌||◌, if◌then◌else◌}
+use Rattle.std.specs.Prelude.{Option, Some, None, Result, Ok, Err}
 use Rattle.mc_base.specs.SoundText.{sound_len}
 use Rattle.mc_base.specs.Reading.{◌>>=◌, fault}
 use Rattle.flow_text.specs.declared.line.Line.{Line}
@@ -14,7 +15,8 @@ use Rattle.flow_text.specs.Structure.{unless, take, what_is_due, fault_of_due, f
 abbrev pub IsText : ℕ → List Line → List ℕ → Type 0
 IsText at [] bytes = bytes ≡ []
 IsText at (line ∷ lines) bytes =
-    (line.at ≡ at) × (text rest : List ℕ) × IsForm line.form text × (bytes ≡ text ++ 10 ∷ rest) × IsText (at + length text + 1) lines rest
+    (line.at ≡ at) × (text rest : List ℕ) × IsForm line.form text × (bytes ≡ text ++ 10 ∷ rest)
+    × IsText (at + length text + 1) lines rest
 
 -- how many bytes stand before the first of this value
 abbrev pub len_before : ℕ → List ℕ → ℕ
@@ -46,7 +48,8 @@ grown at b (c ∷ cuts) = record { at = at; text = b ∷ c.text; ended = c.ended
 -- the lines of bytes that begin at this offset
 unfoldable pub cuts : ℕ → List ℕ → List Cut
 cuts at [] = []
-cuts at (b ∷ bytes) = if b == 10 then (record { at = at; text = []; ended = true } ∷ cuts (at + 1) bytes) else grown at b (cuts (at + 1) bytes)
+cuts at (b ∷ bytes) = if b == 10 then (record { at = at; text = []; ended = true } ∷ cuts (at + 1) bytes) else grown at b
+    (cuts (at + 1) bytes)
 
 abbrev pub no_form_here : Reading → ℕ → Fault
 no_form_here readings.Opening at = record { at = at; rule = 3 }
@@ -62,11 +65,13 @@ or_fault (Some e) f = e
 
 -- what a line breaks that is of no form
 abbrev pub fault_of_no_form : Reading → ℕ → List ℕ → Bool → Fault
-fault_of_no_form reading at text ended = or_fault (fault_of_due (what_is_due reading) None) (no_byte_bad (bad_byte text) reading at ended)
+fault_of_no_form reading at text ended =
+    or_fault (fault_of_due (what_is_due reading) None) (no_byte_bad (bad_byte text) reading at ended)
 
 abbrev pub line_of : Option Form → Reading → ℕ → List ℕ → Bool → Result Line Fault
 line_of None reading at text ended = Err (fault_of_no_form reading at text ended)
-line_of (Some f) reading at text ended = if ended then Ok (record { at = at; form = f }) else unless (fault_of_due (what_is_due reading) (Some f)) (fault at 2)
+line_of (Some f) reading at text ended =
+    if ended then Ok (record { at = at; form = f }) else unless (fault_of_due (what_is_due reading) (Some f)) (fault at 2)
 
 -- what a line says
 abbrev pub line_at : Reading → ℕ → List ℕ → Bool → Result Line Fault
@@ -79,7 +84,8 @@ pub record Read : Type 0 where
 -- what is read after these lines
 unfoldable pub read_on : Reading → List Line → List Cut → Result Read Fault
 read_on reading lines [] = Ok (record { reading = reading; lines = lines })
-read_on reading lines (c ∷ cuts) = line_at reading c.at c.text c.ended >>= λ line. take reading line >>= λ next. read_on next (lines ++ line ∷ []) cuts
+read_on reading lines (c ∷ cuts) = line_at reading c.at c.text c.ended >>= λ line. take reading line >>= λ next.
+    read_on next (lines ++ line ∷ []) cuts
 
 abbrev pub ended_at : ℕ → Read → Result (List Line) Fault
 ended_at size r = unless (fault_of_ending r.reading size) (Ok r.lines)

@@ -1,4 +1,4 @@
 //! Why reading stops.
 
-/// Want of memory, or a fault.
+/// Out of memory, or a fault.
 pub type ReadError = mc_base::ReadError<mc_base::Fault>;

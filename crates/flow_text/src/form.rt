@@ -17,7 +17,7 @@ fn behind<'a>(front: &[u8], bytes: &'a [u8]) -> Option<&'a [u8]>
     Some(bytes.split_at(front.len()).1)
 }
 
-/// The number behind a space, where nothing follows it.
+/// The number after a space, where nothing follows it.
 #[tactic(auto, unfolding(crate::specs::Forms::last_field))]
 fn last_field(bytes: &[u8]) -> Option<u64>
     ensures { result ≡ forms.last_field bytes.now }
@@ -29,7 +29,7 @@ fn last_field(bytes: &[u8]) -> Option<u64>
     Some(value)
 }
 
-/// The one byte behind a space, where nothing follows it.
+/// The one byte after a space, where nothing follows it.
 fn last_byte(bytes: &[u8]) -> Option<u8>
     ensures { result ≡ forms.last_byte bytes.now }
 {
@@ -92,7 +92,7 @@ fn amounts(bytes: &[u8]) -> Option<(u64, u64)>
     Some((top, bottom))
 }
 
-/// The start of a box, behind `(`.
+/// The start of a box, after `(`.
 #[tactic(auto, unfolding(crate::specs::Forms::start_at))]
 fn start(bytes: &[u8]) -> Option<Form>
     ensures { result ≡ forms.start_at bytes.now }
@@ -112,7 +112,7 @@ fn start(bytes: &[u8]) -> Option<Form>
     })
 }
 
-/// A row, behind its first three numbers.
+/// A row, after its first three numbers.
 #[tactic(auto, unfolding(crate::specs::Forms::row_behind))]
 fn row_behind(n: u64, w: u64, step: u64, bytes: &[u8]) -> Option<Form>
     ensures { result ≡ forms.row_behind n w step bytes.now }
@@ -144,7 +144,7 @@ fn row_behind(n: u64, w: u64, step: u64, bytes: &[u8]) -> Option<Form>
     })
 }
 
-/// A row, behind `row`.
+/// A row, after `row`.
 #[tactic(auto, unfolding(crate::specs::Forms::row_at))]
 fn row(bytes: &[u8]) -> Option<Form>
     ensures { result ≡ forms.row_at bytes.now }

@@ -36,12 +36,14 @@ pub fn what_is_read_is_a_form()
 
 /// A text whose lines are a flow file is read.
 pub fn texts_of_flow_files_are_read()
-    ensures { (text : List ℕ) (lines : List Line) (file : FlowFile) → IsText 0 lines text → IsFlowFile lines file → lines_of text ≡ Ok lines }
+    ensures { (text : List ℕ) (lines : List Line) (file : FlowFile) → IsText 0 lines text → IsFlowFile lines file
+        → lines_of text ≡ Ok lines }
 {}
 
 /// What is read in a text is its lines, and they are a flow file.
 pub fn what_is_read_is_the_text_of_a_flow_file()
-    ensures { (text : List ℕ) (lines : List Line) → lines_of text ≡ Ok lines → IsText 0 lines text × (file : FlowFile) × IsFlowFile lines file }
+    ensures { (text : List ℕ) (lines : List Line) → lines_of text ≡ Ok lines → IsText 0 lines text × (file : FlowFile)
+        × IsFlowFile lines file }
 {}
 
 /// What may be read of the lines so far begins a flow file.
@@ -51,7 +53,9 @@ pub fn what_is_read_so_far_begins_a_flow_file()
 
 /// The fault of a line that may not follow those before it is the one that the grammar says.
 pub fn a_line_that_may_not_follow_is_a_fault()
-    ensures { (front : List Line) (reading : Reading) (next : Line) (fault : Fault) → run readings.Opening front ≡ Ok reading → run readings.Opening (front ++ next ∷ []) ≡ Err fault → IsFront front × (IsFront (front ++ next ∷ []) → ⊥) × LineFault front next fault }
+    ensures { (front : List Line) (reading : Reading) (next : Line) (fault : Fault) → run readings.Opening front ≡ Ok reading
+        → run readings.Opening (front ++ next ∷ []) ≡ Err fault → IsFront front × (IsFront (front ++ next ∷ []) → ⊥)
+        × LineFault front next fault }
 {}
 
 /// The fault of a text is its first one, by the grammar.
@@ -76,7 +80,8 @@ pub fn limits_are_those_of_the_rows()
         first_wide lines ≡ first_above 32 (file_columns file) }
     ensures nest { (lines : List Line) (file : FlowFile) → IsFlowFile lines file → is_deep 0 lines ≡ nat_lt 3 (file_depth file) }
     ensures items { (lines : List Line) (file : FlowFile) → IsFlowFile lines file → items lines ≡ file_items file }
-    ensures inner_items { (lines : List Line) (file : FlowFile) → IsFlowFile lines file → has_crowded_row no_counts lines ≡ nat_lt 2000 (file_most_inner file) }
+    ensures inner_items { (lines : List Line) (file : FlowFile) → IsFlowFile lines file
+        → has_crowded_row no_counts lines ≡ nat_lt 2000 (file_most_inner file) }
 {}
 
 /// Lines are one flow file at most.

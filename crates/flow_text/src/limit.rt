@@ -105,7 +105,7 @@ fn count_items(lines: &[Line]) -> usize
     lines.iter().filter(|line| is_item(line.form)).count()
 }
 
-/// How many rows are open behind a line, where so many are before it.
+/// How many rows are open after a line, where so many are before it.
 fn open_behind(rows: u64, form: Form) -> u64
     requires { rows < 2 ^ 63 }
     ensures { result ≡ limits.open_behind rows form }
@@ -150,7 +150,7 @@ impl Counts {
     ghost use Rattle.std.specs.Prelude.{◌≡◌, IfOk};
     ghost use Rattle.flow_text.specs.Limits as limits;
 
-    /// The counts behind a line.
+    /// The counts after a line.
     fn behind(self, form: Form) -> Result<Counts, NoMemory>
         ensures { IfOk result (λ counts. counts ≡ limits.counted self form) }
     {

@@ -52,7 +52,7 @@ fn number(bytes: &[u8]) -> Option<(u64, &[u8])>
     Some((value_of(digits), rest))
 }
 
-/// The number behind a space, and what follows it.
+/// The number after a space, and what follows it.
 pub fn field(bytes: &[u8]) -> Option<(u64, &[u8])>
     ensures { option_map (λ x. (x.0, x.1.now)) result ≡ field_at bytes.now }
 {

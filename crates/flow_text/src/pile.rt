@@ -32,7 +32,7 @@ impl<T> Pile<T> {
         }
     }
 
-    /// Puts an item on the top. After want of memory the pile is as before.
+    /// Puts an item on the top. When out of memory, the pile is as before.
     pub fn push(&mut self, item: T) -> Result<(), AllocFailed<T>>
         ensures ok { OnOk result (self.new ≡ item ∷ self.old) }
         ensures err { OnErr result (self.new ≡ self.old) }

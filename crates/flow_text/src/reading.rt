@@ -131,12 +131,13 @@ fn answer(alloc: Global, text: &[u8]) -> Result<List<Line>, Refusal>
 /// The lines of a flow file, whatever its size.
 ///
 /// `Grammar` comes off the grammar, with the first fault and its byte, and `Limit` on it where a limit is passed, the first
-/// of `length`, `columns`, `nest`, `items` and `inner-items`. `NoMemory` is want of memory.
+/// of `length`, `columns`, `nest`, `items` and `inner-items`. `NoMemory` is out of memory.
 pub fn read(alloc: Global, text: &[u8]) -> Result<List<Line>, Refusal>
     // What is read is the text's lines, and they are a flow file within its limits.
     ensures found { IfOk result (λ lines. IsRead text.now lines) }
     // A flow file is read, or refused by the first limit that it passes.
-    ensures only { (lines : List Line) (file : FlowFile) → IsText 0 lines text.now → IsFlowFile lines file → IsAnswer result (answers.within_limits lines) }
+    ensures only { (lines : List Line) (file : FlowFile) → IsText 0 lines text.now → IsFlowFile lines file
+        → IsAnswer result (answers.within_limits lines) }
     // The fault that is answered is the first, by the grammar.
     ensures first { (fault : Fault) → IsErrOf result (answers.refusal_of fault) → IsFirstFault text.now fault }
     // A text with a first fault, of which there is at most one, is refused by it.

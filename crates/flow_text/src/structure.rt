@@ -9,7 +9,7 @@ use std::alloc::Global;
 /// Where reading stands in a row.
 ///
 /// `Empty`: no line of it is read. `Leading`: in the head before its first item, whose first line is at this byte.
-/// `Filled`: behind an item. `Behind`: behind a break place, which is at this byte.
+/// `Filled`: after an item. `After`: after a break place, which is at this byte.
 #[derive(Clone, Copy)]
 pub enum Phase {
     Empty,
@@ -57,7 +57,7 @@ ghost use Rattle.std.specs.Prelude.{◌≡◌, Some, None};
 ghost use Rattle.mc_base.specs.Reading.{Gives};
 ghost use Rattle.flow_text.specs.Structure as structure;
 
-/// Whether reading stands behind an item.
+/// Whether reading stands after an item.
 fn is_filled(phase: Phase) -> bool
     ensures { result ≡ structure.is_filled phase }
 {
@@ -67,7 +67,7 @@ fn is_filled(phase: Phase) -> bool
     }
 }
 
-/// Where reading stands behind a line at this byte that is no item.
+/// Where reading stands after a line at this byte that is no item.
 fn touched(phase: Phase, at: u64) -> Phase
     ensures { result ≡ structure.touched phase at }
 {

@@ -1,5 +1,6 @@
 -- The forms of a line, both ways: what is read is of its form, and what is of a form is read.
-use Rattle.std.proofs.Common.{◌≡◌, ℕ, ◌+◌, ◌*◌, ◌≤◌, ◌<◌, Bool, true, false, cond, eqb, ltb, leb, ◌&&◌, List, [], ◌∷◌, length, get_or, Option, Some, None, inl, inr, refl, sym, ap, subst, ◌∙◌, arith}
+use Rattle.std.proofs.Common.{◌≡◌, ℕ, ◌+◌, ◌*◌, ◌≤◌, ◌<◌, Bool, true, false, cond, eqb, ltb, leb, ◌&&◌, List, [], ◌∷◌, length}
+use Rattle.std.proofs.Common.{get_or, Option, Some, None, inl, inr, refl, sym, ap, subst, ◌∙◌, arith}
 use Rattle.std.specs.Prelude.{IsTrue, codes}
 use Rattle.std.specs.List.{AllByRecursion, list_all}
 use Rattle.std.specs.Char.{digit_value}
@@ -12,8 +13,10 @@ use Rattle.mc_base.proofs.FindSteps.{some_step}
 use lib.Utf8.{scalar, scalar_cases}
 use Rattle.font_table.specs.declared.fonts.Advance.{Advance}
 use Rattle.font_table.specs.declared.fonts.Face.{Face}
-use Rattle.font_table.specs.Table.{spaced, is_digit, is_hex_digit, is_name_byte, IsDecimal, IsCode, style_word, IsFaceLine, IsCharacterLine}
-use Rattle.font_table.specs.Forms.{word_at, base, is_digit_of, digits_from, number_at, scalar_of, code_at, behind_keyword, name_at, field_at, weight_at, style_of, style_at, face_at, character_at}
+use Rattle.font_table.specs.Table.{spaced, is_digit, is_hex_digit, is_name_byte, IsDecimal, IsCode, style_word, IsFaceLine}
+use Rattle.font_table.specs.Table.{IsCharacterLine}
+use Rattle.font_table.specs.Forms.{word_at, base, is_digit_of, digits_from, number_at, scalar_of, code_at, behind_keyword}
+use Rattle.font_table.specs.Forms.{name_at, field_at, weight_at, style_of, style_at, face_at, character_at}
 
 -- ---- tools
 
@@ -41,7 +44,8 @@ some_is x y e = cc
 abbrev pub HasNoSpace : List ℕ → Type 0
 HasNoSpace bytes = AllByRecursion (λ b. eqb b 32 ≡ false) bytes
 
-pub without_space : (p : ℕ → Bool) → ((b : ℕ) → p b ≡ true → eqb b 32 ≡ false) → (bytes : List ℕ) → list_all p bytes ≡ true → HasNoSpace bytes
+pub without_space : (p : ℕ → Bool) → ((b : ℕ) → p b ≡ true → eqb b 32 ≡ false) → (bytes : List ℕ) → list_all p bytes ≡ true
+    → HasNoSpace bytes
 without_space p h [] e = tt
 without_space p h (b ∷ bytes) e = both (p b) (list_all p bytes) e (λ first rest. (h b first, without_space p h bytes rest))
 
@@ -49,8 +53,10 @@ pub word_again : (word rest : List ℕ) → HasNoSpace word → word_at (spaced 
 word_again [] rest h = refl
 word_again (b ∷ word) rest h = rw (h.0, word_again word rest h.1) refl
 
-first_is : (b : ℕ) (bs word rest : List ℕ) (r : Bool) → eqb b 32 ≡ r → ((w t : List ℕ) → word_at bs ≡ Some (w, t) → bs ≡ spaced w t)
-    → cond {A = Option (List ℕ × List ℕ)} r (Some ([], bs)) (word_at bs >>= λ x. Some (b ∷ x.0, x.1)) ≡ Some (word, rest) → b ∷ bs ≡ spaced word rest
+first_is : (b : ℕ) (bs word rest : List ℕ) (r : Bool) → eqb b 32 ≡ r
+    → ((w t : List ℕ) → word_at bs ≡ Some (w, t) → bs ≡ spaced w t)
+    → cond {A = Option (List ℕ × List ℕ)} r (Some ([], bs)) (word_at bs >>= λ x. Some (b ∷ x.0, x.1)) ≡ Some (word, rest)
+    → b ∷ bs ≡ spaced word rest
 first_is b bs word rest true is_space deeper e =
     let pair : ([], bs) ≡ (word, rest) = some_is {A = List ℕ × List ℕ} ([], bs) (word, rest) e in
     let w-is : [] ≡ word = ap (λ (x : List ℕ × List ℕ). x.0) pair in
@@ -91,41 +97,50 @@ digits_found hex most n (b ∷ digits) v within e =
     let deeper = digits_found hex most (n * base hex + digit_value b) digits v (leb-true _ _ fits) rest in
     (rw (is_digit_b, deeper.0) refl, deeper.1, deeper.2)
 
-digits_again : (hex : Bool) (most n : ℕ) (digits : List ℕ) → list_all (is_digit_of hex) digits ≡ true → digits_value_after (base hex) n digits ≤ most
+digits_again : (hex : Bool) (most n : ℕ) (digits : List ℕ) → list_all (is_digit_of hex) digits ≡ true
+    → digits_value_after (base hex) n digits ≤ most
     → digits_from hex most n digits ≡ Some (digits_value_after (base hex) n digits)
 digits_again hex most n [] all within = refl
 digits_again hex most n (b ∷ digits) all within =
     both (is_digit_of hex b) (list_all (is_digit_of hex) digits) all λ first others.
-    let fits : leb (n * base hex + digit_value b) most ≡ true = le-leb _ _ (omega (arith, grows hex (n * base hex + digit_value b) digits, within)) in
+    let fits : leb (n * base hex + digit_value b) most ≡ true =
+    le-leb _ _ (omega (arith, grows hex (n * base hex + digit_value b) digits, within)) in
     rw (first, fits) (digits_again hex most (n * base hex + digit_value b) digits others within)
 
-pub number_found : (hex : Bool) (most : ℕ) (digits : List ℕ) (v : ℕ) → number_at hex most digits ≡ Some v → Number hex most digits v
+pub number_found : (hex : Bool) (most : ℕ) (digits : List ℕ) (v : ℕ) → number_at hex most digits ≡ Some v
+    → Number hex most digits v
 unfolding number_at
 number_found hex most digits v e =
     failed (eqb (length digits) 0) _ v e λ some more.
     let d = digits_found hex most 0 digits v (omega arith) more in
     record { filled = omega (arith, eqb-false _ _ some); digits_only = d.0; value = d.1; within = d.2 }
 
-pub number_again : (hex : Bool) (most : ℕ) (digits : List ℕ) (v : ℕ) → Number hex most digits v → number_at hex most digits ≡ Some v
+pub number_again : (hex : Bool) (most : ℕ) (digits : List ℕ) (v : ℕ) → Number hex most digits v
+    → number_at hex most digits ≡ Some v
 unfolding number_at
 number_again hex most digits v h =
     let filled : eqb (length digits) 0 ≡ false = ne_eqb _ _ (λ none. omega (arith, none, h.filled)) in
-    rw filled (digits_again hex most 0 digits h.digits_only (omega (arith, h.value, h.within)) ∙ ap (λ (n : ℕ). Some n) (sym h.value))
+    rw filled (digits_again hex most 0 digits h.digits_only (omega (arith, h.value, h.within))
+    ∙ ap (λ (n : ℕ). Some n) (sym h.value))
 
 pub decimal_again : (most : ℕ) (digits : List ℕ) (v : ℕ) → IsDecimal digits v → v ≤ most → number_at false most digits ≡ Some v
-decimal_again most digits v h within = number_again false most digits v (record { filled = h.filled; digits_only = h.digits_only; value = h.value; within = within })
+decimal_again most digits v h within =
+    number_again false most digits v (record { filled = h.filled; digits_only = h.digits_only; value = h.value; within = within })
 
 pub decimal_found : (most : ℕ) (digits : List ℕ) (v : ℕ) → number_at false most digits ≡ Some v → IsDecimal digits v × (v ≤ most)
-decimal_found most digits v e = let h = number_found false most digits v e in (record { filled = h.filled; digits_only = h.digits_only; value = h.value }, h.within)
+decimal_found most digits v e = let h = number_found false most digits v e
+    in (record { filled = h.filled; digits_only = h.digits_only; value = h.value }, h.within)
 
 digit_no_space : (b : ℕ) → is_digit b ≡ true → eqb b 32 ≡ false
 digit_no_space b e = both (leb 48 b) (leb b 57) e λ low high. ne_eqb b 32 (λ same. omega (arith, leb-true 48 b low, same))
 
 hex_digit_no_space : (b : ℕ) → is_hex_digit b ≡ true → eqb b 32 ≡ false
-hex_digit_no_space b e = ne_eqb b 32 (λ same. let f : is_hex_digit 32 ≡ true = subst (λ (n : ℕ). is_hex_digit n ≡ true) same e in absurd cc)
+hex_digit_no_space b e = ne_eqb b 32 (λ same. let f : is_hex_digit 32 ≡ true = subst (λ (n : ℕ). is_hex_digit n ≡ true) same e
+    in absurd cc)
 
 name_no_space : (b : ℕ) → is_name_byte b ≡ true → eqb b 32 ≡ false
-name_no_space b e = ne_eqb b 32 (λ same. let f : is_name_byte 32 ≡ true = subst (λ (n : ℕ). is_name_byte n ≡ true) same e in absurd cc)
+name_no_space b e = ne_eqb b 32 (λ same. let f : is_name_byte 32 ≡ true = subst (λ (n : ℕ). is_name_byte n ≡ true) same e
+    in absurd cc)
 
 decimal_word : (digits : List ℕ) (v : ℕ) (rest : List ℕ) → IsDecimal digits v → word_at (spaced digits rest) ≡ Some (digits, rest)
 decimal_word digits v rest h = word_again digits rest (without_space is_digit digit_no_space digits h.digits_only)
@@ -154,7 +169,10 @@ code_found digits v e =
     record {
       filled = h.filled;
       digits_only = h.digits_only;
-      shortest = λ zero_first. let one : ltb 1 (length digits) ≡ false = long_or_other (eqb (get_or digits 0 0) 48) (ltb 1 (length digits)) short (ap (λ (n : ℕ). eqb n 48) zero_first) in omega (arith, ltb-false _ _ one, h.filled);
+      shortest =
+          λ zero_first.
+          let one : ltb 1 (length digits) ≡ false = long_or_other (eqb (get_or digits 0 0) 48) (ltb 1 (length digits)) short
+          (ap (λ (n : ℕ). eqb n 48) zero_first) in omega (arith, ltb-false _ _ one, h.filled);
       value = sym n-is ∙ h.value;
       scalar = rw (← n-is) is_scalar;
     }
@@ -162,8 +180,12 @@ code_found digits v e =
 pub code_again : (digits : List ℕ) (v : ℕ) → IsCode digits v → code_at digits ≡ Some v
 unfolding code_at
 code_again digits v h =
-    let short : (eqb (get_or digits 0 0) 48 && ltb 1 (length digits)) ≡ false = not_both (eqb (get_or digits 0 0) 48) (ltb 1 (length digits)) (λ first. let one = h.shortest (eqb-true (get_or digits 0 0) 48 first) in le-ltb 1 (length digits) (omega (arith, one))) in
-    let numbers = number_again true 0x10FFFF digits v (record { filled = h.filled; digits_only = h.digits_only; value = h.value; within = scalar_most v h.scalar }) in
+    let short : (eqb (get_or digits 0 0) 48 && ltb 1 (length digits)) ≡ false =
+    not_both (eqb (get_or digits 0 0) 48) (ltb 1 (length digits))
+    (λ first. let one = h.shortest (eqb-true (get_or digits 0 0) 48 first)
+    in le-ltb 1 (length digits) (omega (arith, one))) in
+    let numbers = number_again true 0x10FFFF digits v
+    (record { filled = h.filled; digits_only = h.digits_only; value = h.value; within = scalar_most v h.scalar }) in
     rw (short, numbers, h.scalar) refl
 
 code_word : (digits : List ℕ) (v : ℕ) (rest : List ℕ) → IsCode digits v → word_at (spaced digits rest) ≡ Some (digits, rest)
@@ -176,46 +198,56 @@ unfolding behind_keyword
 keyword_found keyword line rest e =
     some_step (word_at line) _ rest e λ word is_word more.
     passed (bytes_eq word.0 keyword) (Some word.1) rest more λ same is_rest.
-    word_found line word.0 word.1 is_word ∙ ap (λ (w : List ℕ). spaced w word.1) ((bytes_eq-Decides word.0 keyword).0 same) ∙ ap (λ (t : List ℕ). spaced keyword t) (some_is word.1 rest is_rest)
+    word_found line word.0 word.1 is_word ∙ ap (λ (w : List ℕ). spaced w word.1) ((bytes_eq-Decides word.0 keyword).0 same)
+    ∙ ap (λ (t : List ℕ). spaced keyword t) (some_is word.1 rest is_rest)
 
-field_found : (most : ℕ) (bytes : List ℕ) (x : ℕ × List ℕ) → field_at most bytes ≡ Some x → (digits : List ℕ) × (bytes ≡ spaced digits x.1) × IsDecimal digits x.0 × (x.0 ≤ most)
+field_found : (most : ℕ) (bytes : List ℕ) (x : ℕ × List ℕ) → field_at most bytes ≡ Some x
+    → (digits : List ℕ) × (bytes ≡ spaced digits x.1) × IsDecimal digits x.0 × (x.0 ≤ most)
 unfolding field_at
 field_found most bytes x e =
     some_step (word_at bytes) _ x e λ word is_word more.
     some_step (number_at false most word.0) _ x more λ n is_n made.
     let h = decimal_found most word.0 n is_n in
-    subst (λ (y : ℕ × List ℕ). (digits : List ℕ) × (bytes ≡ spaced digits y.1) × IsDecimal digits y.0 × (y.0 ≤ most)) (some_is {A = ℕ × List ℕ} (n, word.1) x made)
+    subst (λ (y : ℕ × List ℕ). (digits : List ℕ) × (bytes ≡ spaced digits y.1) × IsDecimal digits y.0 × (y.0 ≤ most))
+    (some_is {A = ℕ × List ℕ} (n, word.1) x made)
     (word.0, word_found bytes word.0 word.1 is_word, h.0, h.1)
 
-field_again : (most : ℕ) (digits : List ℕ) (v : ℕ) (rest : List ℕ) → IsDecimal digits v → v ≤ most → field_at most (spaced digits rest) ≡ Some (v, rest)
+field_again : (most : ℕ) (digits : List ℕ) (v : ℕ) (rest : List ℕ) → IsDecimal digits v → v ≤ most
+    → field_at most (spaced digits rest) ≡ Some (v, rest)
 unfolding field_at
 field_again most digits v rest h within = rw (decimal_word digits v rest h, decimal_again most digits v h within) refl
 
-weight_found : (bytes : List ℕ) (x : ℕ × List ℕ) → weight_at bytes ≡ Some x → (digits : List ℕ) × (bytes ≡ spaced digits x.1) × IsDecimal digits x.0 × (x.0 ≤ 1000) × (1 ≤ x.0)
+weight_found : (bytes : List ℕ) (x : ℕ × List ℕ) → weight_at bytes ≡ Some x → (digits : List ℕ) × (bytes ≡ spaced digits x.1)
+    × IsDecimal digits x.0 × (x.0 ≤ 1000) × (1 ≤ x.0)
 unfolding weight_at
 weight_found bytes x e =
     some_step (field_at 1000 bytes) _ x e λ f is_f more.
     passed (ltb 0 f.0) (Some f) x more λ weighs made.
     let h = field_found 1000 bytes f is_f in
-    subst (λ (y : ℕ × List ℕ). (digits : List ℕ) × (bytes ≡ spaced digits y.1) × IsDecimal digits y.0 × (y.0 ≤ 1000) × (1 ≤ y.0)) (some_is f x made)
+    subst (λ (y : ℕ × List ℕ). (digits : List ℕ) × (bytes ≡ spaced digits y.1) × IsDecimal digits y.0 × (y.0 ≤ 1000) × (1 ≤ y.0))
+    (some_is f x made)
     (h.0, h.1, h.2, h.3, omega (arith, ltb-true 0 f.0 weighs))
 
-weight_again : (digits : List ℕ) (v : ℕ) (rest : List ℕ) → IsDecimal digits v → v ≤ 1000 → 1 ≤ v → weight_at (spaced digits rest) ≡ Some (v, rest)
+weight_again : (digits : List ℕ) (v : ℕ) (rest : List ℕ) → IsDecimal digits v → v ≤ 1000 → 1 ≤ v
+    → weight_at (spaced digits rest) ≡ Some (v, rest)
 unfolding weight_at
 weight_again digits v rest h within weighs =
     let some : ltb 0 v ≡ true = lt-ltb 0 v (omega (arith, weighs)) in
     rw (field_again 1000 digits v rest h within, some) refl
 
-name_found : (bytes : List ℕ) (x : List ℕ × List ℕ) → name_at bytes ≡ Some x → (bytes ≡ spaced x.0 x.1) × (0 < length x.0) × IsTrue (list_all is_name_byte x.0)
+name_found : (bytes : List ℕ) (x : List ℕ × List ℕ) → name_at bytes ≡ Some x → (bytes ≡ spaced x.0 x.1) × (0 < length x.0)
+    × IsTrue (list_all is_name_byte x.0)
 unfolding name_at
 name_found bytes x e =
     some_step (word_at bytes) _ x e λ word is_word more.
     passed (ltb 0 (length word.0) && list_all is_name_byte word.0) (Some word) x more λ good made.
     both (ltb 0 (length word.0)) (list_all is_name_byte word.0) good λ filled named.
-    subst (λ (y : List ℕ × List ℕ). (bytes ≡ spaced y.0 y.1) × (0 < length y.0) × IsTrue (list_all is_name_byte y.0)) (some_is word x made)
+    subst (λ (y : List ℕ × List ℕ). (bytes ≡ spaced y.0 y.1) × (0 < length y.0) × IsTrue (list_all is_name_byte y.0))
+    (some_is word x made)
     (word_found bytes word.0 word.1 is_word, ltb-true _ _ filled, named)
 
-name_again : (name rest : List ℕ) → 0 < length name → IsTrue (list_all is_name_byte name) → name_at (spaced name rest) ≡ Some (name, rest)
+name_again : (name rest : List ℕ) → 0 < length name → IsTrue (list_all is_name_byte name)
+    → name_at (spaced name rest) ≡ Some (name, rest)
 unfolding name_at
 name_again name rest filled named =
     let some : ltb 0 (length name) ≡ true = lt-ltb _ _ filled in
@@ -225,9 +257,11 @@ style_is : (word : List ℕ) (italic : Bool) → style_of word ≡ Some italic �
 unfolding style_of
 style_is word italic e = by_test (bytes_eq word (codes "normal")) refl e
   where
-    by_test : (r : Bool) → bytes_eq word (codes "normal") ≡ r → cond r (Some false) (cond (bytes_eq word (codes "italic")) (Some true) None) ≡ Some italic → word ≡ style_word italic
+    by_test : (r : Bool) → bytes_eq word (codes "normal") ≡ r
+        → cond r (Some false) (cond (bytes_eq word (codes "italic")) (Some true) None) ≡ Some italic → word ≡ style_word italic
     by_test true t e = (bytes_eq-Decides word (codes "normal")).0 t ∙ ap style_word (some_is false italic e)
-    by_test false t e = passed (bytes_eq word (codes "italic")) (Some true) italic e λ same is_true. (bytes_eq-Decides word (codes "italic")).0 same ∙ ap style_word (some_is true italic is_true)
+    by_test false t e = passed (bytes_eq word (codes "italic")) (Some true) italic e λ same is_true.
+        (bytes_eq-Decides word (codes "italic")).0 same ∙ ap style_word (some_is true italic is_true)
 
 style_found : (bytes : List ℕ) (x : Bool × List ℕ) → style_at bytes ≡ Some x → bytes ≡ spaced (style_word x.0) x.1
 unfolding style_at
@@ -259,9 +293,12 @@ face_found line face e =
     let a = field_found 10000 style.1 ascent is_ascent in
     let d = field_found 10000 ascent.1 descent is_descent in
     let f = decimal_found 10000 descent.1 default is_default in
-    let words : line ≡ spaced (codes "face") (spaced name.0 (spaced w.0 (spaced (style_word style.0) (spaced a.0 (spaced d.0 descent.1))))) =
+    let words : line ≡ spaced (codes "face")
+    (spaced name.0 (spaced w.0 (spaced (style_word style.0) (spaced a.0 (spaced d.0 descent.1))))) =
     keyword_found (codes "face") line behind is_behind
-    ∙ ap (spaced (codes "face")) (n.0 ∙ ap (spaced name.0) (w.1 ∙ ap (spaced w.0) (style_found weight.1 style is_style ∙ ap (spaced (style_word style.0)) (a.1 ∙ ap (spaced a.0) d.1)))) in
+    ∙ ap (spaced (codes "face")) (n.0
+    ∙ ap (spaced name.0) (w.1 ∙ ap (spaced w.0)
+    (style_found weight.1 style is_style ∙ ap (spaced (style_word style.0)) (a.1 ∙ ap (spaced a.0) d.1)))) in
     subst (λ (y : Face). IsFaceLine line y × (y.advances ≡ [])) (some_is _ face made) (
       record {
         weight = w.0;
@@ -317,7 +354,8 @@ character_found line a e =
     (record {
       hex = word.0;
       amount = word.1;
-      words = keyword_found (codes "ch") line behind is_behind ∙ ap (spaced (codes "ch")) (word_found behind word.0 word.1 is_word);
+      words = keyword_found (codes "ch") line behind is_behind
+          ∙ ap (spaced (codes "ch")) (word_found behind word.0 word.1 is_word);
       is_code = code_found word.0 ch is_ch;
       is_amount = f.0;
       amount_most = f.1;
@@ -326,7 +364,12 @@ character_found line a e =
 pub character_again : (line : List ℕ) (a : Advance) → IsCharacterLine line a → character_at line ≡ Some a
 unfolding character_at
 character_again line a h =
-    ap character_at h.words ∙ rw (keyword_again_ch _, code_word h.hex a.ch _ h.is_code, code_again h.hex a.ch h.is_code, decimal_again 10000 h.amount a.amount h.is_amount h.amount_most) refl
+    ap character_at h.words ∙ rw (
+      keyword_again_ch _,
+      code_word h.hex a.ch _ h.is_code,
+      code_again h.hex a.ch h.is_code,
+      decimal_again 10000 h.amount a.amount h.is_amount h.amount_most,
+    ) refl
 
 -- no line is of both forms
 pub one_form : (line : List ℕ) (face : Face) (a : Advance) → IsFaceLine line face → IsCharacterLine line a → ⊥

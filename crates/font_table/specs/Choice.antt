@@ -1,5 +1,6 @@
 -- Which face a style asks for, and how wide a character is in it.
-use Rattle.std.specs.Prelude.{ℕ, ◌*◌, ◌/◌, Bool, true, false, ◌&&◌, not, nat_le, ◌==◌, if◌then◌else◌, List, [], ◌∷◌, slice_index_or, Option, Some, None, unwrap_or}
+use Rattle.std.specs.Prelude.{ℕ, ◌*◌, ◌/◌, Bool, true, false, ◌&&◌, not, nat_le, ◌==◌, if◌then◌else◌, List, [], ◌∷◌}
+use Rattle.std.specs.Prelude.{slice_index_or, Option, Some, None, unwrap_or}
 use Rattle.std.specs.Option.{option_map}
 use Rattle.std.specs.List.{position}
 use Rattle.std.specs.Char.{to_ascii_lowercase}
@@ -31,12 +32,14 @@ is_like weight italic face = same face.italic italic && same (nat_le 600 face.we
 -- in a family the first face that is like the asked one, else the first
 abbrev pub in_family : List Face → List ℕ → ℕ → Bool → Option ℕ
 in_family faces family weight italic =
-    option_map (λ first. unwrap_or (position (λ face. is_of family face && is_like weight italic face) faces) first) (position (is_of family) faces)
+    option_map (λ first. unwrap_or (position (λ face. is_of family face && is_like weight italic face) faces) first)
+    (position (is_of family) faces)
 
 -- the face of the first family that the table has, and without such a family the table's first face
 abbrev pub chosen : List Face → List (List ℕ) → ℕ → Bool → ℕ
 chosen faces [] weight italic = 0
-chosen faces (family ∷ families) weight italic = unwrap_or (in_family faces family weight italic) (chosen faces families weight italic)
+chosen faces (family ∷ families) weight italic =
+    unwrap_or (in_family faces family weight italic) (chosen faces families weight italic)
 
 -- ---- lengths
 

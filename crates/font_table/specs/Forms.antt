@@ -1,5 +1,6 @@
 -- Reading the words of a line, as functions on lists.
-use Rattle.std.specs.Prelude.{ℕ, ◌+◌, ◌*◌, Bool, true, false, ◌&&◌, nat_lt, nat_le, ◌==◌, if◌then◌else◌, List, [], ◌∷◌, length, slice_index, codes, Option, Some, None}
+use Rattle.std.specs.Prelude.{ℕ, ◌+◌, ◌*◌, Bool, true, false, ◌&&◌, nat_lt, nat_le, ◌==◌, if◌then◌else◌, List, [], ◌∷◌, length}
+use Rattle.std.specs.Prelude.{slice_index, codes, Option, Some, None}
 use Rattle.std.specs.List.{list_all}
 use Rattle.std.specs.Str.{bytes_eq}
 use Rattle.std.specs.Char.{digit_value}
@@ -22,7 +23,7 @@ abbrev pub is_digit_of : Bool → ℕ → Bool
 is_digit_of false b = is_digit b
 is_digit_of true b = is_hex_digit b
 
--- the number that these digits write behind those of n, where it is at most `most`
+-- the number that these digits write after those of n, where it is at most `most`
 abbrev pub digits_from : Bool → ℕ → ℕ → List ℕ → Option ℕ
 digits_from hex most n [] = Some n
 digits_from hex most n (b ∷ bs) =
@@ -38,7 +39,8 @@ scalar_of n = if scalar n then Some n else None
 
 -- a character's code
 unfoldable pub code_at : List ℕ → Option ℕ
-code_at bytes = if (slice_index bytes 0 == 48) && nat_lt 1 (length bytes) then None else (number_at true 0x10FFFF bytes >>= scalar_of)
+code_at bytes = if (slice_index bytes 0 == 48) && nat_lt 1 (length bytes) then None else
+    (number_at true 0x10FFFF bytes >>= scalar_of)
 
 -- what follows a first word that is this one
 unfoldable pub behind_keyword : List ℕ → List ℕ → Option (List ℕ)
@@ -63,7 +65,8 @@ weight_at bytes = do
   if nat_lt 0 weight.0 then Some weight else None
 
 unfoldable pub style_of : List ℕ → Option Bool
-style_of word = if bytes_eq word (codes "normal") then Some false else (if bytes_eq word (codes "italic") then Some true else None)
+style_of word = if bytes_eq word (codes "normal") then Some false else
+    (if bytes_eq word (codes "italic") then Some true else None)
 
 unfoldable pub style_at : List ℕ → Option (Bool × List ℕ)
 style_at bytes = do
@@ -81,7 +84,15 @@ face_at line = do
   ascent ← field_at 10000 style.1
   descent ← field_at 10000 ascent.1
   default ← number_at false 10000 descent.1
-  Some (record { name = name.0; weight = weight.0; italic = style.0; ascent = ascent.0; descent = descent.0; default_advance = default; advances = [] })
+  Some (record {
+    name = name.0;
+    weight = weight.0;
+    italic = style.0;
+    ascent = ascent.0;
+    descent = descent.0;
+    default_advance = default;
+    advances = [];
+  })
 
 -- the advance of a character's line
 unfoldable pub character_at : List ℕ → Option Advance

@@ -1,5 +1,6 @@
 -- Reading a table byte by byte, with the first fault that is met.
-use Rattle.std.specs.Prelude.{◌≡◌, ℕ, ◌+◌, nat_lt, nat_le, ◌==◌, if◌then◌else◌, List, [], ◌∷◌, ◌++◌, length, codes, Option, Some, None, option_to_list, Result, Ok, Err}
+use Rattle.std.specs.Prelude.{◌≡◌, ℕ, ◌+◌, nat_lt, nat_le, ◌==◌, if◌then◌else◌, List, [], ◌∷◌, ◌++◌, length, codes, Option, Some}
+use Rattle.std.specs.Prelude.{None, option_to_list, Result, Ok, Err}
 use Rattle.std.specs.Str.{bytes_eq}
 use Rattle.mc_base.specs.declared.refusal.Refusal.{Refusal}
 use Rattle.mc_base.specs.declared.refusal.Refusal.TheVariants as refusals
@@ -20,7 +21,8 @@ refusal offset number = refusals.Grammar inputs.Metrics offset (record { letter 
 -- what a function returned, seen by view, is what reading gives, unless memory ran out
 abbrev pub Fails : {Y : Type 0} → Refusal → Result Y Fault → Type 0
 Fails refusals.NoMemory read = Unit {0}
-Fails (refusals.Grammar input offset rule) read = (input ≡ inputs.Metrics) × (rule.letter ≡ 102) × (read ≡ fault offset rule.number)
+Fails (refusals.Grammar input offset rule) read = (input ≡ inputs.Metrics) × (rule.letter ≡ 102)
+    × (read ≡ fault offset rule.number)
 Fails (refusals.Construct input offset name) read = ⊥
 Fails (refusals.Limit name reached limit) read = ⊥
 
@@ -28,10 +30,11 @@ abbrev pub Gives : {X Y : Type 0} → (X → Y) → Result X Refusal → Result 
 Gives view (Ok x) read = read ≡ Ok (view x)
 Gives view (Err e) read = Fails e read
 
--- the refusal of a text: want of memory, or its first fault
+-- the refusal of a text: out of memory, or its first fault
 abbrev pub IsRefusalOf : List ℕ → Refusal → Type 0
 IsRefusalOf text refusals.NoMemory = Unit {0}
-IsRefusalOf text (refusals.Grammar input offset rule) = (input ≡ inputs.Metrics) × (rule.letter ≡ 102) × IsFirstFault text offset rule.number
+IsRefusalOf text (refusals.Grammar input offset rule) = (input ≡ inputs.Metrics) × (rule.letter ≡ 102)
+    × IsFirstFault text offset rule.number
 IsRefusalOf text (refusals.Construct input offset name) = ⊥
 IsRefusalOf text (refusals.Limit name reached limit) = ⊥
 
@@ -50,7 +53,8 @@ with_advance face a = record face { advances = face.advances ++ a ∷ [] }
 
 abbrev pub character_taken : ℕ → Building → Option Face → Advance → Result Building Fault
 character_taken at b None a = fault at 5
-character_taken at b (Some face) a = if nat_le b.least a.ch then Ok (record { done = b.done; last = Some (with_advance face a); least = a.ch + 1 }) else fault at 5
+character_taken at b (Some face) a =
+    if nat_le b.least a.ch then Ok (record { done = b.done; last = Some (with_advance face a); least = a.ch + 1 }) else fault at 5
 
 abbrev pub form_taken : ℕ → Building → Option Face → Option Advance → Result Building Fault
 form_taken at b (Some face) character = Ok (face_begun b face)

@@ -1,6 +1,7 @@
 -- Metrics tables: the lines, what a line means, what a table of faces is spelled by, and the first fault of a text that
 -- is no table. The format is this project's own.
-use Rattle.std.specs.Prelude.{◌≡◌, ◌≢◌, ℕ, ◌+◌, ◌<◌, ◌≤◌, Bool, true, false, IsTrue, ◌⊎◌, ◌&&◌, ◌||◌, nat_le, ◌==◌, List, [], ◌∷◌, ◌++◌, length, slice_index, codes}
+use Rattle.std.specs.Prelude.{◌≡◌, ◌≢◌, ℕ, ◌+◌, ◌<◌, ◌≤◌, Bool, true, false, IsTrue, ◌⊎◌, ◌&&◌, ◌||◌, nat_le, ◌==◌, List, [], ◌∷◌}
+use Rattle.std.specs.Prelude.{◌++◌, length, slice_index, codes}
 use Rattle.std.specs.List.{AllByRecursion, list_all}
 use Rattle.std.specs.Char.{IsScalar}
 use Rattle.mc_base.specs.SoundText.{sound_len}
@@ -63,7 +64,8 @@ pub record IsFaceLine (line : List ℕ) (face : Face) : Type 0 where
   pub ascent : List ℕ
   pub descent : List ℕ
   pub default : List ℕ
-  pub words : line ≡ spaced (codes "face") (spaced face.name (spaced weight (spaced (style_word face.italic) (spaced ascent (spaced descent default)))))
+  pub words : line ≡ spaced (codes "face")
+      (spaced face.name (spaced weight (spaced (style_word face.italic) (spaced ascent (spaced descent default)))))
   pub named : 0 < length face.name
   pub name_bytes : IsTrue (list_all is_name_byte face.name)
   pub is_weight : IsDecimal weight face.weight
@@ -126,28 +128,32 @@ pub record HasLine (rest line : List ℕ) : Type 0 where
   pub whole : rest ≡ line ++ 10 ∷ after
   pub is_line : IsLine line
 
--- Behind lines that begin a table: what is wrong with what follows, the offset where it begins, and where and by which
+-- After lines that begin a table: what is wrong with what follows, the offset where it begins, and where and by which
 -- rule it is reported.
 pub data IsFaultBehind (front : List (List ℕ)) (rest : List ℕ) (start at rule : ℕ) : Type 0 where
   -- a byte that no line has
-  bad_byte : (line : List ℕ) (byte : ℕ) (after : List ℕ) → rest ≡ line ++ byte ∷ after → IsLine line → is_plain byte ≡ false → byte ≢ 10
+  bad_byte : (line : List ℕ) (byte : ℕ) (after : List ℕ) → rest ≡ line ++ byte ∷ after → IsLine line → is_plain byte ≡ false
+      → byte ≢ 10
       → at ≡ start + length line → rule ≡ 2 → IsFaultBehind front rest start at rule
   -- a last line without its line feed
   cut_short : 0 < length rest → IsLine rest → at ≡ start → rule ≡ 2 → IsFaultBehind front rest start at rule
   -- a first line that isn't `metrics 1`, or none
-  no_header : front ≡ [] → (rest ≡ []) ⊎ ((line : List ℕ) × (line ≢ codes "metrics 1") × HasLine rest line) → at ≡ start → rule ≡ 3
+  no_header : front ≡ [] → (rest ≡ []) ⊎ ((line : List ℕ) × (line ≢ codes "metrics 1") × HasLine rest line) → at ≡ start
+      → rule ≡ 3
       → IsFaultBehind front rest start at rule
   -- a line that is neither a face's nor a character's
-  no_form : (line : List ℕ) → 0 < length front → HasLine rest line → ((face : Face) → IsFaceLine line face → ⊥) → ((a : Advance) → IsCharacterLine line a → ⊥)
+  no_form : (line : List ℕ) → 0 < length front → HasLine rest line → ((face : Face) → IsFaceLine line face → ⊥)
+      → ((a : Advance) → IsCharacterLine line a → ⊥)
       → at ≡ start → rule ≡ 4 → IsFaultBehind front rest start at rule
   -- a character's line with which no table goes on: before a face, or out of order
-  out_of_order : (line : List ℕ) (a : Advance) → 0 < length front → HasLine rest line → IsCharacterLine line a → (Begins (front ++ line ∷ []) → ⊥)
+  out_of_order : (line : List ℕ) (a : Advance) → 0 < length front → HasLine rest line → IsCharacterLine line a
+      → (Begins (front ++ line ∷ []) → ⊥)
       → at ≡ start → rule ≡ 5 → IsFaultBehind front rest start at rule
   -- the end, and no face
   no_face : 0 < length front → rest ≡ [] → ((faces : List Face) → IsTable front faces → ⊥) → at ≡ start → rule ≡ 6
       → IsFaultBehind front rest start at rule
 
--- behind the longest front of lines that begins a table
+-- after the longest front of lines that begins a table
 pub record IsFaultOfLines (text : List ℕ) (at rule : ℕ) : Type 0 where
   pub sound : sound_len text ≡ length text
   pub front : List (List ℕ)

@@ -178,7 +178,7 @@ pub fn read_fonts(alloc: Global, text: &[u8]) -> Result<Fonts, Refusal>
     ensures found { IfOk result (IsMetrics text.now) }
     // What is so spelled is read, unless memory runs out.
     ensures only { (faces : Items OneFace) → IsMetrics text.now faces → Gives (λ fonts. fonts) result (Ok faces) }
-    // A refusal is want of memory or the first fault.
+    // A refusal is out of memory or the first fault.
     ensures first { IfErr result (IsRefusalOf text.now) }
     ensures exact { Gives (λ fonts. fonts) result (reading.all_of text.now) }
 {

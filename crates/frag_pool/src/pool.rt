@@ -35,7 +35,7 @@ pub struct Mark {
     pub trial: u64,
 }
 
-/// Want of memory: the node is handed back.
+/// Out of memory: the node is handed back.
 #[derive(Drop)]
 pub struct NodeBack {
     pub node: Node,
@@ -116,7 +116,7 @@ impl Pool {
         Ok(FragId::Kept(number))
     }
 
-    /// Makes a kept fragment equal, all the way down, to a live one. A kept one is answered as it is. After want of memory no
+    /// Makes a kept fragment equal, all the way down, to a live one. A kept one is answered as it is. When out of memory, no
     /// live node is changed.
     pub fn promote(&mut self, id: FragId) -> Result<FragId, NoMemory>
         requires { IsLive self.old id }

@@ -20,8 +20,14 @@ pub record IsKnownColumn (d : FlowsData) (f : Flow) (i e : ℕ) : Type 0 where
   pub low : Each (λ p. place_of p < 2 ^ 60) (column_places d f i e)
   pub bottoms : sum_by (placed_bottom d) (column_places d f i e) < 2 ^ 60
 
-pub column-known : (d : FlowsData) (n : ℕ) → IsSound d → n < length d.flows → HoldsAtoms (flow_of d n) → (i e : ℕ) → i < e → e ≤ length (flow_of d n).items → IsKnownColumn d (flow_of d n) i e
+pub column-known : (d : FlowsData) (n : ℕ) → IsSound d → n < length d.flows → HoldsAtoms (flow_of d n) → (i e : ℕ) → i < e
+    → e ≤ length (flow_of d n).items → IsKnownColumn d (flow_of d n) i e
 column-known d n sound in_flows atoms i e lt le =
     let k = places-known d sound n i e in_flows lt le in
     let below = k.1 in
-    record { known = k.0; none = column-rowless d (flow_of d n) atoms i e; low = places-low d sound n i e in_flows atoms; bottoms = omega (arith, reach-bound (all_rows d) d n sound in_flows atoms) }
+    record {
+      known = k.0;
+      none = column-rowless d (flow_of d n) atoms i e;
+      low = places-low d sound n i e in_flows atoms;
+      bottoms = omega (arith, reach-bound (all_rows d) d n sound in_flows atoms);
+    }

@@ -1,5 +1,6 @@
 -- The lines of the columns of a row in a stack, where its flow holds atoms alone.
-use Rattle.std.proofs.Common.{◌≡◌, ℕ, zero, suc, ◌+◌, ◌<◌, ◌≤◌, Bool, true, false, cond, List, [], ◌∷◌, ◌++◌, length, map, Option, Some, refl, sym, subst, ap, ◌∙◌, arith}
+use Rattle.std.proofs.Common.{◌≡◌, ℕ, zero, suc, ◌+◌, ◌<◌, ◌≤◌, Bool, true, false, cond, List, [], ◌∷◌, ◌++◌, length, map, Option}
+use Rattle.std.proofs.Common.{Some, refl, sym, subst, ap, ◌∙◌, arith}
 use Rattle.std.proofs.lemmas.Bool.Decides.{nat_tests}
 use Rattle.mc_base.specs.PlainTree.{PlainTree, plain_trees}
 use Rattle.flow_list.specs.Data.{Flow, FlowsData, RowInfo}
@@ -28,7 +29,8 @@ not-end f i h = grind (arith, nat_tests)
 both-same : (xs ys front back : List TreeLine) → xs ≡ front → ys ≡ back → xs ++ ys ≡ front ++ back
 both-same xs ys front back p q = rw (p, q) refl
 
-module _ (columns : RowLaid → List PlainTree) (d : FlowsData) (stacks : ℕ → ℕ → ℕ → ℕ → List TreeLine) (r : RowInfo) (sound : IsSoundFlow d (flow_of d r.flow)) (atoms : HoldsAtoms (flow_of d r.flow))
+module _ (columns : RowLaid → List PlainTree) (d : FlowsData) (stacks : ℕ → ℕ → ℕ → ℕ → List TreeLine) (r : RowInfo)
+    (sound : IsSoundFlow d (flow_of d r.flow)) (atoms : HoldsAtoms (flow_of d r.flow))
     (h : Option ℕ) (depth : ℕ) (frame : Frame) (y height : ℕ) where
   abbrev f : Flow
   f = flow_of d r.flow
@@ -56,11 +58,15 @@ module _ (columns : RowLaid → List PlainTree) (d : FlowsData) (stacks : ℕ �
           let lt = not-end f i k in
           let a = atoms-column d f atoms i lt h in
           let e : item_number (made (i ∷ [])).end ≡ a.e = ap item_number a.end in
-          let rest : Same (index + 1) (made (i ∷ [])).end (columns_by made f n (made (i ∷ [])).end) = subst (λ (t : Token). Same (index + 1) t (columns_by made f n t)) (sym a.end) (again a.e) in
+          let rest : Same (index + 1) (made (i ∷ [])).end (columns_by made f n (made (i ∷ [])).end) =
+          subst (λ (t : Token). Same (index + 1) t (columns_by made f n t)) (sym a.end) (again a.e) in
           both-same _ _ _ _
-          (column-lines columns (all_rows d) d stacks r.flow f sound atoms h i a.e a.end a.later a.limit r depth frame y height index
-          ∙ ap (λ x. column_line depth frame r y height index ∷ flat_lines columns d stacks f (depth + 2) (column_frame frame r y height index x) (column_places d f i a.e)) a.extent
-          ∙ ap (λ j. column_line depth frame r y height index ∷ flat_lines columns d stacks f (depth + 2) (column_frame frame r y height index (column_extent d f i j)) (column_places d f i j)) (sym e)) rest
+          (column-lines columns (all_rows d) d stacks r.flow f sound atoms h i a.e a.end a.later a.limit r depth frame y
+          height index
+          ∙ ap (λ x. column_line depth frame r y height index ∷ flat_lines columns d stacks f (depth + 2)
+          (column_frame frame r y height index x) (column_places d f i a.e)) a.extent
+          ∙ ap (λ j. column_line depth frame r y height index ∷ flat_lines columns d stacks f (depth + 2)
+          (column_frame frame r y height index (column_extent d f i j)) (column_places d f i j)) (sym e)) rest
 
   chain : (n i : ℕ) → ArePlaces f i (end_items (columns_by made f n (i ∷ [])))
   unfolding columns_by
@@ -73,39 +79,58 @@ module _ (columns : RowLaid → List PlainTree) (d : FlowsData) (stacks : ℕ �
       go false k again =
           let lt = not-end f i k in
           let a = atoms-column d f atoms i lt h in
-          subst (λ (t : Token). (i < item_number t) × (item_number t ≤ length f.items) × ArePlaces f (item_number t) (end_items (columns_by made f n t))) (sym a.end) (a.later, a.limit, again a.e)
+          subst (λ (t : Token). (i < item_number t) × (item_number t ≤ length f.items)
+          × ArePlaces f (item_number t) (end_items (columns_by made f n t))) (sym a.end) (a.later, a.limit, again a.e)
 
 -- the lines of the columns of a row that is laid whole, from its start
-pub laid-row-lines : (d : FlowsData) (r : RowLaid) → r.filled ≡ false → r.from ≡ row_start → IsSoundFlow d (flow_in d r.row) → HoldsAtoms (flow_in d r.row) →
+pub laid-row-lines : (d : FlowsData) (r : RowLaid) → r.filled ≡ false → r.from ≡ row_start → IsSoundFlow d (flow_in d r.row)
+    → HoldsAtoms (flow_in d r.row) →
     (stacks : ℕ → ℕ → ℕ → ℕ → List TreeLine) (depth : ℕ) (frame : Frame) (y height : ℕ) →
     lines_of_columns d stacks (row_of d r.row) depth frame y height 0 (plain_trees (row_fragments d (suc (length d.rows)) r))
-    ≡ columns_lines (row_fragments d (length d.rows)) d stacks (row_of d r.row) depth frame y height 0 0 (end_items (row_columns d r.row r.made_at))
+    ≡ columns_lines (row_fragments d (length d.rows)) d stacks (row_of d r.row) depth frame y height 0 0
+    (end_items (row_columns d r.row r.made_at))
 unfolding row_fragments row_columns all_rows
 laid-row-lines d r whole starts sound atoms stacks depth frame y height =
     ap (λ b. lines_with b r.from) whole ∙ ap (lines_with false) starts
-    ∙ lines-from (row_fragments d (length d.rows)) d stacks (row_of d r.row) sound atoms r.made_at depth frame y height (left_in (all_rows d) (flow_in d r.row) row_start) 0 0
+    ∙ lines-from (row_fragments d (length d.rows)) d stacks (row_of d r.row) sound atoms r.made_at depth frame y height
+    (left_in (all_rows d) (flow_in d r.row) row_start) 0 0
   where
     lines_with : Bool → Token → List TreeLine
     lines_with b t =
         let f = flow_in d r.row in
         let made = column_made (all_rows d) d f r.made_at in
-        lines_of_columns d stacks (row_of d r.row) depth frame y height 0 (plain_trees (fragments_from (fragment_of (row_fragments d (length d.rows)) (all_rows d) d (row_of d r.row).flow f r.made_at) t (columns_by made f (cond b (row_of d r.row).n (left_in (all_rows d) f t)) t)))
+        lines_of_columns d stacks (row_of d r.row) depth frame y height 0
+        (plain_trees
+        (fragments_from (fragment_of (row_fragments d (length d.rows)) (all_rows d) d (row_of d r.row).flow f r.made_at) t
+        (columns_by made f (cond b (row_of d r.row).n (left_in (all_rows d) f t)) t)))
 
 -- where they end
-pub laid-row-places : (d : FlowsData) (row : ℕ) (height : Option ℕ) → IsSoundFlow d (flow_in d row) → HoldsAtoms (flow_in d row) → ArePlaces (flow_in d row) 0 (end_items (row_columns d row height))
+pub laid-row-places : (d : FlowsData) (row : ℕ) (height : Option ℕ) → IsSoundFlow d (flow_in d row) → HoldsAtoms (flow_in d row)
+    → ArePlaces (flow_in d row) 0 (end_items (row_columns d row height))
 unfolding row_columns
 laid-row-places d row height sound atoms =
-    chain (row_fragments d (length d.rows)) d (λ n s x y. []) (row_of d row) sound atoms height 0 (record { x = 0; y = 0; w = 0; h = 0; extent = 0; bottoms = 0 }) 0 0 (left_in (all_rows d) (flow_in d row) row_start) 0
+    chain (row_fragments d (length d.rows)) d (λ n s x y. []) (row_of d row) sound atoms height 0
+    (record { x = 0; y = 0; w = 0; h = 0; extent = 0; bottoms = 0 }) 0 0 (left_in (all_rows d) (flow_in d row) row_start) 0
 
 -- a row as it stands in a stack where this much is available
 abbrev pub laid_row : FlowsData → (row : ℕ) → (available : Option ℕ) → (height : ℕ) → RowLaid
 laid_row d row available height =
-    record { row = row; from = row_start; height = height; made_at = cond (row_of d row).auto available (Some (balanced_height available (size_of d row row_start))); filled = false }
+    record {
+      row = row;
+      from = row_start;
+      height = height;
+      made_at = cond (row_of d row).auto available (Some (balanced_height available (size_of d row row_start)));
+      filled = false;
+    }
 
-module _ (d : FlowsData) (row : ℕ) (sound : IsSoundFlow d (flow_in d row)) (atoms : HoldsAtoms (flow_in d row)) (available : Option ℕ) where
+module _ (d : FlowsData) (row : ℕ) (sound : IsSoundFlow d (flow_in d row)) (atoms : HoldsAtoms (flow_in d row))
+    (available : Option ℕ) where
   -- the lines of its columns
   pub row-lines : (own : ℕ) (stacks : ℕ → ℕ → ℕ → ℕ → List TreeLine) (depth : ℕ) (frame : Frame) (y height : ℕ) →
-      lines_of_columns d stacks (row_of d row) depth frame y height 0 (plain_trees (row_fragments d (suc (length d.rows)) (laid_row d row available own)))
-      ≡ columns_lines (row_fragments d (length d.rows)) d stacks (row_of d row) depth frame y height 0 0 (end_items (columns_of_row d row available))
+      lines_of_columns d stacks (row_of d row) depth frame y height 0
+      (plain_trees (row_fragments d (suc (length d.rows)) (laid_row d row available own)))
+      ≡ columns_lines (row_fragments d (length d.rows)) d stacks (row_of d row) depth frame y height 0 0
+      (end_items (columns_of_row d row available))
   unfolding columns_of_row
-  row-lines own stacks depth frame y height = laid-row-lines d (laid_row d row available own) refl refl sound atoms stacks depth frame y height
+  row-lines own stacks depth frame y height = laid-row-lines d (laid_row d row available own) refl refl sound atoms stacks depth
+      frame y height

@@ -1,11 +1,14 @@
 -- A column being placed: what waits in its gap, and what ends that.
-use Rattle.std.proofs.Common.{◌≡◌, ℕ, zero, suc, ◌+◌, ◌<◌, ◌≤◌, max, Bool, true, false, cond, not, List, [], ◌∷◌, ◌++◌, length, map, get_or, take, drop, refl, sym, ◌∙◌, ap, arith, add-one, add-zero, append_assoc, Option}
+use Rattle.std.proofs.Common.{◌≡◌, ℕ, zero, suc, ◌+◌, ◌<◌, ◌≤◌, max, Bool, true, false, cond, not, List, [], ◌∷◌, ◌++◌, length}
+use Rattle.std.proofs.Common.{map, get_or, take, drop, refl, sym, ◌∙◌, ap, arith, add-one, add-zero, append_assoc, Option}
 use Rattle.std.proofs.lemmas.List.{append-nil, drop_more, take_more, map-append}
 use Rattle.std.specs.Prelude.{◌==◌}
 use Rattle.std.proofs.lemmas.Bool.Decides.{nat_tests}
 use Rattle.flow_data.specs.declared.data.Edge.TheVariants as E
 use Rattle.flow_list.specs.Strip.{Strip, put, lay}
-use Rattle.flow_list.specs.Placing.{Laid, margin, solid, wall, opens, closes, atom, ends_gap, gap_of, behind_gap, greatest_margin, laid_edge, Placed as AnyPlaced, atom_at, row_at, placed_in_gap, gap_places, placed_item, laid_height, gap_height, places_from, row}
+use Rattle.flow_list.specs.Placing.{Laid, margin, solid, wall, opens, closes, atom, ends_gap, gap_of, behind_gap, greatest_margin}
+use Rattle.flow_list.specs.Placing.{laid_edge, Placed as AnyPlaced, atom_at, row_at, placed_in_gap, gap_places, placed_item}
+use Rattle.flow_list.specs.Placing.{laid_height, gap_height, places_from, row}
 use Rattle.frag_printer.specs.declared.placing.Placing.{Placing}
 use Rattle.frag_printer.specs.declared.placing.Waiting.{Waiting}
 use Rattle.frag_printer.specs.declared.placing.Waiting.TheVariants.{Margin, Opens, Closes, Atom, Row}
@@ -14,13 +17,19 @@ use Rattle.frag_printer.specs.Placing.{laid_as, standing, waiting, with_more, st
 -- one more of a gap
 pub gap-more : (y end i : ℕ) (gap : List Waiting) (w : Waiting) → i < length gap →
     gap_places y end (map laid_as (take i gap)) (map laid_as (drop i gap))
-    ≡ placed_in_gap y end (map laid_as (take i gap)) (laid_as (get_or gap i w)) ++ gap_places y end (map laid_as (take (i + 1) gap)) (map laid_as (drop (i + 1) gap))
-gap-more y end i gap w lt = rw (drop_more gap i w lt, take_more gap i w lt, map-append laid_as (take i gap) (get_or gap i w ∷ [])) refl
+    ≡ placed_in_gap y end (map laid_as (take i gap)) (laid_as (get_or gap i w)) ++ gap_places y end
+    (map laid_as (take (i + 1) gap)) (map laid_as (drop (i + 1) gap))
+gap-more y end i gap w lt = rw (
+  drop_more gap i w lt,
+  take_more gap i w lt,
+  map-append laid_as (take i gap) (get_or gap i w ∷ []),
+) refl
 
-pub taken-more : (i : ℕ) (gap : List Waiting) (w : Waiting) → i < length gap → map laid_as (take (i + 1) gap) ≡ map laid_as (take i gap) ++ laid_as (get_or gap i w) ∷ []
+pub taken-more : (i : ℕ) (gap : List Waiting) (w : Waiting) → i < length gap
+    → map laid_as (take (i + 1) gap) ≡ map laid_as (take i gap) ++ laid_as (get_or gap i w) ∷ []
 taken-more i gap w lt = ap (map laid_as) (take_more gap i w lt) ∙ map-append laid_as (take i gap) (get_or gap i w ∷ [])
 
--- ---- what stands behind a gap doesn't depend on the count of gaps
+-- ---- what stands after a gap doesn't depend on the count of gaps
 
 behind-short : (xs : List Laid) → length (behind_gap xs) ≤ length xs
 behind-short [] = omega arith
@@ -40,16 +49,19 @@ places-shape : (n y : ℕ) (xs : List Laid) → places_from (suc n) y xs ≡ sha
 unfolding places_from
 places-shape n y xs = refl
 
-same-shape : (p q : ℕ → List Laid → List AnyPlaced) (y : ℕ) (gap rest : List Laid) → ((z : ℕ) (xs : List Laid) → length xs < length rest → p z xs ≡ q z xs) → shape p y gap rest ≡ shape q y gap rest
+same-shape : (p q : ℕ → List Laid → List AnyPlaced) (y : ℕ) (gap rest : List Laid)
+    → ((z : ℕ) (xs : List Laid) → length xs < length rest → p z xs ≡ q z xs) → shape p y gap rest ≡ shape q y gap rest
 same-shape p q y gap [] same = refl
-same-shape p q y gap (x ∷ xs) same = let end : ℕ = y + gap_height gap (x ∷ xs) in ap (λ ps. gap_places y end [] gap ++ (placed_item end x ++ ps)) (same (end + laid_height x) xs (omega arith))
+same-shape p q y gap (x ∷ xs) same = let end : ℕ = y + gap_height gap (x ∷ xs)
+    in ap (λ ps. gap_places y end [] gap ++ (placed_item end x ++ ps)) (same (end + laid_height x) xs (omega arith))
 
 pub places-fuel : (n m y : ℕ) (xs : List Laid) → length xs < n → length xs < m → places_from n y xs ≡ places_from m y xs
 places-fuel zero m y xs a b = absurd (omega arith)
 places-fuel (suc n) zero y xs a b = absurd (omega arith)
 places-fuel (suc n) (suc m) y xs a b =
     let short = behind-short xs in
-    places-shape n y xs ∙ same-shape (places_from n) (places_from m) y (gap_of xs) (behind_gap xs) (λ z ys lt. places-fuel n m z ys (omega arith) (omega arith)) ∙ sym (places-shape m y xs)
+    places-shape n y xs ∙ same-shape (places_from n) (places_from m) y (gap_of xs) (behind_gap xs)
+    (λ z ys lt. places-fuel n m z ys (omega arith) (omega arith)) ∙ sym (places-shape m y xs)
 
 -- ---- what waits in a gap is part of it
 
@@ -72,17 +84,22 @@ behind-waits (Row r made ∷ ws) xs = behind-waits ws xs
 -- ---- the end of a gap
 
 places-end : (n y : ℕ) (ws : List Waiting) (x : Laid) (xs : List Laid) → ends_gap x ≡ true →
-    places_from (suc n) y (map laid_as ws ++ x ∷ xs) ≡ gap_places y (y + greatest_margin (map laid_as ws)) [] (map laid_as ws) ++ (placed_item (y + greatest_margin (map laid_as ws)) x ++ places_from n (y + greatest_margin (map laid_as ws) + laid_height x) xs)
+    places_from (suc n) y (map laid_as ws ++ x ∷ xs) ≡ gap_places y (y + greatest_margin (map laid_as ws)) [] (map laid_as ws)
+    ++ (placed_item (y + greatest_margin (map laid_as ws)) x ++ places_from n
+    (y + greatest_margin (map laid_as ws) + laid_height x) xs)
 places-end n y ws x xs ends =
     let behind : behind_gap (map laid_as ws ++ x ∷ xs) ≡ x ∷ xs = behind-waits ws (x ∷ xs) ∙ rw ends refl in
-    let gap : gap_of (map laid_as ws ++ x ∷ xs) ≡ map laid_as ws = gap-waits ws (x ∷ xs) ∙ rw ends (append-nil (map laid_as ws)) in
-    places-shape n y (map laid_as ws ++ x ∷ xs) ∙ ap (λ g. shape (places_from n) y g (behind_gap (map laid_as ws ++ x ∷ xs))) gap ∙ ap (λ r. shape (places_from n) y (map laid_as ws) r) behind
+    let gap : gap_of (map laid_as ws ++ x ∷ xs) ≡ map laid_as ws = gap-waits ws (x ∷ xs)
+    ∙ rw ends (append-nil (map laid_as ws)) in
+    places-shape n y (map laid_as ws ++ x ∷ xs) ∙ ap (λ g. shape (places_from n) y g (behind_gap (map laid_as ws ++ x ∷ xs))) gap
+    ∙ ap (λ r. shape (places_from n) y (map laid_as ws) r) behind
 
 places-last : (n y : ℕ) (ws : List Waiting) → places_from (suc n) y (map laid_as ws ++ []) ≡ gap_places y y [] (map laid_as ws)
 places-last n y ws =
     let behind : behind_gap (map laid_as ws ++ []) ≡ [] = behind-waits ws [] in
     let gap : gap_of (map laid_as ws ++ []) ≡ map laid_as ws = gap-waits ws [] ∙ append-nil (map laid_as ws) in
-    places-shape n y (map laid_as ws ++ []) ∙ ap (λ g. shape (places_from n) y g (behind_gap (map laid_as ws ++ []))) gap ∙ ap (λ r. shape (places_from n) y (map laid_as ws) r) behind
+    places-shape n y (map laid_as ws ++ []) ∙ ap (λ g. shape (places_from n) y g (behind_gap (map laid_as ws ++ []))) gap
+    ∙ ap (λ r. shape (places_from n) y (map laid_as ws) r) behind
     ∙ append-nil _ ∙ ap (λ e. gap_places y e [] (map laid_as ws)) (add-zero y)
 
 length-end : (ws : List Laid) (x : Laid) (xs : List Laid) → length xs < length (ws ++ x ∷ xs)
@@ -91,26 +108,33 @@ length-end (w ∷ ws) x xs = let h = length-end ws x xs in omega arith
 
 -- something that ends the gap
 pub ends-more : (old new : Placing) (x : Laid) → ends_gap x ≡ true → HasMargin old →
-    standing new ≡ (standing old ++ gap_places old.y (old.y + old.margin) [] (waiting old)) ++ placed_item (old.y + old.margin) x → waiting new ≡ [] → new.y ≡ old.y + old.margin + laid_height x →
+    standing new ≡ (standing old ++ gap_places old.y (old.y + old.margin) [] (waiting old)) ++ placed_item (old.y + old.margin) x
+    → waiting new ≡ [] → new.y ≡ old.y + old.margin + laid_height x →
     (more : List Laid) → with_more old (x ∷ more) ≡ with_more new more
 ends-more old new x ends margins stands none down more =
     let n : ℕ = length (waiting old ++ x ∷ more) in
-    let one : places_from (n + 1) old.y (waiting old ++ x ∷ more) ≡ places_from (suc n) old.y (waiting old ++ x ∷ more) = ap (λ k. places_from k old.y (waiting old ++ x ∷ more)) (add-one n) in
+    let one : places_from (n + 1) old.y (waiting old ++ x ∷ more) ≡ places_from (suc n) old.y (waiting old ++ x ∷ more) =
+    ap (λ k. places_from k old.y (waiting old ++ x ∷ more)) (add-one n) in
     let two = places-end n old.y old.gap.items x more ends in
-    let three = places-fuel n (length more + 1) (old.y + greatest_margin (waiting old) + laid_height x) more (length-end (waiting old) x more) (omega arith) in
+    let three = places-fuel n (length more + 1) (old.y + greatest_margin (waiting old) + laid_height x) more
+    (length-end (waiting old) x more) (omega arith) in
     let end : ℕ = old.y + greatest_margin (waiting old) in
-    ap (λ ps. standing old ++ ps) (one ∙ two) ∙ ap (λ ps. standing old ++ (gap_places old.y end [] (waiting old) ++ (placed_item end x ++ ps))) three
+    ap (λ ps. standing old ++ ps) (one ∙ two)
+    ∙ ap (λ ps. standing old ++ (gap_places old.y end [] (waiting old) ++ (placed_item end x ++ ps))) three
     ∙ rw (stands, none, down, margins) (simp append_assoc)
 
 -- something that waits
-pub waits-more : (old new : Placing) (w : Waiting) → standing new ≡ standing old → waiting new ≡ waiting old ++ laid_as w ∷ [] → new.y ≡ old.y → (more : List Laid) → with_more old (laid_as w ∷ more) ≡ with_more new more
+pub waits-more : (old new : Placing) (w : Waiting) → standing new ≡ standing old → waiting new ≡ waiting old ++ laid_as w ∷ []
+    → new.y ≡ old.y → (more : List Laid) → with_more old (laid_as w ∷ more) ≡ with_more new more
 waits-more old new w stands more_waits same more = rw (stands, more_waits, same, append_assoc) refl
 
 -- what is placed where nothing follows
 pub places-all : (p : Placing) → with_more p [] ≡ standing p ++ gap_places p.y p.y [] (waiting p)
-places-all p = ap (λ ps. standing p ++ ps) (ap (λ k. places_from k p.y (waiting p ++ [])) (add-one (length (waiting p ++ []))) ∙ places-last (length (waiting p ++ [])) p.y p.gap.items)
+places-all p = ap (λ ps. standing p ++ ps) (ap (λ k. places_from k p.y (waiting p ++ [])) (add-one (length (waiting p ++ [])))
+    ∙ places-last (length (waiting p ++ [])) p.y p.gap.items)
 
-pub greatest-more : (ws : List Waiting) (w : Waiting) → greatest_margin (map laid_as ws ++ laid_as w ∷ []) ≡ max (greatest_margin (map laid_as ws)) (margin_of w)
+pub greatest-more : (ws : List Waiting) (w : Waiting)
+    → greatest_margin (map laid_as ws ++ laid_as w ∷ []) ≡ max (greatest_margin (map laid_as ws)) (margin_of w)
 greatest-more (Margin m ∷ ws) w = let h = greatest-more ws w in omega arith
 greatest-more (Opens b ∷ ws) w = greatest-more ws w
 greatest-more (Closes b ∷ ws) w = greatest-more ws w
@@ -134,7 +158,8 @@ greatest-part (suc i) (Row r made ∷ ws) = greatest-part i ws
 
 -- ---- what leads on
 
-leads-wait : (old new : Placing) (w : Waiting) (s : Strip) → HasMargin old → standing new ≡ standing old → waiting new ≡ waiting old ++ laid_as w ∷ [] → new.y ≡ old.y → new.margin ≡ max old.margin (margin_of w) → strip_of new ≡ s →
+leads-wait : (old new : Placing) (w : Waiting) (s : Strip) → HasMargin old → standing new ≡ standing old
+    → waiting new ≡ waiting old ++ laid_as w ∷ [] → new.y ≡ old.y → new.margin ≡ max old.margin (margin_of w) → strip_of new ≡ s →
     Leads old (laid_as w ∷ []) s new
 leads-wait old new w s has stands waits y margins is = record {
   strip = is;
@@ -142,7 +167,9 @@ leads-wait old new w s has stands waits y margins is = record {
   places = waits-more old new w stands waits y;
 }
 
-leads-end : (old new : Placing) (x : Laid) (s : Strip) → ends_gap x ≡ true → HasMargin old → standing new ≡ (standing old ++ gap_places old.y (old.y + old.margin) [] (waiting old)) ++ placed_item (old.y + old.margin) x → waiting new ≡ [] →
+leads-end : (old new : Placing) (x : Laid) (s : Strip) → ends_gap x ≡ true → HasMargin old
+    → standing new ≡ (standing old ++ gap_places old.y (old.y + old.margin) [] (waiting old)) ++ placed_item (old.y + old.margin)
+    x → waiting new ≡ [] →
     new.y ≡ old.y + old.margin + laid_height x → new.margin ≡ 0 → strip_of new ≡ s → Leads old (x ∷ []) s new
 leads-end old new x s ends has stands none y margins is = record {
   strip = is;
@@ -156,53 +183,83 @@ strip y pending drops = record { y = y; pending = pending; drops = drops }
 pub leads-same : (old new : Placing) (xs ys : List Laid) (s t : Strip) → xs ≡ ys → s ≡ t → Leads old ys t new → Leads old xs s new
 leads-same old new xs ys s t e h l = rw (e, h) l
 
-pub leads-margin : (old new : Placing) (m : ℕ) → HasMargin old → old.drops ≡ false → standing new ≡ standing old → waiting new ≡ waiting old ++ margin m ∷ [] → new.y ≡ old.y → new.margin ≡ max old.margin m → new.drops ≡ old.drops →
+pub leads-margin : (old new : Placing) (m : ℕ) → HasMargin old → old.drops ≡ false → standing new ≡ standing old
+    → waiting new ≡ waiting old ++ margin m ∷ [] → new.y ≡ old.y → new.margin ≡ max old.margin m → new.drops ≡ old.drops →
     Leads old (laid_edge (strip_of old) (E.Margin m)) (lay (strip_of old) (E.Margin m)) new
 leads-margin old new m has keeps stands waits y margins drops =
-    leads-same old new _ _ _ _ (ap (λ b. cond b [] (margin m ∷ [])) keeps) (ap (λ b. strip old.y (cond b old.margin (max old.margin m)) b) keeps)
-    (leads-wait old new (Margin m) (strip old.y (max old.margin m) false) has stands waits y margins (rw (y, margins, drops) (ap (λ b. strip old.y (max old.margin m) b) keeps)))
+    leads-same old new _ _ _ _ (ap (λ b. cond b [] (margin m ∷ [])) keeps)
+    (ap (λ b. strip old.y (cond b old.margin (max old.margin m)) b) keeps)
+    (leads-wait old new (Margin m) (strip old.y (max old.margin m) false) has stands waits y margins
+    (rw (y, margins, drops) (ap (λ b. strip old.y (max old.margin m) b) keeps)))
 
-pub leads-opens : (old new : Placing) (b : ℕ) → HasMargin old → standing new ≡ standing old → waiting new ≡ waiting old ++ opens b ∷ [] → new.y ≡ old.y → new.margin ≡ old.margin → new.drops ≡ old.drops → Leads old (opens b ∷ []) (strip_of old) new
-leads-opens old new b has stands waits y margins drops = leads-wait old new (Opens b) (strip_of old) has stands waits y (omega arith) (rw (y, margins, drops) refl)
+pub leads-opens : (old new : Placing) (b : ℕ) → HasMargin old → standing new ≡ standing old
+    → waiting new ≡ waiting old ++ opens b ∷ [] → new.y ≡ old.y → new.margin ≡ old.margin → new.drops ≡ old.drops
+    → Leads old (opens b ∷ []) (strip_of old) new
+leads-opens old new b has stands waits y margins drops =
+    leads-wait old new (Opens b) (strip_of old) has stands waits y (omega arith) (rw (y, margins, drops) refl)
 
-pub leads-closes : (old new : Placing) (b : ℕ) → HasMargin old → standing new ≡ standing old → waiting new ≡ waiting old ++ closes b ∷ [] → new.y ≡ old.y → new.margin ≡ old.margin → new.drops ≡ old.drops → Leads old (closes b ∷ []) (strip_of old) new
-leads-closes old new b has stands waits y margins drops = leads-wait old new (Closes b) (strip_of old) has stands waits y (omega arith) (rw (y, margins, drops) refl)
+pub leads-closes : (old new : Placing) (b : ℕ) → HasMargin old → standing new ≡ standing old
+    → waiting new ≡ waiting old ++ closes b ∷ [] → new.y ≡ old.y → new.margin ≡ old.margin → new.drops ≡ old.drops
+    → Leads old (closes b ∷ []) (strip_of old) new
+leads-closes old new b has stands waits y margins drops =
+    leads-wait old new (Closes b) (strip_of old) has stands waits y (omega arith) (rw (y, margins, drops) refl)
 
 some-height : (height : ℕ) → (height ≡ 0 → ⊥) → (height == 0) ≡ false
 some-height height some = grind (arith, nat_tests)
 
 -- an atom of height 0 waits too
-pub leads-flat : (old new : Placing) (k height : ℕ) → HasMargin old → height ≡ 0 → standing new ≡ standing old → waiting new ≡ waiting old ++ atom k 0 ∷ [] → new.y ≡ old.y → new.margin ≡ old.margin → new.drops ≡ old.drops → Leads old (atom k height ∷ []) (put (strip_of old) height) new
-leads-flat old new k height has flat stands waits y margins drops = rw flat (leads-wait old new (Atom k) (strip_of old) has stands waits y (omega arith) (rw (y, margins, drops) refl))
+pub leads-flat : (old new : Placing) (k height : ℕ) → HasMargin old → height ≡ 0 → standing new ≡ standing old
+    → waiting new ≡ waiting old ++ atom k 0 ∷ [] → new.y ≡ old.y → new.margin ≡ old.margin → new.drops ≡ old.drops
+    → Leads old (atom k height ∷ []) (put (strip_of old) height) new
+leads-flat old new k height has flat stands waits y margins drops =
+    rw flat (leads-wait old new (Atom k) (strip_of old) has stands waits y (omega arith) (rw (y, margins, drops) refl))
 
 -- and so does a row
-pub leads-flat-row : (old new : Placing) (r height : ℕ) (made : Option ℕ) → HasMargin old → height ≡ 0 → standing new ≡ standing old → waiting new ≡ waiting old ++ row (row_stands r 0 made) ∷ [] → new.y ≡ old.y → new.margin ≡ old.margin → new.drops ≡ old.drops →
+pub leads-flat-row : (old new : Placing) (r height : ℕ) (made : Option ℕ) → HasMargin old → height ≡ 0
+    → standing new ≡ standing old → waiting new ≡ waiting old ++ row (row_stands r 0 made) ∷ [] → new.y ≡ old.y
+    → new.margin ≡ old.margin → new.drops ≡ old.drops →
     Leads old (row (row_stands r height made) ∷ []) (put (strip_of old) height) new
-leads-flat-row old new r height made has flat stands waits y margins drops = rw flat (leads-wait old new (Row r made) (strip_of old) has stands waits y (omega arith) (rw (y, margins, drops) refl))
+leads-flat-row old new r height made has flat stands waits y margins drops =
+    rw flat (leads-wait old new (Row r made) (strip_of old) has stands waits y (omega arith) (rw (y, margins, drops) refl))
 
-pub leads-row : (old new : Placing) (r height : ℕ) (made : Option ℕ) → HasMargin old → (height ≡ 0 → ⊥) → standing new ≡ (standing old ++ gap_places old.y (old.y + old.margin) [] (waiting old)) ++ row_at (row_stands r height made) (old.y + old.margin) ∷ [] → waiting new ≡ [] →
-    new.y ≡ old.y + old.margin + height → new.margin ≡ 0 → new.drops ≡ false → Leads old (row (row_stands r height made) ∷ []) (put (strip_of old) height) new
+pub leads-row : (old new : Placing) (r height : ℕ) (made : Option ℕ) → HasMargin old → (height ≡ 0 → ⊥)
+    → standing new ≡ (standing old ++ gap_places old.y (old.y + old.margin) [] (waiting old)) ++ row_at (row_stands r height made)
+    (old.y + old.margin) ∷ [] → waiting new ≡ [] →
+    new.y ≡ old.y + old.margin + height → new.margin ≡ 0 → new.drops ≡ false
+    → Leads old (row (row_stands r height made) ∷ []) (put (strip_of old) height) new
 leads-row old new r height made has some stands none y margins drops =
     let e = some-height height some in
-    rw e (leads-end old new (row (row_stands r height made)) (record { y = old.y + old.margin + height; pending = 0; drops = false }) (ap not e) has stands none y margins (rw (y, margins, drops) refl))
+    rw e (leads-end old new (row (row_stands r height made))
+    (record { y = old.y + old.margin + height; pending = 0; drops = false }) (ap not e) has stands none y margins
+    (rw (y, margins, drops) refl))
 
-pub leads-solid : (old new : Placing) (a : ℕ) → HasMargin old → (a ≡ 0 → ⊥) → standing new ≡ standing old ++ gap_places old.y (old.y + old.margin) [] (waiting old) → waiting new ≡ [] → new.y ≡ old.y + old.margin + a → new.margin ≡ 0 → new.drops ≡ false →
+pub leads-solid : (old new : Placing) (a : ℕ) → HasMargin old → (a ≡ 0 → ⊥)
+    → standing new ≡ standing old ++ gap_places old.y (old.y + old.margin) [] (waiting old) → waiting new ≡ []
+    → new.y ≡ old.y + old.margin + a → new.margin ≡ 0 → new.drops ≡ false →
     Leads old (laid_edge (strip_of old) (E.Solid a)) (lay (strip_of old) (E.Solid a)) new
 leads-solid old new a has some stands none y margins drops =
     let e = some-height a some in
-    rw e (leads-end old new (solid a) (record { y = old.y + old.margin + a; pending = 0; drops = false }) refl has (stands ∙ sym (append-nil _)) none y margins (rw (y, margins, drops) refl))
+    rw e (leads-end old new (solid a) (record { y = old.y + old.margin + a; pending = 0; drops = false }) refl has
+    (stands ∙ sym (append-nil _)) none y margins (rw (y, margins, drops) refl))
 
-pub leads-wall : (old new : Placing) → HasMargin old → standing new ≡ standing old ++ gap_places old.y (old.y + old.margin) [] (waiting old) → waiting new ≡ [] → new.y ≡ old.y + old.margin + 0 → new.margin ≡ 0 → new.drops ≡ false →
+pub leads-wall : (old new : Placing) → HasMargin old
+    → standing new ≡ standing old ++ gap_places old.y (old.y + old.margin) [] (waiting old) → waiting new ≡ []
+    → new.y ≡ old.y + old.margin + 0 → new.margin ≡ 0 → new.drops ≡ false →
     Leads old (wall ∷ []) (record { y = old.y + old.margin; pending = 0; drops = false }) new
 leads-wall old new has stands none y margins drops =
     let y' : new.y ≡ old.y + old.margin = omega arith in
-    leads-end old new wall (record { y = old.y + old.margin; pending = 0; drops = false }) refl has (stands ∙ sym (append-nil _)) none y margins (rw (y', margins, drops) refl)
+    leads-end old new wall (record { y = old.y + old.margin; pending = 0; drops = false }) refl has (stands ∙ sym (append-nil _))
+    none y margins (rw (y', margins, drops) refl)
 
-pub leads-atom : (old new : Placing) (k height : ℕ) → HasMargin old → (height ≡ 0 → ⊥) → standing new ≡ (standing old ++ gap_places old.y (old.y + old.margin) [] (waiting old)) ++ atom_at k (old.y + old.margin) ∷ [] → waiting new ≡ [] →
-    new.y ≡ old.y + old.margin + height → new.margin ≡ 0 → new.drops ≡ false → Leads old (atom k height ∷ []) (put (strip_of old) height) new
+pub leads-atom : (old new : Placing) (k height : ℕ) → HasMargin old → (height ≡ 0 → ⊥)
+    → standing new ≡ (standing old ++ gap_places old.y (old.y + old.margin) [] (waiting old)) ++ atom_at k (old.y + old.margin)
+    ∷ [] → waiting new ≡ [] →
+    new.y ≡ old.y + old.margin + height → new.margin ≡ 0 → new.drops ≡ false
+    → Leads old (atom k height ∷ []) (put (strip_of old) height) new
 leads-atom old new k height has some stands none y margins drops =
     let e = some-height height some in
-    rw e (leads-end old new (atom k height) (record { y = old.y + old.margin + height; pending = 0; drops = false }) (ap not e) has stands none y margins (rw (y, margins, drops) refl))
+    rw e (leads-end old new (atom k height) (record { y = old.y + old.margin + height; pending = 0; drops = false }) (ap not e)
+    has stands none y margins (rw (y, margins, drops) refl))
 
 -- one after another
 pub leads-both : (a b c : Placing) (xs ys : List Laid) (s t : Strip) → Leads a xs s b → Leads b ys t c → Leads a (xs ++ ys) t c

@@ -1,18 +1,23 @@
--- What is placed in a column names boxes and items that there are, and its boxes have no more below again than all boxes of the flow have.
-use Rattle.std.proofs.Common.{◌≡◌, ℕ, zero, suc, ◌+◌, ◌-◌, ◌<◌, ◌≤◌, ◌==◌, ◌||◌, Bool, true, false, cond, not, List, [], ◌∷◌, ◌++◌, length, take, drop, refl, ap, arith, sum_by, add-one, subst}
+-- What is placed in a column names boxes and items that there are, and its boxes have no more below again than all boxes of the
+-- flow have.
+use Rattle.std.proofs.Common.{◌≡◌, ℕ, zero, suc, ◌+◌, ◌-◌, ◌<◌, ◌≤◌, ◌==◌, ◌||◌, Bool, true, false, cond, not, List, [], ◌∷◌}
+use Rattle.std.proofs.Common.{◌++◌, length, take, drop, refl, ap, arith, sum_by, add-one, subst}
 use Rattle.std.specs.Prelude.{All}
 use Rattle.std.specs.List.{AllByRecursion as Each, flat_map}
 use Rattle.std.proofs.lemmas.List.{drop_more}
 use Rattle.std.proofs.lemmas.List.Sums.{sum_by-cons, sum_by-append, sum_by-le-sum_by}
 use Rattle.flow_list.specs.Data.{Edge, Flow, FlowsData, Item, Seam, Margin, Solid, Wall, Start, End, Atom, Row}
-use Rattle.flow_data.specs.Flows.{box_of, flow_of, item_of, seam_of, no_flow, no_seam, started, ended, starts_in, ends_in, is_among, boxes_in, open_at}
+use Rattle.flow_data.specs.Flows.{box_of, flow_of, item_of, seam_of, no_flow, no_seam, started, ended, starts_in, ends_in}
+use Rattle.flow_data.specs.Flows.{is_among, boxes_in, open_at}
 use Rattle.flow_list.specs.ClonedEdges.{open_across, bottoms, tops}
 use Rattle.flow_list.specs.Tokens.{Token, row_start}
 use Rattle.flow_list.specs.Strip.{Strip, strip_at, put, lay, lay_all}
 use Rattle.flow_list.specs.Column.{Inner, height_of, is_forced, start_strip, strip_behind}
 use Rattle.flow_list.specs.Rows.{all_rows}
 use Rattle.flow_data.specs.Soundness.{IsSound, IsSoundFlow}
-use Rattle.flow_list.specs.Placing.{RowLaid, Laid, margin, solid, wall, opens, closes, atom, row, laid_edge, laid_edges, ends_gap, gap_of, behind_gap, gap_height, Placed, opens_at, closes_at, atom_at, row_at, placed_in_gap, gap_places, placed_item, laid_height, places_from}
+use Rattle.flow_list.specs.Placing.{RowLaid, Laid, margin, solid, wall, opens, closes, atom, row, laid_edge, laid_edges, ends_gap}
+use Rattle.flow_list.specs.Placing.{gap_of, behind_gap, gap_height, Placed, opens_at, closes_at, atom_at, row_at, placed_in_gap}
+use Rattle.flow_list.specs.Placing.{gap_places, placed_item, laid_height, places_from}
 use Rattle.flow_list.specs.Fragments.{laid_item, laid_items, laid_start, continued_from}
 use Rattle.flow_data.proofs.BoxSums.{filter-le}
 use Rattle.flow_list.proofs.OpenAcross.{across-known}
@@ -72,16 +77,20 @@ module _ (d : FlowsData) (f : Flow) (So : RowLaid → Type 0) (weight : ℕ → 
   in-gap y end before (margin m) h = keeps-none 0
   in-gap y end before (solid m) h = keeps-none 0
   in-gap y end before wall h = keeps-none 0
-  in-gap y end before (opens b) h = record { each = (h, tt); le = omega (arith, sum_by-cons (placed_weight) (opens_at b end true) []) }
+  in-gap y end before (opens b) h =
+      record { each = (h, tt); le = omega (arith, sum_by-cons (placed_weight) (opens_at b end true) []) }
   in-gap y end before (closes b) h = record { each = (h, tt); le = omega arith }
   in-gap y end before (atom k height) h = record { each = (h, tt); le = omega arith }
   in-gap y end before (row r) h = record { each = (h, tt); le = omega arith }
 
-  in-gaps : (y end : ℕ) (before gap : List Laid) → Each IsLaidIn gap → Keeps (sum_by laid_weight gap) (gap_places y end before gap)
+  in-gaps : (y end : ℕ) (before gap : List Laid) → Each IsLaidIn gap
+      → Keeps (sum_by laid_weight gap) (gap_places y end before gap)
   in-gaps y end before [] all = keeps-none 0
   in-gaps y end before (x ∷ xs) all =
       let s = sum_by-cons laid_weight x xs in
-      keeps-both (laid_weight x) (sum_by laid_weight xs) (sum_by laid_weight (x ∷ xs)) (placed_in_gap y end before x) (gap_places y end (before ++ x ∷ []) xs) (in-gap y end before x all.0) (in-gaps y end (before ++ x ∷ []) xs all.1) (omega arith)
+      keeps-both (laid_weight x) (sum_by laid_weight xs) (sum_by laid_weight (x ∷ xs)) (placed_in_gap y end before x)
+      (gap_places y end (before ++ x ∷ []) xs) (in-gap y end before x all.0) (in-gaps y end (before ++ x ∷ []) xs all.1)
+      (omega arith)
 
   in-item : (y : ℕ) (x : Laid) → IsLaidIn x → Keeps (laid_weight x) (placed_item y x)
   in-item y (margin m) h = keeps-none 0
@@ -102,9 +111,15 @@ module _ (d : FlowsData) (f : Flow) (So : RowLaid → Type 0) (weight : ℕ → 
   split [] all = record { gap_in = tt; rest_in = tt; sums = refl }
   split (x ∷ xs) all = go (ends_gap x) (split xs all.1)
     where
-      go : (b : Bool) → Splits (gap_of xs) (behind_gap xs) xs → Splits (cond b [] (x ∷ gap_of xs)) (cond b (x ∷ xs) (behind_gap xs)) (x ∷ xs)
+      go : (b : Bool) → Splits (gap_of xs) (behind_gap xs) xs
+          → Splits (cond b [] (x ∷ gap_of xs)) (cond b (x ∷ xs) (behind_gap xs)) (x ∷ xs)
       go true s = record { gap_in = tt; rest_in = all; sums = omega arith }
-      go false s = record { gap_in = (all.0, s.gap_in); rest_in = s.rest_in; sums = let e = s.sums in omega (arith, sum_by-cons laid_weight x (gap_of xs), sum_by-cons laid_weight x xs) }
+      go false s = record {
+        gap_in = (all.0, s.gap_in);
+        rest_in = s.rest_in;
+        sums = let e = s.sums
+            in omega (arith, sum_by-cons laid_weight x (gap_of xs), sum_by-cons laid_weight x xs);
+      }
 
   places-keep : (n y : ℕ) (xs : List Laid) → Each IsLaidIn xs → Keeps (sum_by laid_weight xs) (places_from n y xs)
   unfolding places_from
@@ -112,17 +127,25 @@ module _ (d : FlowsData) (f : Flow) (So : RowLaid → Type 0) (weight : ℕ → 
   places-keep (suc n) y xs all =
       let s = split xs all in
       let sums = s.sums in
-      keeps-both (sum_by laid_weight (gap_of xs)) (sum_by laid_weight (behind_gap xs)) (sum_by laid_weight xs) (gap_places y (y + gap_height (gap_of xs) (behind_gap xs)) [] (gap_of xs)) _
-      (in-gaps y (y + gap_height (gap_of xs) (behind_gap xs)) [] (gap_of xs) s.gap_in) (rest (behind_gap xs) s.rest_in (y + gap_height (gap_of xs) (behind_gap xs)) (λ z ys each. places-keep n z ys each)) (omega arith)
+      keeps-both (sum_by laid_weight (gap_of xs)) (sum_by laid_weight (behind_gap xs)) (sum_by laid_weight xs)
+      (gap_places y (y + gap_height (gap_of xs) (behind_gap xs)) [] (gap_of xs)) _
+      (in-gaps y (y + gap_height (gap_of xs) (behind_gap xs)) [] (gap_of xs) s.gap_in)
+      (rest (behind_gap xs) s.rest_in (y + gap_height (gap_of xs) (behind_gap xs)) (λ z ys each. places-keep n z ys each))
+      (omega arith)
     where
-      rest : (later : List Laid) → Each IsLaidIn later → (end : ℕ) → ((z : ℕ) (ys : List Laid) → Each IsLaidIn ys → Keeps (sum_by laid_weight ys) (places_from n z ys)) →
-          Keeps (sum_by laid_weight later) (elim later [ [] ↦ [] | x ∷ more ↦ placed_item end x ++ places_from n (end + laid_height x) more ])
+      rest : (later : List Laid) → Each IsLaidIn later → (end : ℕ)
+          → ((z : ℕ) (ys : List Laid) → Each IsLaidIn ys → Keeps (sum_by laid_weight ys) (places_from n z ys)) →
+          Keeps (sum_by laid_weight later)
+          (elim later [ [] ↦ [] | x ∷ more ↦ placed_item end x ++ places_from n (end + laid_height x) more ])
       rest [] each end again = keeps-none 0
       rest (x ∷ more) each end again =
           let s = sum_by-cons laid_weight x more in
-          keeps-both (laid_weight x) (sum_by laid_weight more) (sum_by laid_weight (x ∷ more)) (placed_item end x) (places_from n (end + laid_height x) more) (in-item end x each.0) (again (end + laid_height x) more each.1) (omega arith)
+          keeps-both (laid_weight x) (sum_by laid_weight more) (sum_by laid_weight (x ∷ more)) (placed_item end x)
+          (places_from n (end + laid_height x) more) (in-item end x each.0) (again (end + laid_height x) more each.1)
+          (omega arith)
 
-  continued-keep : (y : ℕ) (boxes : List ℕ) → All (λ b. b < length d.boxes) boxes → Keeps (sum_by weight boxes) (continued_from d y boxes)
+  continued-keep : (y : ℕ) (boxes : List ℕ) → All (λ b. b < length d.boxes) boxes
+      → Keeps (sum_by weight boxes) (continued_from d y boxes)
   continued-keep y [] all = keeps-none 0
   continued-keep y (b ∷ boxes) all =
       let more = continued-keep (y + (box_of d b).top) boxes (λ k e lt. all (suc k) e (omega arith)) in
@@ -147,25 +170,47 @@ module _ (d : FlowsData) (f : Flow) (So : RowLaid → Type 0) (weight : ℕ → 
   lays-maybe true x h = record { each = tt; le = omega arith }
   lays-maybe false x h = record { each = (h, tt); le = omega (arith, sum_by-cons laid_weight x []) }
 
-  head-lays : (s : Strip) (es : List Edge) → flat_map ended es ≡ [] → All (λ edge. All (λ b. b < length d.boxes) (started edge)) es → Lays (sum_by weight (flat_map started es)) (laid_edges s es)
+  head-lays : (s : Strip) (es : List Edge) → flat_map ended es ≡ []
+      → All (λ edge. All (λ b. b < length d.boxes) (started edge)) es
+      → Lays (sum_by weight (flat_map started es)) (laid_edges s es)
   head-lays s [] none known = record { each = tt; le = omega arith }
-  head-lays s (Margin m ∷ es) none known = lays-both 0 _ _ (laid_edge s (Margin m)) (laid_edges (lay s (Margin m)) es) (lays-maybe s.drops (margin m) tt) (head-lays (lay s (Margin m)) es none (λ k e lt. known (suc k) e (omega arith))) (omega arith)
-  head-lays s (Solid a ∷ es) none known = lays-both 0 _ _ (laid_edge s (Solid a)) (laid_edges (lay s (Solid a)) es) (lays-maybe (a == 0) (solid a) tt) (head-lays (lay s (Solid a)) es none (λ k e lt. known (suc k) e (omega arith))) (omega arith)
-  head-lays s (Wall ∷ es) none known = lays-both 0 _ _ (laid_edge s Wall) (laid_edges (lay s Wall) es) (record { each = (tt, tt); le = omega arith }) (head-lays (lay s Wall) es none (λ k e lt. known (suc k) e (omega arith))) (omega arith)
+  head-lays s (Margin m ∷ es) none known =
+      lays-both 0 _ _ (laid_edge s (Margin m)) (laid_edges (lay s (Margin m)) es) (lays-maybe s.drops (margin m) tt)
+      (head-lays (lay s (Margin m)) es none (λ k e lt. known (suc k) e (omega arith))) (omega arith)
+  head-lays s (Solid a ∷ es) none known =
+      lays-both 0 _ _ (laid_edge s (Solid a)) (laid_edges (lay s (Solid a)) es) (lays-maybe (a == 0) (solid a) tt)
+      (head-lays (lay s (Solid a)) es none (λ k e lt. known (suc k) e (omega arith))) (omega arith)
+  head-lays s (Wall ∷ es) none known =
+      lays-both 0 _ _ (laid_edge s Wall) (laid_edges (lay s Wall) es) (record { each = (tt, tt); le = omega arith })
+      (head-lays (lay s Wall) es none (λ k e lt. known (suc k) e (omega arith))) (omega arith)
   head-lays s (Start b ∷ es) none known =
-      let c : sum_by weight (b ∷ flat_map started es) ≡ weight b + sum_by weight (flat_map started es) = sum_by-cons weight b (flat_map started es) in
-      lays-both (weight b) (sum_by weight (flat_map started es)) _ (laid_edge s (Start b)) (laid_edges (lay s (Start b)) es) (record { each = (known 0 (Start b) (omega arith) 0 b (omega arith), tt); le = omega (arith, sum_by-cons laid_weight (opens b) []) })
+      let c : sum_by weight (b ∷ flat_map started es) ≡ weight b + sum_by weight (flat_map started es) =
+      sum_by-cons weight b (flat_map started es) in
+      lays-both (weight b) (sum_by weight (flat_map started es)) _ (laid_edge s (Start b)) (laid_edges (lay s (Start b)) es)
+      (record {
+        each = (known 0 (Start b) (omega arith) 0 b (omega arith), tt);
+        le = omega (arith, sum_by-cons laid_weight (opens b) []);
+      })
       (head-lays (lay s (Start b)) es none (λ k e lt. known (suc k) e (omega arith))) (omega arith)
   head-lays s (End b ∷ es) none known = cc
 
-  tail-lays : (s : Strip) (es : List Edge) → flat_map started es ≡ [] → All (λ edge. All (λ b. b < length d.boxes) (ended edge)) es → Lays 0 (laid_edges s es)
+  tail-lays : (s : Strip) (es : List Edge) → flat_map started es ≡ []
+      → All (λ edge. All (λ b. b < length d.boxes) (ended edge)) es → Lays 0 (laid_edges s es)
   tail-lays s [] none known = record { each = tt; le = omega arith }
-  tail-lays s (Margin m ∷ es) none known = lays-both 0 0 0 (laid_edge s (Margin m)) (laid_edges (lay s (Margin m)) es) (lays-maybe s.drops (margin m) tt) (tail-lays (lay s (Margin m)) es none (λ k e lt. known (suc k) e (omega arith))) (omega arith)
-  tail-lays s (Solid a ∷ es) none known = lays-both 0 0 0 (laid_edge s (Solid a)) (laid_edges (lay s (Solid a)) es) (lays-maybe (a == 0) (solid a) tt) (tail-lays (lay s (Solid a)) es none (λ k e lt. known (suc k) e (omega arith))) (omega arith)
-  tail-lays s (Wall ∷ es) none known = lays-both 0 0 0 (laid_edge s Wall) (laid_edges (lay s Wall) es) (record { each = (tt, tt); le = omega arith }) (tail-lays (lay s Wall) es none (λ k e lt. known (suc k) e (omega arith))) (omega arith)
+  tail-lays s (Margin m ∷ es) none known =
+      lays-both 0 0 0 (laid_edge s (Margin m)) (laid_edges (lay s (Margin m)) es) (lays-maybe s.drops (margin m) tt)
+      (tail-lays (lay s (Margin m)) es none (λ k e lt. known (suc k) e (omega arith))) (omega arith)
+  tail-lays s (Solid a ∷ es) none known =
+      lays-both 0 0 0 (laid_edge s (Solid a)) (laid_edges (lay s (Solid a)) es) (lays-maybe (a == 0) (solid a) tt)
+      (tail-lays (lay s (Solid a)) es none (λ k e lt. known (suc k) e (omega arith))) (omega arith)
+  tail-lays s (Wall ∷ es) none known =
+      lays-both 0 0 0 (laid_edge s Wall) (laid_edges (lay s Wall) es) (record { each = (tt, tt); le = omega arith })
+      (tail-lays (lay s Wall) es none (λ k e lt. known (suc k) e (omega arith))) (omega arith)
   tail-lays s (Start b ∷ es) none known = cc
   tail-lays s (End b ∷ es) none known =
-      lays-both 0 0 0 (laid_edge s (End b)) (laid_edges (lay s (End b)) es) (record { each = (known 0 (End b) (omega arith) 0 b (omega arith), tt); le = omega arith }) (tail-lays (lay s (End b)) es none (λ k e lt. known (suc k) e (omega arith))) (omega arith)
+      lays-both 0 0 0 (laid_edge s (End b)) (laid_edges (lay s (End b)) es)
+      (record { each = (known 0 (End b) (omega arith) 0 b (omega arith), tt); le = omega arith })
+      (tail-lays (lay s (End b)) es none (λ k e lt. known (suc k) e (omega arith))) (omega arith)
 
   -- the weights of the boxes that start from seam k on
   pub later : ℕ → ℕ
@@ -178,7 +223,8 @@ module _ (d : FlowsData) (f : Flow) (So : RowLaid → Type 0) (weight : ℕ → 
       let s = sum_by-append weight (flat_map started (seam_of f k).head) (starts_in (drop (k + 1) f.seams)) in
       omega arith
 
-  split-starts : (n : ℕ) (seams : List Seam) → sum_by weight (starts_in (take n seams)) + sum_by weight (starts_in (drop n seams)) ≡ sum_by weight (starts_in seams)
+  split-starts : (n : ℕ) (seams : List Seam) → sum_by weight (starts_in (take n seams)) + sum_by weight (starts_in (drop n seams))
+      ≡ sum_by weight (starts_in seams)
   split-starts zero seams = omega arith
   split-starts (suc n) [] = refl
   split-starts (suc n) (s ∷ seams) =
@@ -191,15 +237,18 @@ module _ (d : FlowsData) (f : Flow) (So : RowLaid → Type 0) (weight : ℕ → 
   across-later zero = let s = sum_by-append weight f.opened (starts_in f.seams) in omega arith
   across-later (suc k) =
       let a = filter-le weight (λ b. not (is_among (flat_map ended (seam_of f (suc k)).tail) b)) (open_at f k) in
-      let b = filter-le weight (λ b. not (is_among (ends_in (take (k + 1) f.seams)) b)) (f.opened ++ starts_in (take (k + 1) f.seams)) in
+      let b = filter-le weight (λ b. not (is_among (ends_in (take (k + 1) f.seams)) b))
+      (f.opened ++ starts_in (take (k + 1) f.seams)) in
       let c = sum_by-append weight f.opened (starts_in (take (k + 1) f.seams)) in
       let e = sum_by-append weight f.opened (starts_in f.seams) in
       let s = split-starts (k + 1) f.seams in
-      let P : ℕ → Type 0 = λ n. sum_by weight (open_across f (suc k)) + sum_by weight (starts_in (drop n f.seams)) ≤ sum_by weight (boxes_in f) in
+      let P : ℕ → Type 0 = λ n. sum_by weight (open_across f (suc k)) + sum_by weight (starts_in (drop n f.seams)) ≤ sum_by weight
+      (boxes_in f) in
       subst P (add-one k) (omega arith)
 
   module _ (sound : IsSoundFlow d f) where
-    pub heads-lay : (s : Strip) (k : ℕ) → k < length f.seams → Lays (sum_by weight (flat_map started (seam_of f k).head)) (laid_edges s (seam_of f k).head)
+    pub heads-lay : (s : Strip) (k : ℕ) → k < length f.seams
+        → Lays (sum_by weight (flat_map started (seam_of f k).head)) (laid_edges s (seam_of f k).head)
     heads-lay s k lt = head-lays s (seam_of f k).head (sound.seams k no_seam lt).head (starts-known d f sound k lt)
 
     pub tails-lay : (s : Strip) (k : ℕ) → k + 1 < length f.seams → Lays 0 (laid_edges s (seam_of f (k + 1)).tail)
@@ -210,14 +259,17 @@ module _ (d : FlowsData) (f : Flow) (So : RowLaid → Type 0) (weight : ℕ → 
       item-lays inner (Atom height kind) k q lt = record { each = (lt, tt); le = omega arith }
       item-lays inner (Row r) k q lt = record { each = (rows _, tt); le = omega arith }
 
-      pub items-lay : (inner : Inner) (s : Strip) (k : ℕ) (q : Token) (n : ℕ) → k + n ≤ length f.items → Lays (later (k + 1)) (laid_items inner f s k q n)
+      pub items-lay : (inner : Inner) (s : Strip) (k : ℕ) (q : Token) (n : ℕ) → k + n ≤ length f.items
+          → Lays (later (k + 1)) (laid_items inner f s k q n)
       unfolding laid_items
       items-lay inner s k q zero le = record { each = tt; le = omega arith }
       items-lay inner s k q (suc zero) le =
           let count = sound.seam_count in
           let tail = laid_edges (put s (height_of inner (item_of f k) q)) (seam_of f (k + 1)).tail in
-          lays-both 0 0 (later (k + 1)) (laid_item inner (item_of f k) k q ∷ []) (tail ++ []) (item-lays inner (item_of f k) k q (omega arith))
-          (lays-both 0 0 0 tail [] (tails-lay (put s (height_of inner (item_of f k) q)) k (omega arith)) (record { each = tt; le = omega arith }) (omega arith)) (omega arith)
+          lays-both 0 0 (later (k + 1)) (laid_item inner (item_of f k) k q ∷ []) (tail ++ [])
+          (item-lays inner (item_of f k) k q (omega arith))
+          (lays-both 0 0 0 tail [] (tails-lay (put s (height_of inner (item_of f k) q)) k (omega arith))
+          (record { each = tt; le = omega arith }) (omega arith)) (omega arith)
       items-lay inner s k q (suc (suc n)) le =
           let count = sound.seam_count in
           let first = later-first (k + 1) (omega arith) in
@@ -225,15 +277,22 @@ module _ (d : FlowsData) (f : Flow) (So : RowLaid → Type 0) (weight : ℕ → 
           let tail = laid_edges (put s (height_of inner (item_of f k) q)) (seam_of f (k + 1)).tail in
           let head = laid_edges behind (seam_of f (k + 1)).head in
           let more = laid_items inner f (lay_all behind (seam_of f (k + 1)).head) (k + 1) row_start (suc n) in
-          lays-both 0 (later (k + 1)) (later (k + 1)) (laid_item inner (item_of f k) k q ∷ []) (tail ++ (head ++ more)) (item-lays inner (item_of f k) k q (omega arith))
-          (lays-both 0 (later (k + 1)) (later (k + 1)) tail (head ++ more) (tails-lay (put s (height_of inner (item_of f k) q)) k (omega arith))
-          (lays-both (sum_by weight (flat_map started (seam_of f (k + 1)).head)) (later (k + 1 + 1)) (later (k + 1)) head more (heads-lay behind (k + 1) (omega arith)) (items-lay inner (lay_all behind (seam_of f (k + 1)).head) (k + 1) row_start (suc n) (omega arith)) (omega arith)) (omega arith)) (omega arith)
+          lays-both 0 (later (k + 1)) (later (k + 1)) (laid_item inner (item_of f k) k q ∷ []) (tail ++ (head ++ more))
+          (item-lays inner (item_of f k) k q (omega arith))
+          (lays-both 0 (later (k + 1)) (later (k + 1)) tail (head ++ more)
+          (tails-lay (put s (height_of inner (item_of f k) q)) k (omega arith))
+          (lays-both (sum_by weight (flat_map started (seam_of f (k + 1)).head)) (later (k + 1 + 1)) (later (k + 1)) head more
+          (heads-lay behind (k + 1) (omega arith))
+          (items-lay inner (lay_all behind (seam_of f (k + 1)).head) (k + 1) row_start (suc n) (omega arith))
+          (omega arith)) (omega arith)) (omega arith)
 
   -- what continues at the top, and what is laid below it
-  pub all-keep : (y a most : ℕ) (boxes : List ℕ) (xs : List Laid) → All (λ b. b < length d.boxes) boxes → Lays a xs → sum_by weight boxes + a ≤ most → Keeps most (continued_from d 0 boxes ++ places_from (length xs + 1) y xs)
+  pub all-keep : (y a most : ℕ) (boxes : List ℕ) (xs : List Laid) → All (λ b. b < length d.boxes) boxes → Lays a xs
+      → sum_by weight boxes + a ≤ most → Keeps most (continued_from d 0 boxes ++ places_from (length xs + 1) y xs)
   all-keep y a most boxes xs known laid le =
       let sum = laid.le in
-      keeps-both (sum_by weight boxes) (sum_by laid_weight xs) most (continued_from d 0 boxes) (places_from (length xs + 1) y xs) (continued-keep 0 boxes known) (places-keep (length xs + 1) y xs laid.each) (omega arith)
+      keeps-both (sum_by weight boxes) (sum_by laid_weight xs) most (continued_from d 0 boxes) (places_from (length xs + 1) y xs)
+      (continued-keep 0 boxes known) (places-keep (length xs + 1) y xs laid.each) (omega arith)
 
 module _ (d : FlowsData) (f : Flow) where
   any_row : RowLaid → Type 0
@@ -260,22 +319,30 @@ module _ (d : FlowsData) (f : Flow) where
     pub placed_bottoms-le : (ps : List Placed) → sum_by (placed_bottom d) ps ≤ sum_by (placed_weight d f So box_bottom) ps
     placed_bottoms-le ps = sum_by-le-sum_by (placed_bottom d) (placed_weight d f So box_bottom) ps one-bottom
 
-  -- What stands in a column from item i on and before item e names boxes and items that there are, and what its boxes have below is no more
-  -- than what all boxes of the flow have.
-  pub column-known : IsSoundFlow d f → (i e : ℕ) → i < e → e ≤ length f.items → Each (IsPlacedIn d f) (column_places d f i e) × (sum_by (placed_bottom d) (column_places d f i e) ≤ bottoms d (boxes_in f))
+  -- What stands in a column from item i on and before item e names boxes and items that there are, and what its boxes have below
+  -- is no more than what all boxes of the flow have.
+  pub column-known : IsSoundFlow d f → (i e : ℕ) → i < e → e ≤ length f.items → Each (IsPlacedIn d f) (column_places d f i e)
+      × (sum_by (placed_bottom d) (column_places d f i e) ≤ bottoms d (boxes_in f))
   unfolding any_row
   column-known sound i e lt le =
       let count = sound.seam_count in
       let first = later-first d f any_row box_bottom i (omega arith) in
       let all = across-later d f any_row box_bottom i in
-      let laid = lays-both d f any_row box_bottom (bottoms d (flat_map started (seam_of f i).head)) (later d f any_row box_bottom (i + 1)) (later d f any_row box_bottom i) (laid_start d f (i ∷ [])) (laid_items (all_rows d) f (start_strip d f (i ∷ [])) i row_start (e - i))
-      (heads-lay d f any_row box_bottom sound (strip_at (tops d (open_across f i)) (not (i == 0 || is_forced (seam_of f i).level))) i (omega arith)) (items-lay d f any_row box_bottom sound (λ r. tt) (all_rows d) (start_strip d f (i ∷ [])) i row_start (e - i) (omega arith)) (omega arith) in
-      let both = all-keep d f any_row box_bottom (tops d (open_across f i)) (later d f any_row box_bottom i) (bottoms d (boxes_in f)) (open_across f i) (column_laid d f i e) (across-known d f sound i) laid (omega arith) in
+      let laid = lays-both d f any_row box_bottom (bottoms d (flat_map started (seam_of f i).head))
+      (later d f any_row box_bottom (i + 1)) (later d f any_row box_bottom i) (laid_start d f (i ∷ []))
+      (laid_items (all_rows d) f (start_strip d f (i ∷ [])) i row_start (e - i))
+      (heads-lay d f any_row box_bottom sound
+      (strip_at (tops d (open_across f i)) (not (i == 0 || is_forced (seam_of f i).level))) i (omega arith))
+      (items-lay d f any_row box_bottom sound (λ r. tt) (all_rows d) (start_strip d f (i ∷ [])) i row_start (e - i)
+      (omega arith)) (omega arith) in
+      let both = all-keep d f any_row box_bottom (tops d (open_across f i)) (later d f any_row box_bottom i)
+      (bottoms d (boxes_in f)) (open_across f i) (column_laid d f i e) (across-known d f sound i) laid (omega arith) in
       let below = placed_bottoms-le any_row (column_places d f i e) in
       let sum = both.le in
       (each-known _ both.each, omega arith)
 
 -- the same of a flow of sound data
 pub places-known : (d : FlowsData) → IsSound d → (n i e : ℕ) → n < length d.flows → i < e → e ≤ length (flow_of d n).items →
-    Each (IsPlacedIn d (flow_of d n)) (column_places d (flow_of d n) i e) × (sum_by (placed_bottom d) (column_places d (flow_of d n) i e) ≤ bottoms d (boxes_in (flow_of d n)))
+    Each (IsPlacedIn d (flow_of d n)) (column_places d (flow_of d n) i e)
+    × (sum_by (placed_bottom d) (column_places d (flow_of d n) i e) ≤ bottoms d (boxes_in (flow_of d n)))
 places-known d sound n i e known lt le = column-known d (flow_of d n) (sound.flows n no_flow known) i e lt le

@@ -9,7 +9,8 @@ use Rattle.flow_list.specs.RowHeights.{row_columns}
 use Rattle.flow_list.specs.Tokens.{row_start}
 use Rattle.frag_printer.specs.FlatRows.{ends_before}
 
--- Each end is that of the innermost box that is open there, and no box starts that is open; the open boxes from the innermost outwards.
+-- Each end is that of the innermost box that is open there, and no box starts that is open; the open boxes from the innermost
+-- outwards.
 abbrev pub ArePlacedNested : List ℕ → List Placed → Type 0
 ArePlacedNested boxes [] = Unit {0}
 ArePlacedNested boxes (opens_at b y starts ∷ xs) = (is_among boxes b ≡ false) × ArePlacedNested (b ∷ boxes) xs
@@ -54,4 +55,5 @@ abbrev pub IsPlacedInStack : FlowsData → Flow → Placed → Type 0
 IsPlacedInStack d f (opens_at b y starts) = b < length d.boxes
 IsPlacedInStack d f (closes_at b y) = b < length d.boxes
 IsPlacedInStack d f (atom_at k y) = k < length f.items
-IsPlacedInStack d f (row_at r y) = (r.row < length d.rows) × (r.from ≡ row_start) × (r.filled ≡ false) × HoldsAtoms (flow_in d r.row)
+IsPlacedInStack d f (row_at r y) = (r.row < length d.rows) × (r.from ≡ row_start) × (r.filled ≡ false)
+    × HoldsAtoms (flow_in d r.row)

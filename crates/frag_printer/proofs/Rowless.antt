@@ -8,7 +8,8 @@ use Rattle.flow_list.specs.ClonedEdges.{open_across, tops}
 use Rattle.flow_list.specs.Column.{Inner, height_of, is_forced, start_strip, strip_behind}
 use Rattle.flow_data.specs.Flows.{box_of, item_of, no_item, seam_of}
 use Rattle.flow_list.specs.Fragments.{continued_from, laid_item, laid_items}
-use Rattle.flow_list.specs.Placing.{RowLaid, Laid, margin, solid, laid_edge, laid_edges, Placed, opens_at, closes_at, atom_at, row_at}
+use Rattle.flow_list.specs.Placing.{RowLaid, Laid, margin, solid, laid_edge, laid_edges, Placed, opens_at, closes_at, atom_at}
+use Rattle.flow_list.specs.Placing.{row_at}
 use Rattle.flow_list.specs.Rows.{all_rows}
 use Rattle.flow_list.specs.Strip.{Strip, strip_at, put, lay, lay_all}
 use Rattle.flow_list.specs.Tokens.{Token, row_start}
@@ -56,16 +57,21 @@ each-atom [] h k = tt
 each-atom (x ∷ xs) h zero = h 0 no_item (omega arith)
 each-atom (x ∷ xs) h (suc k) = each-atom xs (λ j e lt. h (suc j) e (omega arith)) k
 
-items-have : (inner : Inner) (f : Flow) → HoldsAtoms f → (s : Strip) (k : ℕ) (q : Token) (n : ℕ) → Each Has (laid_items inner f s k q n)
+items-have : (inner : Inner) (f : Flow) → HoldsAtoms f → (s : Strip) (k : ℕ) (q : Token) (n : ℕ)
+    → Each Has (laid_items inner f s k q n)
 unfolding laid_items
 items-have inner f atoms s k q zero = tt
-items-have inner f atoms s k q (suc zero) =
-    (item-has inner (item_of f k) k q (each-atom f.items atoms k), Each-append Has (laid_edges (put s (height_of inner (item_of f k) q)) (seam_of f (k + 1)).tail) [] (edges-have (put s (height_of inner (item_of f k) q)) (seam_of f (k + 1)).tail) tt)
+items-have inner f atoms s k q (suc zero) = (
+  item-has inner (item_of f k) k q (each-atom f.items atoms k),
+  Each-append Has (laid_edges (put s (height_of inner (item_of f k) q)) (seam_of f (k + 1)).tail) []
+      (edges-have (put s (height_of inner (item_of f k) q)) (seam_of f (k + 1)).tail) tt,
+)
 items-have inner f atoms s k q (suc (suc n)) =
     let behind = strip_behind inner f s k q in
     let later = items-have inner f atoms (lay_all behind (seam_of f (k + 1)).head) (k + 1) row_start (suc n) in (
       item-has inner (item_of f k) k q (each-atom f.items atoms k),
-      Each-append Has (laid_edges (put s (height_of inner (item_of f k) q)) (seam_of f (k + 1)).tail) _ (edges-have (put s (height_of inner (item_of f k) q)) (seam_of f (k + 1)).tail)
+      Each-append Has (laid_edges (put s (height_of inner (item_of f k) q)) (seam_of f (k + 1)).tail) _
+          (edges-have (put s (height_of inner (item_of f k) q)) (seam_of f (k + 1)).tail)
           (Each-append Has (laid_edges behind (seam_of f (k + 1)).head) _ (edges-have behind (seam_of f (k + 1)).head) later),
     )
 
@@ -84,7 +90,10 @@ continued-rowless d y (b ∷ boxes) = (tt, continued-rowless d (y + (box_of d b)
 pub column-rowless : (d : FlowsData) (f : Flow) → HoldsAtoms f → (i e : ℕ) → Each IsNoRow (column_places d f i e)
 column-rowless d f atoms i e =
     let s : Strip = strip_at (tops d (open_across f i)) (not (i == 0 || is_forced (seam_of f i).level)) in
-    let has = Each-append Has (laid_edges s (seam_of f i).head) (laid_items (all_rows d) f (start_strip d f (i ∷ [])) i row_start (e - i)) (edges-have s (seam_of f i).head) (items-have (all_rows d) f atoms (start_strip d f (i ∷ [])) i row_start (e - i)) in
+    let has = Each-append Has (laid_edges s (seam_of f i).head)
+    (laid_items (all_rows d) f (start_strip d f (i ∷ [])) i row_start (e - i)) (edges-have s (seam_of f i).head)
+    (items-have (all_rows d) f atoms (start_strip d f (i ∷ [])) i row_start (e - i)) in
     let bottom : ℕ = tops d (open_across f i) + sum_by laid_amount (column_laid d f i e) in
     Each-append IsNoRow (continued_from d 0 (open_across f i)) _ (continued-rowless d 0 (open_across f i))
-    (no-rows bottom _ (places-le laid_amount never (length (column_laid d f i e) + 1) (tops d (open_across f i)) bottom (column_laid d f i e) has (omega arith)))
+    (no-rows bottom _ (places-le laid_amount never (length (column_laid d f i e) + 1) (tops d (open_across f i)) bottom
+    (column_laid d f i e) has (omega arith)))

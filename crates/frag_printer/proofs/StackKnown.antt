@@ -11,13 +11,15 @@ use Rattle.frag_printer.specs.FlatRows.{HoldsFlatRows}
 use Rattle.frag_printer.specs.StackParts.{before_head, stack_places}
 use Rattle.frag_printer.proofs.Placements.{IsPlacedInStack, placed_bottom, opens_in}
 use Rattle.frag_printer.proofs.StackNames.{bottoms-in_stack, known-in_stack, opens-in_stack}
-use Rattle.frag_printer.proofs.StackRoom.{bottoms-le, end-room, extent-low, heights-total, item-room, places-low, row_total, whole-small}
+use Rattle.frag_printer.proofs.StackRoom.{bottoms-le, end-room, extent-low, heights-total, item-room, places-low, row_total}
+use Rattle.frag_printer.proofs.StackRoom.{whole-small}
 
 abbrev pub HasItemRoom : FlowsData → Stack → ℕ → Type 0
 HasItemRoom d s k =
     let f = flow_of d s.flow in
     let b = before_head d s.bound f k in
-    b.y + b.pending + sum_by amount (seam_of f k).head + height_in_stack d s.bound (item_of f k) (begins (stack_strip d s.bound f k)) + sum_by amount (seam_of f (k + 1)).tail < 2 ^ 61
+    b.y + b.pending + sum_by amount (seam_of f k).head + height_in_stack d s.bound (item_of f k)
+    (begins (stack_strip d s.bound f k)) + sum_by amount (seam_of f (k + 1)).tail < 2 ^ 61
 
 abbrev pub HasEndRoom : FlowsData → Stack → Type 0
 HasEndRoom d s =
@@ -45,9 +47,11 @@ zero-known d sound some flat =
       extent = extent-low d sound some;
       known = known-in_stack d sound some flat;
       low = places-low d sound some;
-      bottoms = let below = bottoms-in_stack d sound some flat in let all = bottoms-le d f (row_total d) bound (heights-total d) in omega arith;
+      bottoms = let below = bottoms-in_stack d sound some flat in let all = bottoms-le d f (row_total d) bound (heights-total d)
+          in omega arith;
       opens = let opens = opens-in_stack d sound some flat in let few = sound.box_count in omega arith;
     }
 
-pub stack-known : (d : FlowsData) → IsSound d → 0 < length d.stacks → HoldsFlatRows d → (s : Stack) → s ≡ stack_of d 0 → IsKnownStack d s
+pub stack-known : (d : FlowsData) → IsSound d → 0 < length d.stacks → HoldsFlatRows d → (s : Stack) → s ≡ stack_of d 0
+    → IsKnownStack d s
 stack-known d sound some flat s is = let P : Stack → Type 0 = IsKnownStack d in subst P (sym is) (zero-known d sound some flat)

@@ -1,5 +1,6 @@
 -- What stands in stack 0 names boxes, items and rows that there are, and a row stands there whole.
-use Rattle.std.proofs.Common.{◌≡◌, ℕ, zero, suc, ◌+◌, ◌<◌, ◌≤◌, ◌==◌, true, false, List, [], ◌∷◌, ◌++◌, length, refl, arith, sum_by}
+use Rattle.std.proofs.Common.{◌≡◌, ℕ, zero, suc, ◌+◌, ◌<◌, ◌≤◌, ◌==◌, true, false, List, [], ◌∷◌, ◌++◌, length, refl, arith}
+use Rattle.std.proofs.Common.{sum_by}
 use Rattle.std.specs.List.{AllByRecursion as Each, flat_map, list_any}
 use Rattle.std.proofs.lemmas.Bool.Decides.{Decides-eqb, nat_tests}
 use Rattle.std.proofs.lemmas.List.Folds.{Any-from_list_any}
@@ -19,7 +20,8 @@ use Rattle.flow_list.specs.Tokens.{row_start}
 use Rattle.flow_data.proofs.OpenBoxes.{opened-known}
 use Rattle.frag_printer.specs.FlatRows.{HoldsFlatRows}
 use Rattle.frag_printer.specs.StackParts.{before_head, stack_places, whole_laid}
-use Rattle.frag_printer.proofs.PlacedKnown.{IsPlacedSo, Keeps, Lays, across-later, all-keep, box_bottom, placed_bottoms-le, heads-lay, later, later-first, lays-both, placed_weight, tails-lay}
+use Rattle.frag_printer.proofs.PlacedKnown.{IsPlacedSo, Keeps, Lays, across-later, all-keep, box_bottom, placed_bottoms-le}
+use Rattle.frag_printer.proofs.PlacedKnown.{heads-lay, later, later-first, lays-both, placed_weight, tails-lay}
 use Rattle.frag_printer.proofs.Placements.{IsPlacedInStack, placed_bottom, opens_in}
 
 -- a row that stands whole in a stack, and holds atoms alone
@@ -50,18 +52,24 @@ module _ (d : FlowsData) (flat : HoldsFlatRows d) (bound : Bound) (f : Flow) (so
       let tail = laid_edges behind (seam_of f (k + 1)).tail in
       let head = laid_edges (lay_all behind (seam_of f (k + 1)).tail) (seam_of f (k + 1)).head in
       let starts = sum_by weight (flat_map started (seam_of f (k + 1)).head) in
-      lays-both d f (IsWholeRow d) weight starts (from_seam (k + 1 + 1)) (from_seam (k + 1)) ((here ∷ tail) ++ head) (stack_laid d bound f (k + 1) n)
+      lays-both d f (IsWholeRow d) weight starts (from_seam (k + 1 + 1)) (from_seam (k + 1)) ((here ∷ tail) ++ head)
+      (stack_laid d bound f (k + 1) n)
       (lays-both d f (IsWholeRow d) weight 0 starts starts (here ∷ tail) head
-      (lays-both d f (IsWholeRow d) weight 0 0 0 (here ∷ []) tail (item-lays k (omega arith) (item_of f k) (sound.items k no_item (omega arith))) (tails-lay d f (IsWholeRow d) weight sound behind k (omega arith)) (omega arith))
+      (lays-both d f (IsWholeRow d) weight 0 0 0 (here ∷ []) tail
+      (item-lays k (omega arith) (item_of f k) (sound.items k no_item (omega arith)))
+      (tails-lay d f (IsWholeRow d) weight sound behind k (omega arith)) (omega arith))
       (heads-lay d f (IsWholeRow d) weight sound (lay_all behind (seam_of f (k + 1)).tail) (k + 1) (omega arith)) (omega arith))
       (items-lay (k + 1) n (omega arith)) (omega arith)
 
-  all-lay : LaysTo (from_seam 0) (laid_edges (before_head d bound f 0) (seam_of f 0).head ++ stack_laid d bound f 0 (length f.items))
+  all-lay : LaysTo (from_seam 0)
+      (laid_edges (before_head d bound f 0) (seam_of f 0).head ++ stack_laid d bound f 0 (length f.items))
   all-lay =
       let count = sound.seam_count in
       let first = later-first d f (IsWholeRow d) weight 0 (omega arith) in
-      lays-both d f (IsWholeRow d) weight (sum_by weight (flat_map started (seam_of f 0).head)) (from_seam (0 + 1)) (from_seam 0) (laid_edges (before_head d bound f 0) (seam_of f 0).head) (stack_laid d bound f 0 (length f.items))
-      (heads-lay d f (IsWholeRow d) weight sound (before_head d bound f 0) 0 (omega arith)) (items-lay 0 (length f.items) (omega arith)) (omega arith)
+      lays-both d f (IsWholeRow d) weight (sum_by weight (flat_map started (seam_of f 0).head)) (from_seam (0 + 1)) (from_seam 0)
+      (laid_edges (before_head d bound f 0) (seam_of f 0).head) (stack_laid d bound f 0 (length f.items))
+      (heads-lay d f (IsWholeRow d) weight sound (before_head d bound f 0) 0 (omega arith))
+      (items-lay 0 (length f.items) (omega arith)) (omega arith)
 
 -- ---- what is placed
 
@@ -76,10 +84,12 @@ module _ (d : FlowsData) (sound : IsSound d) (some : 0 < length d.stacks) (flat 
   stack-keeps : (weight : ℕ → ℕ) → Keeps d flow (IsWholeRow d) weight (sum_by weight (boxes_in flow)) (stack_places d 0)
   stack-keeps weight =
       let all = across-later d flow (IsWholeRow d) weight 0 in
-      all-keep d flow (IsWholeRow d) weight (tops d flow.opened) (later d flow (IsWholeRow d) weight 0) (sum_by weight (boxes_in flow)) flow.opened (whole_laid d 0) (opened-known d flow flow_sound)
+      all-keep d flow (IsWholeRow d) weight (tops d flow.opened) (later d flow (IsWholeRow d) weight 0)
+      (sum_by weight (boxes_in flow)) flow.opened (whole_laid d 0) (opened-known d flow flow_sound)
       (all-lay d flat (stack_of d 0).bound flow flow_sound weight) (omega arith)
 
-  each-known : (weight : ℕ → ℕ) (ps : List Placed) → Each (IsPlacedSo d flow (IsWholeRow d) weight) ps → Each (IsPlacedInStack d flow) ps
+  each-known : (weight : ℕ → ℕ) (ps : List Placed) → Each (IsPlacedSo d flow (IsWholeRow d) weight) ps
+      → Each (IsPlacedInStack d flow) ps
   each-known weight [] all = tt
   each-known weight (opens_at b y starts ∷ ps) all = (all.0, each-known weight ps all.1)
   each-known weight (closes_at b y ∷ ps) all = (all.0, each-known weight ps all.1)
@@ -108,7 +118,8 @@ module _ (d : FlowsData) (sound : IsSound d) (some : 0 < length d.stacks) (flat 
   one-opens (row_at r y) = omega arith
 
   few-boxes : length (boxes_in flow) ≤ length d.boxes
-  few-boxes = length-le_from_distinct_below (boxes_in flow) (length d.boxes) (IsDistinct-from_AllPairs Decides-eqb (boxes_in flow) flow_sound.distinct) below
+  few-boxes = length-le_from_distinct_below (boxes_in flow) (length d.boxes)
+      (IsDistinct-from_AllPairs Decides-eqb (boxes_in flow) flow_sound.distinct) below
     where
       below : (q : ℕ) → list_any (λ x. q == x) (boxes_in flow) ≡ true → q < length d.boxes
       below q among =

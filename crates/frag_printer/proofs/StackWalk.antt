@@ -1,4 +1,4 @@
--- A stack, item by item: its head, and what is still to come behind each item.
+-- A stack, item by item: its head, and what is still to come after each item.
 use Rattle.std.proofs.Common.{◌≡◌, ℕ, zero, suc, ◌+◌, List, ◌∷◌, ◌++◌, refl, sym, subst, ap, ◌∙◌, add-one, append_assoc}
 use Rattle.std.proofs.lemmas.List.{append-nil}
 use Rattle.flow_list.specs.Data.{Bound, Flow, FlowsData}
@@ -13,15 +13,16 @@ regroup : (xs ys zs rest : List Laid) → xs ++ ((ys ++ zs) ++ rest) ≡ (xs ++ 
 regroup xs ys zs rest = ap (λ all. xs ++ all) (append_assoc ys zs rest) ∙ sym (append_assoc xs ys (zs ++ rest))
 
 module _ (d : FlowsData) (bound : Bound) (f : Flow) where
-  -- the head of seam k, n items from there on, and all that stands between them and behind them
+  -- the head of seam k, n items from there on, and all that stands between them and after them
   abbrev pub stack_rest : ℕ → ℕ → List Laid
   stack_rest k n = laid_edges (before_head d bound f k) (seam_of f k).head ++ stack_laid d bound f k n
 
-  -- behind the head of seam k is item k
+  -- after the head of seam k is item k
   pub behind-head : (k : ℕ) → lay_all (before_head d bound f k) (seam_of f k).head ≡ stack_strip d bound f k
   unfolding stack_strip
   behind-head zero = refl
-  behind-head (suc k) = ap (λ j. lay_all (lay_all (behind_item d bound f k) (seam_of f j).tail) (seam_of f (suc k)).head) (add-one k)
+  behind-head (suc k) = ap (λ j. lay_all (lay_all (behind_item d bound f k) (seam_of f j).tail) (seam_of f (suc k)).head)
+      (add-one k)
 
   pub next-head : (k : ℕ) → behind_tail d bound f k ≡ before_head d bound f (k + 1)
   next-head k = subst (λ (j : ℕ). behind_tail d bound f k ≡ before_head d bound f j) (sym (add-one k)) refl

@@ -10,7 +10,7 @@ use Rattle.flow_list.specs.Rows.{all_rows, amounts_in, heights_from, reach}
 use Rattle.flow_list.specs.Strip.{Strip, strip_at, put, lay_all}
 use Rattle.flow_list.specs.Tokens.{row_start}
 
--- the open boxes behind an edge, the outermost first
+-- the open boxes after an edge, the outermost first
 abbrev pub opened_by : List ℕ → Edge → List ℕ
 opened_by boxes (Margin m) = boxes
 opened_by boxes (Solid a) = boxes
@@ -26,23 +26,25 @@ column_places d f i e = places_in d f (i ∷ []) (column_laid d f i e)
 
 -- how far the column reaches
 abbrev pub column_extent : FlowsData → Flow → (i e : ℕ) → ℕ
-column_extent d f i e = (strip_after (all_rows d) f (start_strip d f (i ∷ [])) i row_start (e - i)).y + bottoms d (open_across f e)
+column_extent d f i e = (strip_after (all_rows d) f (start_strip d f (i ∷ [])) i row_start (e - i)).y + bottoms d
+    (open_across f e)
 
 -- the strip that a column begins with, before the head of its first item
 abbrev pub column_strip : FlowsData → Flow → ℕ → Strip
 column_strip d f i = strip_at (tops d (open_across f i)) (not (i == 0 || is_forced (seam_of f i).level))
 
--- what item k of a strip is laid with: the head before it, and the tail behind it
+-- what item k of a strip is laid with: the head before it, and the tail after it
 abbrev pub item_laid : FlowsData → Flow → Strip → ℕ → List Laid
 item_laid d f s k =
     let before = lay_all s (seam_of f k).head in
     let height = height_of (all_rows d) (item_of f k) row_start in
     laid_edges s (seam_of f k).head ++ atom k height ∷ laid_edges (put before height) (seam_of f (k + 1)).tail
 
--- the strip behind item k and that tail
+-- the strip after item k and that tail
 abbrev pub strip_past : FlowsData → Flow → Strip → ℕ → Strip
 strip_past d f s k = strip_behind (all_rows d) f (lay_all s (seam_of f k).head) k row_start
 
 -- the strip before the head of seam k leaves room for the rest of the flow
 abbrev pub HasRoom : FlowsData → Flow → ℕ → Strip → Type 0
-HasRoom d f k s = s.y + s.pending + sum_by amount (seam_of f k).head + heights_from (all_rows d) row_start (drop k f.items) + amounts_in (drop (k + 1) f.seams) + bottoms d (boxes_in f) ≤ reach (all_rows d) d f row_start
+HasRoom d f k s = s.y + s.pending + sum_by amount (seam_of f k).head + heights_from (all_rows d) row_start (drop k f.items)
+    + amounts_in (drop (k + 1) f.seams) + bottoms d (boxes_in f) ≤ reach (all_rows d) d f row_start

@@ -38,7 +38,14 @@ flat_rows d =
 -- the lines of a row that stands at y: its own, and those of its columns
 abbrev pub flat_row_lines : FlowsData → (depth : ℕ) → Frame → (y : ℕ) → FlatRow → List TreeLine
 flat_row_lines d depth frame y flat =
-    record { depth = depth; kind = row flat.row row_start; x = frame.x + (row_of d flat.row).x; y = frame.y + y; w = row_width (row_of d flat.row); h = flat.height }
+    record {
+      depth = depth;
+      kind = row flat.row row_start;
+      x = frame.x + (row_of d flat.row).x;
+      y = frame.y + y;
+      w = row_width (row_of d flat.row);
+      h = flat.height;
+    }
     ∷ columns_lines (row_fragments d (length d.rows)) d no_stacks (row_of d flat.row) depth frame y flat.height 0 0 flat.ends
 
 -- no row holds another one

@@ -6,6 +6,6 @@ use Rattle.frag_printer.specs.declared.output.Output.{Output}
 abbrev pub KeepsLimit : Output → Output → Type 0
 KeepsLimit old new = (new.most ≡ old.most) × (length old.text ≤ old.most → length new.text ≤ new.most)
 
--- with these bytes behind it the text has more than it may have
+-- with these bytes after it the text has more than it may have
 abbrev pub PassesLimit : Output → List ℕ → Type 0
 PassesLimit out more = out.most < length (out.text ++ more)

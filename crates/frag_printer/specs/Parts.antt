@@ -9,10 +9,11 @@ use Rattle.frag_printer.specs.declared.parts.Part.{Part}
 use Rattle.frag_printer.specs.declared.parts.Part.TheVariants.{Opens, Closes, Atom, Row}
 use Rattle.frag_printer.specs.declared.parts.Inside.{Inside}
 use Rattle.frag_printer.specs.declared.placing.Placed.{Placed}
-use Rattle.frag_printer.specs.declared.placing.Placed.TheVariants.{Opens as OpensAt, Closes as ClosesAt, Atom as AtomAt, Row as RowAt}
+use Rattle.frag_printer.specs.declared.placing.Placed.TheVariants.{Opens as OpensAt, Closes as ClosesAt, Atom as AtomAt}
+use Rattle.frag_printer.specs.declared.placing.Placed.TheVariants.{Row as RowAt}
 use Rattle.frag_printer.specs.Placing.{placed_as}
 
--- what is placed, where this stands behind it
+-- what is placed, where this stands after it
 abbrev pub part_of : Placed → List AnyPlaced → Part
 part_of (OpensAt number y starts) later = Opens number y starts (bottom_of number later)
 part_of (ClosesAt number y) later = Closes number

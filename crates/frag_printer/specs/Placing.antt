@@ -2,9 +2,11 @@
 use Rattle.std.specs.Prelude.{◌≡◌, ◌+◌, List, ◌++◌, length, map, ℕ, false, Option}
 use Rattle.flow_list.specs.Tokens.{row_start}
 use Rattle.flow_list.specs.Strip.{Strip}
-use Rattle.flow_list.specs.Placing.{RowLaid, Laid, margin, opens, closes, atom, row, greatest_margin, Placed as AnyPlaced, opens_at, closes_at, atom_at, row_at, places_from}
+use Rattle.flow_list.specs.Placing.{RowLaid, Laid, margin, opens, closes, atom, row, greatest_margin, Placed as AnyPlaced}
+use Rattle.flow_list.specs.Placing.{opens_at, closes_at, atom_at, row_at, places_from}
 use Rattle.frag_printer.specs.declared.placing.Placed.{Placed}
-use Rattle.frag_printer.specs.declared.placing.Placed.TheVariants.{Opens as OpensAt, Closes as ClosesAt, Atom as AtomAt, Row as RowAt}
+use Rattle.frag_printer.specs.declared.placing.Placed.TheVariants.{Opens as OpensAt, Closes as ClosesAt, Atom as AtomAt}
+use Rattle.frag_printer.specs.declared.placing.Placed.TheVariants.{Row as RowAt}
 use Rattle.frag_printer.specs.declared.placing.Placing.{Placing}
 use Rattle.frag_printer.specs.declared.placing.Waiting.{Waiting}
 use Rattle.frag_printer.specs.declared.placing.Waiting.TheVariants.{Margin, Opens, Closes, Atom, Row}
@@ -41,7 +43,7 @@ standing p = map placed_as p.placed.items
 abbrev pub waiting : Placing → List Laid
 waiting p = map laid_as p.gap.items
 
--- the places of all that stands there, where this is laid behind it
+-- the places of all that stands there, where this is laid after it
 abbrev pub with_more : Placing → List Laid → List AnyPlaced
 with_more p laid = standing p ++ places_from (length (waiting p ++ laid) + 1) p.y (waiting p ++ laid)
 

@@ -15,7 +15,8 @@ abbrev pub row_part : FlowsData → Part → List FlatRow
 row_part d (Opens number y starts bottom) = []
 row_part d (Closes number) = []
 row_part d (Atom item y) = []
-row_part d (Row number height made y) = record { row = number; height = height; ends = ends_before (row_columns d number made) } ∷ []
+row_part d (Row number height made y) =
+    record { row = number; height = height; ends = ends_before (row_columns d number made) } ∷ []
 
 abbrev pub row_parts : FlowsData → List Part → List FlatRow
 row_parts d ps = flat_map (row_part d) ps
@@ -25,4 +26,5 @@ abbrev pub IsStackPart : FlowsData → Flow → (low : ℕ) → Part → Type 0
 IsStackPart d f low (Opens number y starts bottom) = (number < length d.boxes) × (y < low)
 IsStackPart d f low (Closes number) = number < length d.boxes
 IsStackPart d f low (Atom item y) = (item < length f.items) × (y < low)
-IsStackPart d f low (Row number height made y) = (number < length d.rows) × (y < low) × HoldsAtoms (flow_in d number) × ArePlaces (flow_in d number) 0 (ends_before (row_columns d number made))
+IsStackPart d f low (Row number height made y) = (number < length d.rows) × (y < low) × HoldsAtoms (flow_in d number)
+    × ArePlaces (flow_in d number) 0 (ends_before (row_columns d number made))

@@ -8,7 +8,7 @@ use Rattle.flow_list.specs.Placing.{Laid, laid_edges, Placed, places_from}
 use Rattle.flow_list.specs.Stacks.{height_in_stack, stack_strip}
 use Rattle.flow_list.specs.Strip.{Strip, strip_at, put, lay_all, begins}
 
--- the strip behind item k of a stack, and the one behind the tail that follows
+-- the strip after item k of a stack, and the one after the tail that follows
 abbrev pub behind_item : FlowsData → Bound → Flow → ℕ → Strip
 behind_item d bound f k =
     let s = stack_strip d bound f k in
@@ -22,7 +22,7 @@ abbrev pub before_head : FlowsData → Bound → Flow → ℕ → Strip
 before_head d bound f zero = strip_at (tops d f.opened) false
 before_head d bound f (suc k) = behind_tail d bound f k
 
--- item k of a stack with the head before it and the tail behind it
+-- item k of a stack with the head before it and the tail after it
 abbrev pub stack_item : FlowsData → Bound → Flow → ℕ → List Laid
 stack_item d bound f k =
     laid_edges (before_head d bound f k) (seam_of f k).head
@@ -32,7 +32,8 @@ stack_item d bound f k =
 abbrev pub whole_laid : FlowsData → ℕ → List Laid
 whole_laid d s =
     let f = flow_of d (stack_of d s).flow in
-    laid_edges (before_head d (stack_of d s).bound f 0) (seam_of f 0).head ++ stack_laid d (stack_of d s).bound f 0 (length f.items)
+    laid_edges (before_head d (stack_of d s).bound f 0) (seam_of f 0).head ++ stack_laid d (stack_of d s).bound f 0
+    (length f.items)
 
 abbrev pub stack_places : FlowsData → ℕ → List Placed
 stack_places d s =

@@ -6,7 +6,8 @@ ghost use Rattle.flow_list.specs.ClonedEdges.{bottoms, open_across, tops};
 ghost use Rattle.flow_list.specs.Column.{is_forced};
 ghost use Rattle.flow_data.specs.Flows.{atom_height, flow_of, seam_of};
 ghost use Rattle.flow_list.specs.Fragments.{continued_from};
-ghost use Rattle.frag_printer.specs.Columns.{HasRoom, column_extent, column_places, column_strip, item_laid, opened_by, strip_past};
+ghost use Rattle.frag_printer.specs.Columns.{HasRoom, column_extent, column_places, column_strip, item_laid, opened_by};
+ghost use Rattle.frag_printer.specs.Columns.{strip_past};
 ghost use Rattle.frag_printer.specs.Placing.{HasMargin, Leads, placed_as, strip_of};
 
 use crate::placing::{Placed, Placing};
@@ -21,7 +22,7 @@ pub struct Column {
     pub extent: Units,
 }
 
-/// Keeps the list of open boxes, the outermost first, behind these edges.
+/// Keeps the list of open boxes, the outermost first, after these edges.
 pub fn pass_edges(boxes: &mut Vec<u32>, edges: &[Edge]) -> Result<(), NoMemory>
     ensures { OnOk result (boxes.new.items ≡ fold opened_by boxes.old.items edges.now) }
 {
@@ -131,7 +132,7 @@ fn begin_column(
     Ok(at)
 }
 
-/// Lays item `k` with the head before it and the tail behind it.
+/// Lays item `k` with the head before it and the tail after it.
 fn lay_item(
     alloc: Global,
     flows: &Flows,
@@ -145,8 +146,10 @@ fn lay_item(
     requires item { k < length (flow_of flows.now flow).items }
     requires margin { HasMargin at.old }
     requires room { HasRoom flows.now (flow_of flows.now flow) k (strip_of at.old) }
-    ensures boxes { OnOk result (boxes.new.items ≡ fold opened_by (fold opened_by boxes.old.items (seam_of (flow_of flows.now flow) k).head) (seam_of (flow_of flows.now flow) (k + 1)).tail) }
-    ensures leads { OnOk result (Leads at.old (item_laid flows.now (flow_of flows.now flow) (strip_of at.old) k) (strip_past flows.now (flow_of flows.now flow) (strip_of at.old) k) at.new) }
+    ensures boxes { OnOk result (boxes.new.items ≡ fold opened_by (fold opened_by boxes.old.items (seam_of (flow_of flows.now flow) k).head)
+        (seam_of (flow_of flows.now flow) (k + 1)).tail) }
+    ensures leads { OnOk result (Leads at.old (item_laid flows.now (flow_of flows.now flow) (strip_of at.old) k)
+        (strip_past flows.now (flow_of flows.now flow) (strip_of at.old) k) at.new) }
 {
     // Sealed flows are sound.
     let _counts = flow_counts(flows);

@@ -10,7 +10,7 @@ pub struct Output {
     pub most: u64,
 }
 
-/// Want of memory, or a text with more bytes than it may have.
+/// Out of memory, or a text with more bytes than it may have.
 #[derive(Clone, Copy)]
 pub enum PutError {
     Memory,

@@ -1,6 +1,7 @@
 //! The lines of what stands in a column.
 
-ghost use Rattle.std.specs.Prelude.{◌≡◌, ℕ, ◌+◌, ◌-◌, ◌<◌, ◌≤◌, ◌^◌, All, List, [], ◌∷◌, ◌++◌, length, map, nat_eq, option_to_list, sum_by, IfOk, IsErrOf, OnOk};
+ghost use Rattle.std.specs.Prelude.{◌≡◌, ℕ, ◌+◌, ◌-◌, ◌<◌, ◌≤◌, ◌^◌, All, List, [], ◌∷◌, ◌++◌, length, map, nat_eq};
+ghost use Rattle.std.specs.Prelude.{option_to_list, sum_by, IfOk, IsErrOf, OnOk};
 ghost use Rattle.std.specs.HashMap.{get};
 ghost use Rattle.flow_data.specs.Flows.{flow_of, item_of};
 ghost use Rattle.flow_list.specs.Fragments.{bottom_of};
@@ -59,7 +60,7 @@ pub struct Inside {
     pub bottoms: Units,
 }
 
-/// Adds something, before which stand the boxes that end behind it, with the places where they end.
+/// Adds something, before which stand the boxes that end after it, with the places where they end.
 fn add_part(
     parts: &mut Vec<Part>,
     ends: &mut HashMap<u32, Units>,
@@ -167,10 +168,12 @@ fn put_item(
     requires item { item < length (flow_of flows.now flow).items }
     requires x { at.x < 2 ^ 62 }
     requires y { at.y + y < 2 ^ 63 }
-    ensures text { OnOk result (out.new.text ≡ out.old.text ++ tree_text (item_lines no_stacks at.depth (frame_of at) item y (item_of (flow_of flows.now flow) item))) }
+    ensures text { OnOk result (out.new.text ≡ out.old.text ++ tree_text
+        (item_lines no_stacks at.depth (frame_of at) item y (item_of (flow_of flows.now flow) item))) }
     ensures within { OnOk result (KeepsLimit out.old out.new) }
     ensures long { IsErrOf result PutError.Long →
-        PassesLimit out.old (tree_text (item_lines no_stacks at.depth (frame_of at) item y (item_of (flow_of flows.now flow) item))) }
+        PassesLimit out.old (tree_text
+        (item_lines no_stacks at.depth (frame_of at) item y (item_of (flow_of flows.now flow) item))) }
 {
     // Sealed flows are sound.
     let _counts = flow_counts(flows);
@@ -201,7 +204,8 @@ fn put_piece(
     requires number { number < length flows.now.boxes }
     requires x { at.x < 2 ^ 62 }
     requires y { at.y + y < 2 ^ 63 }
-    ensures text { OnOk result (out.new.text ≡ out.old.text ++ tree_line_text (box_line flows.now at.depth (frame_of at) number starts y bottom)) }
+    ensures text { OnOk result (out.new.text ≡ out.old.text ++ tree_line_text
+        (box_line flows.now at.depth (frame_of at) number starts y bottom)) }
     ensures within { OnOk result (KeepsLimit out.old out.new) }
     ensures long { IsErrOf result PutError.Long →
         PassesLimit out.old (tree_line_text (box_line flows.now at.depth (frame_of at) number starts y bottom)) }
@@ -242,14 +246,16 @@ pub fn put_part(
     requires bottoms { at.bottoms + part_bottom flows.now part < 2 ^ 63 }
     ensures text { IfOk result (λ next. (more : List Part) →
         out.new.text ++ tree_text (part_lines flows.now no_stacks (flow_of flows.now flow) next.depth (frame_of next) more)
-        ≡ out.old.text ++ tree_text (part_lines flows.now no_stacks (flow_of flows.now flow) at.depth (frame_of at) (part ∷ more))) }
+        ≡ out.old.text ++ tree_text (part_lines flows.now no_stacks (flow_of flows.now flow) at.depth (frame_of at)
+        (part ∷ more))) }
     ensures x { IfOk result (λ next. next.x ≡ at.x) }
     ensures y { IfOk result (λ next. next.y ≡ at.y) }
     ensures depth { IfOk result (λ next. next.depth ≤ at.depth + opens_of part) }
     ensures bottoms { IfOk result (λ next. next.bottoms ≤ at.bottoms + part_bottom flows.now part) }
     ensures within { OnOk result (KeepsLimit out.old out.new) }
     ensures long { (more : List Part) → IsErrOf result PutError.Long →
-        PassesLimit out.old (tree_text (part_lines flows.now no_stacks (flow_of flows.now flow) at.depth (frame_of at) (part ∷ more))) }
+        PassesLimit out.old (tree_text
+        (part_lines flows.now no_stacks (flow_of flows.now flow) at.depth (frame_of at) (part ∷ more))) }
 {
     // Sealed flows are sound.
     let _counts = flow_counts(flows);
@@ -293,10 +299,12 @@ pub fn put_parts(
     requires x { inside.x < 2 ^ 62 }
     requires depth { inside.depth + length parts.now < 2 ^ 64 }
     requires bottoms { inside.bottoms + sum_by (part_bottom flows.now) parts.now < 2 ^ 63 }
-    ensures text { OnOk result (out.new.text ≡ out.old.text ++ tree_text (part_lines flows.now no_stacks (flow_of flows.now flow) inside.depth (frame_of inside) parts.now)) }
+    ensures text { OnOk result (out.new.text ≡ out.old.text ++ tree_text
+        (part_lines flows.now no_stacks (flow_of flows.now flow) inside.depth (frame_of inside) parts.now)) }
     ensures within { OnOk result (KeepsLimit out.old out.new) }
     ensures long { IsErrOf result PutError.Long →
-        PassesLimit out.old (tree_text (part_lines flows.now no_stacks (flow_of flows.now flow) inside.depth (frame_of inside) parts.now)) }
+        PassesLimit out.old (tree_text
+        (part_lines flows.now no_stacks (flow_of flows.now flow) inside.depth (frame_of inside) parts.now)) }
 {
     let mut at = inside;
     for part in parts {

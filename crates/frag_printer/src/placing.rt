@@ -3,9 +3,11 @@
 ghost use Rattle.std.specs.Prelude.{◌≡◌, ℕ, ◌+◌, ◌<◌, ◌≤◌, ◌^◌, List, [], ◌∷◌, ◌++◌, map, cond, false, nat_eq, sum_by, OnOk};
 ghost use Rattle.std.specs.HashSet.{contains};
 ghost use Rattle.flow_data.specs.Flows.{amount};
-ghost use Rattle.flow_list.specs.Placing.{Laid, atom, gap_places, greatest_margin, laid_edge, laid_edges, opens_among, placed_in_gap, row as row_laid};
+ghost use Rattle.flow_list.specs.Placing.{Laid, atom, gap_places, greatest_margin, laid_edge, laid_edges, opens_among};
+ghost use Rattle.flow_list.specs.Placing.{placed_in_gap, row as row_laid};
 ghost use Rattle.flow_list.specs.Strip.{lay, lay_all, put, strip_at};
-ghost use Rattle.frag_printer.specs.Placing.{HasMargin, Leads, laid_as, margin_of, placed_as, row_stands, standing, strip_of, waiting as waits, with_more};
+ghost use Rattle.frag_printer.specs.Placing.{HasMargin, Leads, laid_as, margin_of, placed_as, row_stands, standing, strip_of};
+ghost use Rattle.frag_printer.specs.Placing.{waiting as waits, with_more};
 
 use flow_list::Edge;
 use mc_base::{NoMemory, Units};
@@ -86,8 +88,10 @@ fn place(
     waiting: Waiting,
 ) -> Result<(), NoMemory>
     requires { y + margin < 2 ^ 63 }
-    ensures placed { (before : List Laid) → margin ≡ greatest_margin before → ((q : ℕ) → contains nat_eq started.old q ≡ opens_among q before) →
-        OnOk result (map placed_as placed.new.items ≡ map placed_as placed.old.items ++ placed_in_gap y end before (laid_as waiting)) }
+    ensures placed { (before : List Laid) → margin ≡ greatest_margin before
+        → ((q : ℕ) → contains nat_eq started.old q ≡ opens_among q before) →
+        OnOk result (map placed_as placed.new.items ≡ map placed_as placed.old.items ++ placed_in_gap y end before
+        (laid_as waiting)) }
     ensures started { (before : List Laid) → ((q : ℕ) → contains nat_eq started.old q ≡ opens_among q before) →
         OnOk result ((q : ℕ) → contains nat_eq started.new q ≡ opens_among q (before ++ laid_as waiting ∷ [])) }
 {
@@ -132,7 +136,8 @@ fn place_gap(
     gap: &[Waiting],
 ) -> Result<(), NoMemory>
     requires { y + greatest_margin (map laid_as gap.now) < 2 ^ 63 }
-    ensures { OnOk result (map placed_as placed.new.items ≡ map placed_as placed.old.items ++ gap_places y end [] (map laid_as gap.now)) }
+    ensures { OnOk result (map placed_as placed.new.items ≡ map placed_as placed.old.items ++ gap_places y end []
+        (map laid_as gap.now)) }
 {
     let mut started = HashSet::new(alloc);
     let mut margin: Units = 0;
@@ -192,7 +197,8 @@ impl Placing {
     fn pass(&mut self, alloc: Global, height: Units) -> Result<(), NoMemory>
         requires margin { HasMargin self.old }
         requires room { self.old.y + self.old.margin + height < 2 ^ 63 }
-        ensures placed { OnOk result (standing self.new ≡ standing self.old ++ gap_places self.old.y (self.old.y + self.old.margin) [] (waits self.old)) }
+        ensures placed { OnOk result (standing self.new ≡ standing self.old ++ gap_places self.old.y (self.old.y + self.old.margin) []
+            (waits self.old)) }
         ensures gap { OnOk result (waits self.new ≡ []) }
         ensures y { OnOk result (self.new.y ≡ self.old.y + self.old.margin + height) }
         ensures margin { OnOk result (self.new.margin ≡ 0) }
@@ -207,7 +213,8 @@ impl Placing {
 
     fn lay_margin(&mut self, margin: Units) -> Result<(), NoMemory>
         requires { HasMargin self.old }
-        ensures { OnOk result (Leads self.old (laid_edge (strip_of self.old) (Edge.Margin margin)) (lay (strip_of self.old) (Edge.Margin margin)) self.new) }
+        ensures { OnOk result (Leads self.old (laid_edge (strip_of self.old) (Edge.Margin margin))
+            (lay (strip_of self.old) (Edge.Margin margin)) self.new) }
     {
         if self.drops {
             return Ok(());
@@ -220,7 +227,8 @@ impl Placing {
     fn lay_solid(&mut self, alloc: Global, amount: Units) -> Result<(), NoMemory>
         requires margin { HasMargin self.old }
         requires room { self.old.y + self.old.margin + amount < 2 ^ 63 }
-        ensures { OnOk result (Leads self.old (laid_edge (strip_of self.old) (Edge.Solid amount)) (lay (strip_of self.old) (Edge.Solid amount)) self.new) }
+        ensures { OnOk result (Leads self.old (laid_edge (strip_of self.old) (Edge.Solid amount))
+            (lay (strip_of self.old) (Edge.Solid amount)) self.new) }
     {
         if amount == 0 {
             return Ok(());
@@ -257,7 +265,8 @@ impl Placing {
     pub fn lay_all(&mut self, alloc: Global, edges: &[Edge]) -> Result<(), NoMemory>
         requires margin { HasMargin self.old }
         requires room { self.old.y + self.old.margin + sum_by amount edges.now < 2 ^ 63 }
-        ensures { OnOk result (Leads self.old (laid_edges (strip_of self.old) edges.now) (lay_all (strip_of self.old) edges.now) self.new) }
+        ensures { OnOk result (Leads self.old (laid_edges (strip_of self.old) edges.now) (lay_all (strip_of self.old) edges.now)
+            self.new) }
     {
         for edge in edges {
             self.lay(alloc, *edge)?;
@@ -291,7 +300,8 @@ impl Placing {
     ) -> Result<(), NoMemory>
         requires margin { HasMargin self.old }
         requires room { self.old.y + self.old.margin + height < 2 ^ 63 }
-        ensures { OnOk result (Leads self.old (row_laid (row_stands row height made_at) ∷ []) (put (strip_of self.old) height) self.new) }
+        ensures { OnOk result (Leads self.old (row_laid (row_stands row height made_at) ∷ []) (put (strip_of self.old) height)
+            self.new) }
     {
         if height == 0 {
             self.wait(Waiting::Row { row, made_at })?;

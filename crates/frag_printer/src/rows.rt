@@ -47,12 +47,14 @@ fn put_column(
     ensures text { OnOk result (out.new.text ≡ out.old.text ++ tree_text (
         record { depth = at.depth + 1; kind = col i; x = at.x; y = at.y; w = at.w; h = at.h }
         ∷ flat_lines (row_fragments flows.now (length flows.now.rows)) flows.now no_stacks (flow_of flows.now flow) (at.depth + 2)
-        (record (frame_of at) { extent = column_extent flows.now (flow_of flows.now flow) begin end }) (column_places flows.now (flow_of flows.now flow) begin end))) }
+        (record (frame_of at) { extent = column_extent flows.now (flow_of flows.now flow) begin end })
+        (column_places flows.now (flow_of flows.now flow) begin end))) }
     ensures within { OnOk result (KeepsLimit out.old out.new) }
     ensures long { IsErrOf result PutError.Long → PassesLimit out.old (tree_text (
         record { depth = at.depth + 1; kind = col i; x = at.x; y = at.y; w = at.w; h = at.h }
         ∷ flat_lines (row_fragments flows.now (length flows.now.rows)) flows.now no_stacks (flow_of flows.now flow) (at.depth + 2)
-        (record (frame_of at) { extent = column_extent flows.now (flow_of flows.now flow) begin end }) (column_places flows.now (flow_of flows.now flow) begin end))) }
+        (record (frame_of at) { extent = column_extent flows.now (flow_of flows.now flow) begin end })
+        (column_places flows.now (flow_of flows.now flow) begin end))) }
 {
     // Sealed flows are sound.
     let _counts = flow_counts(flows);
@@ -99,10 +101,12 @@ fn put_columns(
     requires x { at.x < 2 ^ 60 }
     requires y { at.y + y < 2 ^ 62 }
     ensures text { OnOk result (out.new.text ≡ out.old.text ++ tree_text (
-        columns_lines (row_fragments flows.now (length flows.now.rows)) flows.now no_stacks row at.depth (frame_of at) y height 0 0 ends.now)) }
+        columns_lines (row_fragments flows.now (length flows.now.rows)) flows.now no_stacks row at.depth (frame_of at) y height 0
+        0 ends.now)) }
     ensures within { OnOk result (KeepsLimit out.old out.new) }
     ensures long { IsErrOf result PutError.Long → PassesLimit out.old (tree_text (
-        columns_lines (row_fragments flows.now (length flows.now.rows)) flows.now no_stacks row at.depth (frame_of at) y height 0 0 ends.now)) }
+        columns_lines (row_fragments flows.now (length flows.now.rows)) flows.now no_stacks row at.depth (frame_of at) y height 0
+        0 ends.now)) }
 {
     // Sealed flows are sound.
     let _counts = flow_counts(flows);
@@ -144,7 +148,8 @@ pub fn put_row(
     requires y { at.y + y < 2 ^ 62 }
     ensures text { OnOk result (out.new.text ≡ out.old.text ++ tree_text (flat_row_lines flows.now at.depth (frame_of at) y flat.now)) }
     ensures within { OnOk result (KeepsLimit out.old out.new) }
-    ensures long { IsErrOf result PutError.Long → PassesLimit out.old (tree_text (flat_row_lines flows.now at.depth (frame_of at) y flat.now)) }
+    ensures long { IsErrOf result PutError.Long
+        → PassesLimit out.old (tree_text (flat_row_lines flows.now at.depth (frame_of at) y flat.now)) }
 {
     // Sealed flows are sound.
     let _counts = flow_counts(flows);

@@ -45,7 +45,7 @@ fn columns_height(flows: &Flows, row: u32, height: Units, available: Option<Unit
 }
 
 /// Lays item `k` of a stack. `rows` are those of the stack, of which the next one is number `next`; it answers the number
-/// of the next one behind the item.
+/// of the next one after the item.
 fn stand_item(
     alloc: Global,
     flows: &Flows,
@@ -59,11 +59,17 @@ fn stand_item(
     requires item { k < length (flow_of flows.now stack.flow).items }
     requires strip { strip_of at.old ≡ stack_strip flows.now stack.bound (flow_of flows.now stack.flow) k }
     requires margin { HasMargin at.old }
-    requires room { at.old.y + at.old.margin + height_in_stack flows.now stack.bound (item_of (flow_of flows.now stack.flow) k) (begins (strip_of at.old)) < 2 ^ 63 }
-    requires rows { flat_rows_from flows.now stack.bound (flow_of flows.now stack.flow) k (drop k (flow_of flows.now stack.flow).items) ≡ drop next rows.now }
-    ensures leads { IfOk result (λ _. Leads at.old (laid_in_stack flows.now stack.bound (flow_of flows.now stack.flow) k (item_of (flow_of flows.now stack.flow) k) ∷ [])
-        (put (strip_of at.old) (height_in_stack flows.now stack.bound (item_of (flow_of flows.now stack.flow) k) (begins (strip_of at.old)))) at.new) }
-    ensures rows { IfOk result (λ n. flat_rows_from flows.now stack.bound (flow_of flows.now stack.flow) (k + 1) (drop (k + 1) (flow_of flows.now stack.flow).items) ≡ drop n rows.now) }
+    requires room { at.old.y + at.old.margin + height_in_stack flows.now stack.bound (item_of (flow_of flows.now stack.flow) k)
+        (begins (strip_of at.old)) < 2 ^ 63 }
+    requires rows { flat_rows_from flows.now stack.bound (flow_of flows.now stack.flow) k
+        (drop k (flow_of flows.now stack.flow).items) ≡ drop next rows.now }
+    ensures leads { IfOk result (λ _. Leads at.old
+        (laid_in_stack flows.now stack.bound (flow_of flows.now stack.flow) k
+        (item_of (flow_of flows.now stack.flow) k) ∷ [])
+        (put (strip_of at.old) (height_in_stack flows.now stack.bound (item_of (flow_of flows.now stack.flow) k)
+        (begins (strip_of at.old)))) at.new) }
+    ensures rows { IfOk result (λ n. flat_rows_from flows.now stack.bound (flow_of flows.now stack.flow) (k + 1)
+        (drop (k + 1) (flow_of flows.now stack.flow).items) ≡ drop n rows.now) }
 {
     // Sealed flows are sound.
     let _counts = flow_counts(flows);
@@ -87,8 +93,8 @@ fn stand_item(
     }
 }
 
-/// Lays item `k` of stack 0 with the head before it and the tail behind it, and keeps the list of open boxes. It answers
-/// the number of the next row behind the item.
+/// Lays item `k` of stack 0 with the head before it and the tail after it, and keeps the list of open boxes. It answers
+/// the number of the next row after the item.
 fn lay_stack_item(
     alloc: Global,
     flows: &Flows,
@@ -106,10 +112,15 @@ fn lay_stack_item(
     requires item { k < length (flow_of flows.now stack.flow).items }
     requires strip { strip_of at.old ≡ before_head flows.now stack.bound (flow_of flows.now stack.flow) k }
     requires margin { HasMargin at.old }
-    requires rows { flat_rows_from flows.now stack.bound (flow_of flows.now stack.flow) k (drop k (flow_of flows.now stack.flow).items) ≡ drop next rows.now }
-    ensures boxes { OnOk result (boxes.new.items ≡ fold opened_by (fold opened_by boxes.old.items (seam_of (flow_of flows.now stack.flow) k).head) (seam_of (flow_of flows.now stack.flow) (k + 1)).tail) }
-    ensures leads { IfOk result (λ _. Leads at.old (stack_item flows.now stack.bound (flow_of flows.now stack.flow) k) (before_head flows.now stack.bound (flow_of flows.now stack.flow) (k + 1)) at.new) }
-    ensures rows { IfOk result (λ n. flat_rows_from flows.now stack.bound (flow_of flows.now stack.flow) (k + 1) (drop (k + 1) (flow_of flows.now stack.flow).items) ≡ drop n rows.now) }
+    requires rows { flat_rows_from flows.now stack.bound (flow_of flows.now stack.flow) k
+        (drop k (flow_of flows.now stack.flow).items) ≡ drop next rows.now }
+    ensures boxes { OnOk result (boxes.new.items
+        ≡ fold opened_by (fold opened_by boxes.old.items (seam_of (flow_of flows.now stack.flow) k).head)
+        (seam_of (flow_of flows.now stack.flow) (k + 1)).tail) }
+    ensures leads { IfOk result (λ _. Leads at.old (stack_item flows.now stack.bound (flow_of flows.now stack.flow) k)
+        (before_head flows.now stack.bound (flow_of flows.now stack.flow) (k + 1)) at.new) }
+    ensures rows { IfOk result (λ n. flat_rows_from flows.now stack.bound (flow_of flows.now stack.flow) (k + 1)
+        (drop (k + 1) (flow_of flows.now stack.flow).items) ≡ drop n rows.now) }
 {
     // Sealed flows are sound.
     let _counts = flow_counts(flows);
@@ -129,7 +140,8 @@ pub fn lay_stack(alloc: Global, flows: &Flows, rows: &[FlatRow]) -> Result<Colum
     requires flat { HoldsFlatRows flows.now }
     requires rows { rows.now ≡ flat_rows flows.now }
     ensures placed { IfOk result (λ c. map placed_as c.placed.items ≡ stack_places flows.now 0) }
-    ensures extent { IfOk result (λ c. c.extent ≡ stack_extent flows.now (stack_of flows.now 0).bound (flow_of flows.now (stack_of flows.now 0).flow)) }
+    ensures extent { IfOk result (λ c. c.extent ≡ stack_extent flows.now (stack_of flows.now 0).bound
+        (flow_of flows.now (stack_of flows.now 0).flow)) }
 {
     // Sealed flows are sound.
     let _counts = flow_counts(flows);

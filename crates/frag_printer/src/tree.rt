@@ -1,6 +1,7 @@
 //! The tree of a layout whose rows hold atoms alone.
 
-ghost use Rattle.std.specs.Prelude.{◌≡◌, ◌+◌, ◌<◌, ◌≤◌, ◌^◌, All, List, [], ◌∷◌, ◌++◌, None, drop, length, sum_by, take, IfOk, IfSome, IsErrOf, OnOk};
+ghost use Rattle.std.specs.Prelude.{◌≡◌, ◌+◌, ◌<◌, ◌≤◌, ◌^◌, All, List, [], ◌∷◌, ◌++◌, None, drop, length, sum_by, take, IfOk};
+ghost use Rattle.std.specs.Prelude.{IfSome, IsErrOf, OnOk};
 ghost use Rattle.flow_data.specs.Flows.{flow_of};
 ghost use Rattle.flow_list.specs.Tree.{tree_of};
 ghost use Rattle.flow_list.specs.TreeText.{tree_text};
@@ -27,7 +28,7 @@ struct Reached {
     next: usize,
 }
 
-/// Adds the lines of something in a stack, and tells what is reached behind it.
+/// Adds the lines of something in a stack, and tells what is reached after it.
 fn put_stack_part(
     alloc: Global,
     out: &mut Output,
@@ -46,7 +47,8 @@ fn put_stack_part(
     requires bottoms { reached.at.bottoms + part_bottom flows.now part < 2 ^ 63 }
     ensures text { IfOk result (λ r. (more : List AnyPart) →
         out.new.text ++ tree_text (part_lines flows.now no_stacks (flow_of flows.now flow) r.at.depth (frame_of r.at) more)
-        ≡ out.old.text ++ tree_text (part_lines flows.now no_stacks (flow_of flows.now flow) reached.at.depth (frame_of reached.at) (part ∷ more))) }
+        ≡ out.old.text ++ tree_text (part_lines flows.now no_stacks (flow_of flows.now flow) reached.at.depth
+        (frame_of reached.at) (part ∷ more))) }
     ensures next { IfOk result (λ r. r.next ≡ reached.next + length (row_part flows.now part)) }
     ensures depth { IfOk result (λ r. r.at.depth ≤ reached.at.depth + opens_of part) }
     ensures x { IfOk result (λ r. r.at.x ≡ 0) }
@@ -54,7 +56,8 @@ fn put_stack_part(
     ensures bottoms { IfOk result (λ r. r.at.bottoms ≤ reached.at.bottoms + part_bottom flows.now part) }
     ensures within { OnOk result (KeepsLimit out.old out.new) }
     ensures long { (more : List AnyPart) → IsErrOf result PutError.Long →
-        PassesLimit out.old (tree_text (part_lines flows.now no_stacks (flow_of flows.now flow) reached.at.depth (frame_of reached.at) (part ∷ more))) }
+        PassesLimit out.old (tree_text
+        (part_lines flows.now no_stacks (flow_of flows.now flow) reached.at.depth (frame_of reached.at) (part ∷ more))) }
 {
     match part {
         Part::Row { y, .. } => {
@@ -91,10 +94,12 @@ fn put_stack_parts(
     requires x { inside.x ≡ 0 }
     requires y { inside.y ≡ 0 }
     requires bottoms { inside.bottoms + sum_by (part_bottom flows.now) parts.now < 2 ^ 63 }
-    ensures text { OnOk result (out.new.text ≡ out.old.text ++ tree_text (part_lines flows.now no_stacks (flow_of flows.now flow) inside.depth (frame_of inside) parts.now)) }
+    ensures text { OnOk result (out.new.text ≡ out.old.text ++ tree_text
+        (part_lines flows.now no_stacks (flow_of flows.now flow) inside.depth (frame_of inside) parts.now)) }
     ensures within { OnOk result (KeepsLimit out.old out.new) }
     ensures long { IsErrOf result PutError.Long →
-        PassesLimit out.old (tree_text (part_lines flows.now no_stacks (flow_of flows.now flow) inside.depth (frame_of inside) parts.now)) }
+        PassesLimit out.old (tree_text
+        (part_lines flows.now no_stacks (flow_of flows.now flow) inside.depth (frame_of inside) parts.now)) }
 {
     let mut reached = Reached {
         at: inside,
@@ -157,7 +162,7 @@ fn put_tree(
     Ok(())
 }
 
-/// The text of the tree of a layout behind `front`, or None where both have more than `most` bytes: a line for each stack,
+/// The text of the tree of a layout after `front`, or None where both have more than `most` bytes: a line for each stack,
 /// row, column, box and atom, with its depth and its rectangle from the document's top left, in units. It stops with the
 /// first line that doesn't fit.
 ///

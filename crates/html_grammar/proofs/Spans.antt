@@ -1,4 +1,4 @@
--- Places in front that pass a test, and what stands behind them.
+-- Places in front that pass a test, and what stands after them.
 use Rattle.std.proofs.Common.{◌≡◌, ℕ, List, [], ◌∷◌, ◌++◌, Bool, true, false, cond, refl, sym, ap, ◌∙◌, append_assoc}
 use Rattle.std.proofs.lemmas.Bool.{true≢false, eq-eqb, eqb-true, ne_eqb}
 use lib.Dec.{eqb}
@@ -21,9 +21,11 @@ span test (p ∷ ps) = by_test (span test ps) (test p.character) refl
     by_test : Span test ps → (b : Bool) → test p.character ≡ b → Span test (p ∷ ps)
     by_test s true is = record {
       front = p ∷ s.front;
-      whole = ap (λ (x : List Place). p ∷ x) s.whole ∙ sym (ap (λ (b : Bool). (p ∷ s.front) ++ cond b (behind_while test ps) (p ∷ ps)) is);
+      whole = ap (λ (x : List Place). p ∷ x) s.whole
+          ∙ sym (ap (λ (b : Bool). (p ∷ s.front) ++ cond b (behind_while test ps) (p ∷ ps)) is);
       passes = (is, s.passes);
-      codes_are = ap (λ (b : Bool). cond b (p.character ∷ codes_while test ps) []) is ∙ ap (λ (x : List ℕ). p.character ∷ x) s.codes_are;
+      codes_are = ap (λ (b : Bool). cond b (p.character ∷ codes_while test ps) []) is
+          ∙ ap (λ (x : List ℕ). p.character ∷ x) s.codes_are;
       stops = ap (λ (b : Bool). begins_with test (cond b (behind_while test ps) (p ∷ ps))) is ∙ s.stops;
     }
     by_test s false is = record {
@@ -34,17 +36,25 @@ span test (p ∷ ps) = by_test (span test ps) (test p.character) refl
       stops = ap (λ (b : Bool). begins_with test (cond b (behind_while test ps) (p ∷ ps))) is ∙ is;
     }
 
-stopped : (test : ℕ → Bool) (rest : List Place) → begins_with test rest ≡ false → (codes_while test rest ≡ []) × (behind_while test rest ≡ rest)
+stopped : (test : ℕ → Bool) (rest : List Place) → begins_with test rest ≡ false
+    → (codes_while test rest ≡ []) × (behind_while test rest ≡ rest)
 stopped test [] h = (refl, refl)
-stopped test (p ∷ ps) h = (ap (λ (b : Bool). cond b (p.character ∷ codes_while test ps) []) h, ap (λ (b : Bool). cond b (behind_while test ps) (p ∷ ps)) h)
+stopped test (p ∷ ps) h = (
+  ap (λ (b : Bool). cond b (p.character ∷ codes_while test ps) []) h,
+  ap (λ (b : Bool). cond b (behind_while test ps) (p ∷ ps)) h,
+)
 
-pub codes_back : (test : ℕ → Bool) (front rest : List Place) → Passes test front → begins_with test rest ≡ false → codes_while test (front ++ rest) ≡ codes_of front
+pub codes_back : (test : ℕ → Bool) (front rest : List Place) → Passes test front → begins_with test rest ≡ false
+    → codes_while test (front ++ rest) ≡ codes_of front
 codes_back test [] rest h stops = (stopped test rest stops).0
-codes_back test (p ∷ front) rest h stops = ap (λ (b : Bool). cond b (p.character ∷ codes_while test (front ++ rest)) []) h.0 ∙ ap (λ (x : List ℕ). p.character ∷ x) (codes_back test front rest h.1 stops)
+codes_back test (p ∷ front) rest h stops = ap (λ (b : Bool). cond b (p.character ∷ codes_while test (front ++ rest)) []) h.0
+    ∙ ap (λ (x : List ℕ). p.character ∷ x) (codes_back test front rest h.1 stops)
 
-pub behind_back : (test : ℕ → Bool) (front rest : List Place) → Passes test front → begins_with test rest ≡ false → behind_while test (front ++ rest) ≡ rest
+pub behind_back : (test : ℕ → Bool) (front rest : List Place) → Passes test front → begins_with test rest ≡ false
+    → behind_while test (front ++ rest) ≡ rest
 behind_back test [] rest h stops = (stopped test rest stops).1
-behind_back test (p ∷ front) rest h stops = ap (λ (b : Bool). cond b (behind_while test (front ++ rest)) (p ∷ (front ++ rest))) h.0 ∙ behind_back test front rest h.1 stops
+behind_back test (p ∷ front) rest h stops = ap (λ (b : Bool). cond b (behind_while test (front ++ rest)) (p ∷ (front ++ rest)))
+    h.0 ∙ behind_back test front rest h.1 stops
 
 -- the place in front, where it is this character
 pub record First (c : ℕ) (ps : List Place) : Type 0 where
@@ -69,7 +79,8 @@ begins_other test d [] h g = refl
 begins_other test d (p ∷ ps) h g = other_char test p.character d h g
 
 -- some in front pass where the first does
-pub some_pass : (test : ℕ → Bool) (front rest ps : List Place) → ps ≡ front ++ rest → Passes test front → begins_with test rest ≡ false → begins_with test ps ≡ true → SomePass test front
+pub some_pass : (test : ℕ → Bool) (front rest ps : List Place) → ps ≡ front ++ rest → Passes test front
+    → begins_with test rest ≡ false → begins_with test ps ≡ true → SomePass test front
 some_pass test [] rest ps e h stops g = absurd (true≢false (sym g ∙ ap (begins_with test) e ∙ stops))
 some_pass test (p ∷ front) rest ps e h stops g = h
 
@@ -92,7 +103,8 @@ pub record Run (test : ℕ → Bool) (ps : List Place) : Type 0 where
   pub codes_are : codes_while test ps ≡ codes_of letters
   pub behind : behind_first (behind_while test ps) ≡ rest
 
-pub run_found : (test : ℕ → Bool) (ps : List Place) → begins_with test ps ≡ true → begins 59 (behind_while test ps) ≡ true → Run test ps
+pub run_found : (test : ℕ → Bool) (ps : List Place) → begins_with test ps ≡ true → begins 59 (behind_while test ps) ≡ true
+    → Run test ps
 run_found test ps h g =
     let s = span test ps in
     let f = begins_first 59 (behind_while test ps) g in
@@ -113,12 +125,14 @@ pub record RunBack (test : ℕ → Bool) (letters rest ps : List Place) : Type 0
   pub codes_are : codes_while test ps ≡ codes_of letters
   pub behind : behind_first (behind_while test ps) ≡ rest
 
-pub run_back : (test : ℕ → Bool) (letters : List Place) (last : Place) (rest : List Place) → test 59 ≡ false → SomePass test letters → last.character ≡ 59 → RunBack test letters rest ((letters ++ last ∷ []) ++ rest)
+pub run_back : (test : ℕ → Bool) (letters : List Place) (last : Place) (rest : List Place) → test 59 ≡ false
+    → SomePass test letters → last.character ≡ 59 → RunBack test letters rest ((letters ++ last ∷ []) ++ rest)
 run_back test letters last rest other some ends =
     let e = append_assoc letters (last ∷ []) rest in
     let stops : begins_with test (last ∷ rest) ≡ false = ap test ends ∙ other in
     let passes = all_pass test letters some in
-    let behind : behind_while test ((letters ++ last ∷ []) ++ rest) ≡ last ∷ rest = ap (behind_while test) e ∙ behind_back test letters (last ∷ rest) passes stops in
+    let behind : behind_while test ((letters ++ last ∷ []) ++ rest) ≡ last ∷ rest = ap (behind_while test) e
+    ∙ behind_back test letters (last ∷ rest) passes stops in
     record {
       begun = ap (begins_with test) e ∙ begins_some test letters (last ∷ rest) some;
       ended = ap (begins 59) behind ∙ begins_back 59 last rest ends;

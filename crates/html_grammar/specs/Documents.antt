@@ -36,11 +36,13 @@ reading_as tree construct = record { built = built_as tree; construct = construc
 
 -- what is spelled as a document is read
 abbrev pub TextsAreRead : Type 0
-TextsAreRead = (bytes : List ℕ) (tree : Forest) (construct : Option Found) → IsText bytes tree construct → read_text bytes ≡ Ok (reading_as tree construct)
+TextsAreRead = (bytes : List ℕ) (tree : Forest) (construct : Option Found) → IsText bytes tree construct
+    → read_text bytes ≡ Ok (reading_as tree construct)
 
 -- what is read is spelled so
 abbrev pub WhatIsReadIsSpelled : Type 0
-WhatIsReadIsSpelled = (bytes : List ℕ) (r : Reading) → read_text bytes ≡ Ok r → (tree : Forest) × IsText bytes tree r.construct × (r ≡ reading_as tree r.construct)
+WhatIsReadIsSpelled = (bytes : List ℕ) (r : Reading) → read_text bytes ≡ Ok r → (tree : Forest) × IsText bytes tree r.construct
+    × (r ≡ reading_as tree r.construct)
 
 -- a text has at most one tree, and at most one first construct
 abbrev pub OneTreeOfText : Type 0

@@ -17,7 +17,7 @@ abbrev pub rule_of : Token → ℕ
 rule_of (End at m) = 6
 rule_of _ = 8
 
--- The first token that no document has behind those before it.
+-- The first token that no document has after those before it.
 pub record IsStuck (size : ℕ) (toks : List Token) (f : Fault) : Type 0 where
   pub front : List Token
   pub token : Token

@@ -1,9 +1,10 @@
--- Which fault of a text is the first, by the grammar alone: tokens that some document begins with, and behind them a
+-- Which fault of a text is the first, by the grammar alone: tokens that some document begins with, and after them a
 -- place where no token stands, or one with which no document goes on. Of faults at one place the one of lesser number
 -- comes first: what a token's form breaks (2, 3), a name that stands twice (4), a reference in text (5), an end tag that
--- closes nothing (6) or anything else out of its place (8), raw text without its end (9). What a tag has behind its own
+-- closes nothing (6) or anything else out of its place (8), raw text without its end (9). What a tag has after its own
 -- place comes last.
-use Rattle.std.specs.Prelude.{◌≡◌, ◌<◌, ◌≤◌, ◌⊎◌, ℕ, List, [], ◌∷◌, ◌++◌, drop, length, chars, IsUtf8, true, false, Option, Some, None, Err, codes}
+use Rattle.std.specs.Prelude.{◌≡◌, ◌<◌, ◌≤◌, ◌⊎◌, ℕ, List, [], ◌∷◌, ◌++◌, drop, length, chars, IsUtf8, true, false, Option, Some}
+use Rattle.std.specs.Prelude.{None, Err, codes}
 use Rattle.std.specs.Char.{is_ascii_alphabetic}
 use Rattle.mc_base.specs.declared.refusal.Found.{Found}
 use Rattle.mc_base.specs.declared.refusal.Refusal.{Refusal}
@@ -31,7 +32,8 @@ fault_as at rule = record { at = at; rule = rule }
 -- the places spell these tokens up to a rest
 abbrev pub IsLexedTo : List Token → List Place → List Place → Type 0
 IsLexedTo [] ps rest = ps ≡ rest
-IsLexedTo (t ∷ ts) ps rest = (one : List Place) × (more : List Place) × (ps ≡ one ++ more) × IsToken t one more × IsLexedTo ts more rest
+IsLexedTo (t ∷ ts) ps rest = (one : List Place) × (more : List Place) × (ps ≡ one ++ more) × IsToken t one more
+    × IsLexedTo ts more rest
 
 -- the places begin with a start tag
 pub record HasTag (tag : Tag) (ps : List Place) : Type 0 where
@@ -69,14 +71,17 @@ NeverEnds name ps = NoneBegins (ends_raw name) ps []
 
 -- a comment that isn't closed
 abbrev pub IsOpenComment : Place → List Place → Fault → Type 0
-IsOpenComment p ps f = (p.character ≡ 60) × (begins_text (codes "!--") ps ≡ true) × NoneBegins (begins_text (codes "-->")) (drop 3 ps) [] × (f ≡ fault_as p.at 2)
+IsOpenComment p ps f = (p.character ≡ 60) × (begins_text (codes "!--") ps ≡ true)
+    × NoneBegins (begins_text (codes "-->")) (drop 3 ps) [] × (f ≡ fault_as p.at 2)
 
 -- what begins like a tag, an end tag or a doctype, and is none
 abbrev pub IsOffForm : Place → List Place → Fault → Type 0
 IsOffForm p ps f = (p.character ≡ 60) × (f ≡ fault_as p.at 3)
     × (((begins_with is_ascii_alphabetic ps ≡ true) × ((tag : Tag) → HasTag tag (p ∷ ps) → ⊥))
-    ⊎ (((begins 47 ps ≡ true) × ((at : ℕ) (name : List ℕ) (one rest : List Place) → p ∷ ps ≡ one ++ rest → IsEndTag at name one rest → ⊥))
-    ⊎ (((begins 33 ps ≡ true) × (begins_text (codes "!--") ps ≡ false) × ((at : ℕ) (one rest : List Place) → p ∷ ps ≡ one ++ rest → IsDoctype at one → ⊥))
+    ⊎ (((begins 47 ps ≡ true) × ((at : ℕ) (name : List ℕ) (one rest : List Place) → p ∷ ps ≡ one ++ rest
+    → IsEndTag at name one rest → ⊥))
+    ⊎ (((begins 33 ps ≡ true) × (begins_text (codes "!--") ps ≡ false)
+    × ((at : ℕ) (one rest : List Place) → p ∷ ps ≡ one ++ rest → IsDoctype at one → ⊥))
     ⊎ (begins 63 ps ≡ true))))
 
 -- a tag with a name that stands twice
@@ -89,12 +94,14 @@ IsBadHere p ps f = (p.character ≡ 38) × BeginsBad ps × (f ≡ fault_as p.at 
 
 -- a token with which no document goes on
 abbrev pub IsOutOfPlace : ℕ → List Token → Place → List Place → Fault → Type 0
-IsOutOfPlace size front p ps f = (t : Token) × (one : List Place) × (rest : List Place) × (p ∷ ps ≡ one ++ rest) × IsToken t one rest
+IsOutOfPlace size front p ps f = (t : Token) × (one : List Place) × (rest : List Place) × (p ∷ ps ≡ one ++ rest)
+    × IsToken t one rest
     × (IsFront size (front ++ t ∷ []) → ⊥) × (f ≡ fault_as p.at (rule_of t))
 
 -- a tag with which no document goes on, whatever its attributes and its content
 abbrev pub IsTagOutOfPlace : ℕ → List Token → Place → List Place → Fault → Type 0
-IsTagOutOfPlace size front p ps f = (tag : Tag) × HasTag tag (p ∷ ps) × IsOnce tag × Barred size front tag.name × (f ≡ fault_as p.at 8)
+IsTagOutOfPlace size front p ps f = (tag : Tag) × HasTag tag (p ∷ ps) × IsOnce tag × Barred size front tag.name
+    × (f ≡ fault_as p.at 8)
 
 -- a tag in its place with raw text that doesn't end; with a bad reference in its attributes; with an end tag off its form
 abbrev pub IsLate : Place → Tag → List Place → Fault → Type 0
@@ -102,16 +109,20 @@ IsLate p tag rest f =
     ((is_raw tag.name ≡ true) × NeverEnds tag.name rest × (f ≡ fault_as p.at 9))
     ⊎ (((is_raw tag.name ≡ true → RawEnds tag.name rest) × (tag.late ≡ Some f))
     ⊎ ((is_raw tag.name ≡ true) × (tag.late ≡ None) × (ends : RawEnds tag.name rest)
-    × ((at : ℕ) (name : List ℕ) (one more : List Place) → ends.behind ≡ one ++ more → IsEndTag at name one more → ⊥) × (f ≡ fault_as (place_or 0 ends.behind) 3)))
+    × ((at : ℕ) (name : List ℕ) (one more : List Place) → ends.behind ≡ one ++ more → IsEndTag at name one more → ⊥)
+    × (f ≡ fault_as (place_or 0 ends.behind) 3)))
 
 abbrev pub IsLateHere : ℕ → List Token → Place → List Place → Fault → Type 0
-IsLateHere size front p ps f = (tag : Tag) × (has : HasTag tag (p ∷ ps)) × IsOnce tag × Allowed size front tag.name × IsLate p tag has.rest f
+IsLateHere size front p ps f = (tag : Tag) × (has : HasTag tag (p ∷ ps)) × IsOnce tag × Allowed size front tag.name
+    × IsLate p tag has.rest f
 
 abbrev pub IsFaultHere : ℕ → List Token → Place → List Place → Fault → Type 0
 IsFaultHere size front p ps f =
-    IsOpenComment p ps f ⊎ (IsOffForm p ps f ⊎ (IsTwice p ps f ⊎ (IsBadHere p ps f ⊎ (IsOutOfPlace size front p ps f ⊎ (IsTagOutOfPlace size front p ps f ⊎ IsLateHere size front p ps f)))))
+    IsOpenComment p ps f ⊎ (IsOffForm p ps f
+    ⊎ (IsTwice p ps f ⊎ (IsBadHere p ps f
+    ⊎ (IsOutOfPlace size front p ps f ⊎ (IsTagOutOfPlace size front p ps f ⊎ IsLateHere size front p ps f)))))
 
--- Behind these tokens: at the next place, or at the end of the text, where an element is open whose end tag may not be
+-- After these tokens: at the next place, or at the end of the text, where an element is open whose end tag may not be
 -- missing (7).
 abbrev pub IsFaultBehind : ℕ → List Token → List Place → Fault → Type 0
 IsFaultBehind size front [] f = ((tree : Forest) → IsDocument size front tree → ⊥) × (f ≡ fault_as size 7)
@@ -140,8 +151,10 @@ TheFaultOfATextIsTheFirst = (bytes : List ℕ) (f : Fault) → read_text bytes �
 abbrev pub IsRefusalOf : List ℕ → Refusal → Type 0
 IsRefusalOf bytes e =
     ((f : Fault) × IsFirstFaultOf bytes f × (e ≡ grammar_refusal f))
-    ⊎ (((tree : Forest) × (construct : Option Found) × IsText bytes tree construct × (20000 < count_elements (nodes_from None 0 tree)) × (e ≡ refusals.Limit limits.Elements 20001 20000))
-    ⊎ ((tree : Forest) × (construct : Option Found) × IsText bytes tree construct × (count_elements (nodes_from None 0 tree) ≤ 20000) × (64 < depth_of tree) × (e ≡ refusals.Limit limits.Depth 65 64)))
+    ⊎ (((tree : Forest) × (construct : Option Found) × IsText bytes tree construct
+    × (20000 < count_elements (nodes_from None 0 tree)) × (e ≡ refusals.Limit limits.Elements 20001 20000))
+    ⊎ ((tree : Forest) × (construct : Option Found) × IsText bytes tree construct
+    × (count_elements (nodes_from None 0 tree) ≤ 20000) × (64 < depth_of tree) × (e ≡ refusals.Limit limits.Depth 65 64)))
 
 -- every refusal has such a reason
 abbrev pub RefusalsHaveReasons : Type 0

@@ -1,5 +1,6 @@
 -- Which tokens have which tree: by recursion on the tree, without any list of open elements.
-use Rattle.std.specs.Prelude.{◌≡◌, ◌⊎◌, ℕ, List, [], ◌∷◌, ◌++◌, Bool, true, false, IsTrue, MatchBool, if◌then◌else◌, Option, Some, None, max, suc, codes, encode_utf8}
+use Rattle.std.specs.Prelude.{◌≡◌, ◌⊎◌, ℕ, List, [], ◌∷◌, ◌++◌, Bool, true, false, IsTrue, MatchBool, if◌then◌else◌, Option, Some}
+use Rattle.std.specs.Prelude.{None, max, suc, codes, encode_utf8}
 use Rattle.html_grammar.specs.declared.dom.Attribute.{Attribute}
 use Rattle.mc_base.specs.declared.read_error.Fault.{Fault}
 use Rattle.html_grammar.specs.declared.token.Piece.{Piece}
@@ -11,7 +12,7 @@ use Rattle.html_grammar.specs.Names.{same, is_outer, is_void, is_head_void, omit
 use Rattle.html_grammar.specs.Tokens.{place_of, is_blank, is_start, is_end, is_doctype, is_head_element, attributes_of}
 use Rattle.html_grammar.specs.Tree.{Forest, Nil, Element, Words}
 
--- behind comments
+-- after comments
 abbrev pub skip_comments : List Token → List Token
 skip_comments [] = []
 skip_comments (Start tag ∷ ts) = Start tag ∷ ts
@@ -21,7 +22,7 @@ skip_comments (Comment at ∷ ts) = skip_comments ts
 skip_comments (Doctype at ∷ ts) = Doctype at ∷ ts
 skip_comments (Char at c s ∷ ts) = Char at c s ∷ ts
 
--- behind comments and white space
+-- after comments and white space
 abbrev pub skip_blank : List Token → List Token
 skip_blank [] = []
 skip_blank (t ∷ ts) = if is_blank t then skip_blank ts else (t ∷ ts)
@@ -31,7 +32,7 @@ abbrev pub run_text : List Token → List ℕ
 run_text (Char at c s ∷ ts) = encode_utf8 c ++ run_text ts
 run_text _ = []
 
--- and what stands behind it
+-- and what stands after it
 abbrev pub behind_run : List Token → List Token
 behind_run [] = []
 behind_run (Start tag ∷ ts) = Start tag ∷ ts
@@ -73,7 +74,8 @@ Content name (Element at m attrs kids next) toks rest =
     (unknown : Option ℕ) × (late : Option Fault) × (inner : List Token) × (after : List Token) × (closes m name ≡ false)
     × (((skip_comments toks ≡ Start (tag_as at m attrs unknown late) ∷ inner) × (is_outer m ≡ false)
     × MatchBool (is_void m) ((kids ≡ Nil) × (after ≡ inner)) ((end : List Token) × Content m kids inner end × Closed m end after))
-    ⊎ ((text : Option Piece) × (skip_comments toks ≡ Raw (tag_as at m attrs unknown late) text ∷ inner) × (kids ≡ raw_forest text) × (after ≡ inner)))
+    ⊎ ((text : Option Piece) × (skip_comments toks ≡ Raw (tag_as at m attrs unknown late) text ∷ inner) × (kids ≡ raw_forest text)
+    × (after ≡ inner)))
     × Content name next after rest
 
 abbrev pub begins_head_element : List Token → Bool
@@ -99,7 +101,8 @@ pub record Begun : Type 0 where
 
 abbrev pub begun : List ℕ → ℕ → List Token → Begun
 begun name size [] = record { at = size; attributes = []; inner = [] }
-begun name size (t ∷ ts) = if is_start name t then record { at = place_of t; attributes = attributes_of t; inner = ts } else record { at = place_of t; attributes = []; inner = t ∷ ts }
+begun name size (t ∷ ts) = if is_start name t then record { at = place_of t; attributes = attributes_of t; inner = ts } else
+    record { at = place_of t; attributes = []; inner = t ∷ ts }
 
 abbrev pub behind_doctype : List Token → List Token
 behind_doctype [] = []
@@ -109,7 +112,7 @@ abbrev pub behind_end : List ℕ → List Token → List Token
 behind_end m [] = []
 behind_end m (t ∷ ts) = if is_end m t then ts else (t ∷ ts)
 
--- where html begins, in a text of this many bytes; where head begins; where body begins behind the head's elements
+-- where html begins, in a text of this many bytes; where head begins; where body begins after the head's elements
 abbrev pub html_begun : ℕ → List Token → Begun
 html_begun size toks = begun (codes "html") size (skip_blank (behind_doctype (skip_blank toks)))
 

@@ -13,11 +13,13 @@ built_as tree = record { nodes = nodes_from None 0 tree; deepest = depth_of tree
 
 -- what is a document is read, with the nodes of its tree
 abbrev pub DocumentsAreRead : Type 0
-DocumentsAreRead = (size : ℕ) (toks : List Token) (tree : Forest) → IsDocument size toks tree → built size toks ≡ Ok (built_as tree)
+DocumentsAreRead = (size : ℕ) (toks : List Token) (tree : Forest) → IsDocument size toks tree
+    → built size toks ≡ Ok (built_as tree)
 
 -- what is read is a document
 abbrev pub WhatIsReadIsADocument : Type 0
-WhatIsReadIsADocument = (size : ℕ) (toks : List Token) (all : Built) → built size toks ≡ Ok all → (tree : Forest) × IsDocument size toks tree × (all ≡ built_as tree)
+WhatIsReadIsADocument = (size : ℕ) (toks : List Token) (all : Built) → built size toks ≡ Ok all
+    → (tree : Forest) × IsDocument size toks tree × (all ≡ built_as tree)
 
 -- tokens have at most one tree
 abbrev pub OneTree : Type 0

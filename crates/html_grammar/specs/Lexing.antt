@@ -1,6 +1,8 @@
 -- The token in front of the places of a text, as it is read. In the functions on counts the count is at least that of
 -- the places.
-use Rattle.std.specs.Prelude.{ℕ, zero, suc, ◌+◌, ◌*◌, ◌==◌, nat_lt, min, List, [], ◌∷◌, ◌++◌, map, drop, length, Bool, true, false, ◌&&◌, ◌||◌, not, if◌then◌else◌, Option, Some, None, Result, Ok, Err, codes, encode_utf8, encode_utf8_all, option_map, unwrap_or}
+use Rattle.std.specs.Prelude.{ℕ, zero, suc, ◌+◌, ◌*◌, ◌==◌, nat_lt, min, List, [], ◌∷◌, ◌++◌, map, drop, length, Bool, true}
+use Rattle.std.specs.Prelude.{false, ◌&&◌, ◌||◌, not, if◌then◌else◌, Option, Some, None, Result, Ok, Err, codes, encode_utf8}
+use Rattle.std.specs.Prelude.{encode_utf8_all, option_map, unwrap_or}
 use Rattle.std.specs.Char.{to_ascii_lowercase, is_ascii_alphabetic, is_ascii_alphanumeric, is_digit, digit_value}
 use Rattle.mc_base.specs.Reading.{◌>>=◌, fault}
 use Rattle.html_grammar.specs.declared.dom.Attribute.{Attribute}
@@ -49,7 +51,7 @@ begins_folded [] ps = true
 begins_folded (c ∷ cs) [] = false
 begins_folded (c ∷ cs) (p ∷ ps) = (to_ascii_lowercase p.character == c) && begins_folded cs ps
 
--- References, behind their &.
+-- References, after their &.
 
 -- the number that digits spell, cut at 110000, above which no character is
 abbrev pub number_from : ℕ → ℕ → List ℕ → ℕ
@@ -70,7 +72,8 @@ numbered n ps rest = if is_character n then (meanings.Character n, rest) else (m
 unfoldable pub number_at : ℕ → List Place → List Place → Meaning × List Place
 number_at radix ps digits =
     if begins_with (is_radix_digit radix) digits && begins 59 (behind_while (is_radix_digit radix) digits)
-    then numbered (number_from radix 0 (codes_while (is_radix_digit radix) digits)) ps (behind_first (behind_while (is_radix_digit radix) digits))
+    then numbered (number_from radix 0 (codes_while (is_radix_digit radix) digits)) ps
+    (behind_first (behind_while (is_radix_digit radix) digits))
     else (meanings.Plain, ps)
 
 abbrev pub found_or_unknown : Option ℕ → List Place → List Place → Meaning × List Place
@@ -81,10 +84,11 @@ found_or_unknown (Some c) ps rest = (meanings.Character c, rest)
 unfoldable pub name_at : List Place → Meaning × List Place
 name_at ps =
     if begins_with is_ascii_alphanumeric ps && begins 59 (behind_while is_ascii_alphanumeric ps)
-    then found_or_unknown (named_character (codes_while is_ascii_alphanumeric ps)) ps (behind_first (behind_while is_ascii_alphanumeric ps))
+    then found_or_unknown (named_character (codes_while is_ascii_alphanumeric ps)) ps
+    (behind_first (behind_while is_ascii_alphanumeric ps))
     else (meanings.Plain, ps)
 
--- what a & begins, and what stands behind the reference, or behind the & where it is none
+-- what a & begins, and what stands after the reference, or after the & where it is none
 unfoldable pub meaning_at : List Place → Meaning × List Place
 meaning_at ps =
     if begins 35 ps then
@@ -106,15 +110,17 @@ with_char v c = record { text = v.text ++ encode_utf8 c; unknown = v.unknown; ba
 
 abbrev pub by_meaning : Value → ℕ → Meaning × List Place → Value × List Place
 by_meaning v at (meanings.Plain, rest) = (with_char v 38, rest)
-by_meaning v at (meanings.Unknown, rest) = (record { text = v.text ++ encode_utf8 38; unknown = first_of v.unknown at; bad = v.bad }, rest)
-by_meaning v at (meanings.Bad, rest) = (record { text = v.text ++ encode_utf8 38; unknown = v.unknown; bad = first_of v.bad at }, rest)
+by_meaning v at (meanings.Unknown, rest) =
+    (record { text = v.text ++ encode_utf8 38; unknown = first_of v.unknown at; bad = v.bad }, rest)
+by_meaning v at (meanings.Bad, rest) =
+    (record { text = v.text ++ encode_utf8 38; unknown = v.unknown; bad = first_of v.bad at }, rest)
 by_meaning v at (meanings.Character c, rest) = (with_char v c, rest)
 
--- a value with what the first place adds, and what stands behind
+-- a value with what the first place adds, and what stands after
 unfoldable pub added : Value → Place → List Place → Value × List Place
 added v p ps = if p.character == 38 then by_meaning v p.at (meaning_at ps) else (with_char v p.character, ps)
 
--- a value so far, and the characters behind it that pass a test
+-- a value so far, and the characters after it that pass a test
 unfoldable pub value_from : ℕ → (ℕ → Bool) → Value → List Place → Value × List Place
 value_from zero test v ps = (v, ps)
 value_from (suc n) test v [] = (v, [])
@@ -123,11 +129,12 @@ value_from (suc n) test v (p ∷ ps) = if test p.character then value_from n tes
 abbrev pub read_as : List ℕ → ℕ → Value × List Place → List Place → Result (ReadAttribute × List Place) Fault
 read_as name at v rest = Ok (record { name = name; value = v.0; offset = at }, rest)
 
--- behind an opening quote, in a tag at this byte
+-- after an opening quote, in a tag at this byte
 unfoldable pub quoted_at : ℕ → ℕ → List ℕ → ℕ → List Place → Result (ReadAttribute × List Place) Fault
 quoted_at n tag name q ps =
     if begins q (value_from n (is_other q) empty_value ps).1
-    then read_as name (place_or 0 ps) (value_from n (is_other q) empty_value ps) (behind_first (value_from n (is_other q) empty_value ps).1)
+    then read_as name (place_or 0 ps) (value_from n (is_other q) empty_value ps)
+    (behind_first (value_from n (is_other q) empty_value ps).1)
     else fault tag 3
 
 unfoldable pub bare_at : ℕ → ℕ → List ℕ → List Place → Result (ReadAttribute × List Place) Fault
@@ -136,16 +143,17 @@ bare_at n tag name ps =
     then read_as name (place_or 0 ps) (value_from n is_bare_char empty_value ps) (value_from n is_bare_char empty_value ps).1
     else fault tag 3
 
--- behind the =
+-- after the =
 unfoldable pub value_at : ℕ → ℕ → List ℕ → List Place → Result (ReadAttribute × List Place) Fault
 value_at n tag name ps =
     if begins 34 ps then quoted_at n tag name 34 (behind_first ps)
     else (if begins 39 ps then quoted_at n tag name 39 (behind_first ps)
     else bare_at n tag name ps)
 
--- behind the name, which begins at a byte
+-- after the name, which begins at a byte
 unfoldable pub assigned_at : ℕ → ℕ → ℕ → List ℕ → List Place → Result (ReadAttribute × List Place) Fault
-assigned_at n tag at name ps = if begins 61 ps then value_at n tag name (behind_first ps) else read_as name at (empty_value, ps) ps
+assigned_at n tag at name ps =
+    if begins 61 ps then value_at n tag name (behind_first ps) else read_as name at (empty_value, ps) ps
 
 -- an attribute's name in front: in lower case, as bytes
 abbrev pub key : List Place → List ℕ
@@ -165,7 +173,8 @@ unfoldable pub piece_at : ℕ → ℕ → List Place → Result (Option ReadAttr
 piece_at n tag ps =
     if begins 62 (behind_while is_space ps) then Ok (None, behind_first (behind_while is_space ps))
     else (if begins 47 (behind_while is_space ps) then
-    (if begins 62 (behind_first (behind_while is_space ps)) then Ok (None, behind_first (behind_first (behind_while is_space ps))) else fault tag 3)
+    (if begins 62 (behind_first (behind_while is_space ps)) then Ok (None, behind_first (behind_first (behind_while is_space ps)))
+    else fault tag 3)
     else
     (if begins_with is_space ps then (attribute_at n tag (behind_while is_space ps) >>= some_attribute) else fault tag 3))
 
@@ -183,12 +192,13 @@ with_attribute x a = record {
   bad = or_first x.bad a.value.bad;
 }
 
--- behind a piece: more, or the end
-abbrev pub continued : ReadAttributes → Option ReadAttribute → List Place → (ReadAttributes → Result (ReadAttributes × List Place) Fault) → Result (ReadAttributes × List Place) Fault
+-- after a piece: more, or the end
+abbrev pub continued : ReadAttributes → Option ReadAttribute → List Place
+    → (ReadAttributes → Result (ReadAttributes × List Place) Fault) → Result (ReadAttributes × List Place) Fault
 continued x None rest more = Ok (x, rest)
 continued x (Some a) rest more = more (with_attribute x a)
 
--- the attributes so far and those up to the end of the tag, and what stands behind it
+-- the attributes so far and those up to the end of the tag, and what stands after it
 unfoldable pub attributes_from : ℕ → ℕ → ℕ → ReadAttributes → List Place → Result (ReadAttributes × List Place) Fault
 attributes_from zero n tag x ps = fault tag 3
 attributes_from (suc k) n tag x ps = piece_at n tag ps >>= λ r. continued x r.0 r.1 (λ y. attributes_from k n tag y r.1)
@@ -208,7 +218,7 @@ is_doubled (a ∷ rest) = is_named a.name rest || is_doubled rest
 abbrev pub tag_name : List Place → List ℕ
 tag_name ps = map to_ascii_lowercase (codes_while is_name_char ps)
 
--- an end tag behind its </
+-- an end tag after its </
 unfoldable pub end_at : ℕ → List Place → Result (Token × List Place) Fault
 end_at at ps =
     if begins_with is_ascii_alphabetic ps && begins 62 (behind_while is_space (behind_while is_name_char ps))
@@ -221,7 +231,8 @@ is_past_name c = is_space c || ((c == 47) || (c == 62))
 
 abbrev pub ends_raw : List ℕ → List Place → Bool
 ends_raw name ps =
-    begins 60 ps && (begins 47 (behind_first ps) && (begins_folded name (drop 2 ps) && begins_with is_past_name (drop (length name) (drop 2 ps))))
+    begins 60 ps && (begins 47 (behind_first ps)
+    && (begins_folded name (drop 2 ps) && begins_with is_past_name (drop (length name) (drop 2 ps))))
 
 abbrev pub raw_codes : List ℕ → List Place → List ℕ
 raw_codes name [] = []
@@ -236,9 +247,15 @@ abbrev pub raw_piece : ℕ → List ℕ → Option Piece
 raw_piece at [] = None
 raw_piece at (c ∷ cs) = Some (record { at = at; text = encode_utf8_all (c ∷ cs) })
 
--- a tag with a fault that comes behind those that it has
+-- a tag with a fault that comes after those that it has
 abbrev pub or_late : Tag → Fault → Tag
-or_late tag f = record { at = tag.at; name = tag.name; attributes = tag.attributes; unknown = tag.unknown; late = Some (unwrap_or tag.late f) }
+or_late tag f = record {
+  at = tag.at;
+  name = tag.name;
+  attributes = tag.attributes;
+  unknown = tag.unknown;
+  late = Some (unwrap_or tag.late f);
+}
 
 abbrev pub with_late : Tag → Fault → Tag
 with_late tag f = record { at = tag.at; name = tag.name; attributes = tag.attributes; unknown = tag.unknown; late = Some f }
@@ -247,11 +264,12 @@ abbrev pub raw_ended : Tag → Option Piece → Result (Token × List Place) Fau
 raw_ended tag text (Ok e) = Ok (Raw tag text, e.1)
 raw_ended tag text (Err f) = Ok (Raw (or_late tag f) text, [])
 
--- the content and the end tag of a raw element, behind its start tag
+-- the content and the end tag of a raw element, after its start tag
 unfoldable pub raw_at : Tag → List Place → Result (Token × List Place) Fault
 raw_at tag ps =
     if begins 60 (behind_raw tag.name ps)
-    then raw_ended tag (raw_piece (place_or 0 ps) (raw_codes tag.name ps)) (end_at (place_or 0 (behind_raw tag.name ps)) (drop 2 (behind_raw tag.name ps)))
+    then raw_ended tag (raw_piece (place_or 0 ps) (raw_codes tag.name ps))
+    (end_at (place_or 0 (behind_raw tag.name ps)) (drop 2 (behind_raw tag.name ps)))
     else Ok (Raw (with_late tag (record { at = tag.at; rule = 9 })) None, [])
 
 abbrev pub bad_reference : ℕ → Fault
@@ -260,7 +278,7 @@ bad_reference at = record { at = at; rule = 5 }
 abbrev pub tag_of : ℕ → List ℕ → ReadAttributes → Tag
 tag_of at name x = record { at = at; name = name; attributes = x.all; unknown = x.unknown; late = option_map bad_reference x.bad }
 
--- a start tag with what belongs to it: raw text, and the line feed behind <pre>
+-- a start tag with what belongs to it: raw text, and the line feed after <pre>
 unfoldable pub behind_tag : Tag → List Place → Result (Token × List Place) Fault
 behind_tag tag ps =
     if is_raw tag.name then raw_at tag ps
@@ -269,7 +287,7 @@ behind_tag tag ps =
 abbrev pub or_doubled : ℕ → List ℕ → ReadAttributes × List Place → Result (Token × List Place) Fault
 or_doubled at name x = if is_doubled x.0.all then fault at 4 else behind_tag (tag_of at name x.0) x.1
 
--- a start tag behind its <
+-- a start tag after its <
 unfoldable pub start_at : ℕ → ℕ → List Place → Result (Token × List Place) Fault
 start_at n at ps = attributes_from n n at no_attributes (behind_while is_name_char ps) >>= or_doubled at (tag_name ps)
 
@@ -280,15 +298,17 @@ abbrev pub from_text : List ℕ → List Place → List Place
 from_text t [] = []
 from_text t (p ∷ ps) = if begins_text t (p ∷ ps) then (p ∷ ps) else from_text t ps
 
--- behind <!--
+-- after <!--
 unfoldable pub comment_at : ℕ → List Place → Result (Token × List Place) Fault
-comment_at at ps = if begins 45 (from_text (codes "-->") ps) then Ok (Comment at, drop 3 (from_text (codes "-->") ps)) else fault at 2
+comment_at at ps = if begins 45 (from_text (codes "-->") ps) then Ok (Comment at, drop 3 (from_text (codes "-->") ps)) else
+    fault at 2
 
--- behind <!doctype
+-- after <!doctype
 unfoldable pub doctype_at : ℕ → List Place → Result (Token × List Place) Fault
-doctype_at at ps = if begins 62 (behind_while (is_other 62) ps) then Ok (Doctype at, behind_first (behind_while (is_other 62) ps)) else fault at 3
+doctype_at at ps = if begins 62 (behind_while (is_other 62) ps) then Ok (Doctype at, behind_first (behind_while (is_other 62) ps))
+    else fault at 3
 
--- behind the < of <!
+-- after the < of <!
 unfoldable pub mark_at : ℕ → List Place → Result (Token × List Place) Fault
 mark_at at ps =
     if begins_text (codes "!--") ps then comment_at at (drop 3 ps)
@@ -301,7 +321,7 @@ char_by_meaning at (meanings.Unknown, rest) = Ok (Char at 38 Unknown, rest)
 char_by_meaning at (meanings.Bad, rest) = fault at 5
 char_by_meaning at (meanings.Character c, rest) = Ok (Char at c Reference, rest)
 
--- a token behind its first place
+-- a token after its first place
 unfoldable pub token_at : ℕ → Place → List Place → Result (Token × List Place) Fault
 token_at n p ps =
     if p.character == 60 then

@@ -1,5 +1,6 @@
 -- The tree of tokens, or the first fault, as a run of steps.
-use Rattle.std.specs.Prelude.{ℕ, ◌+◌, max, List, [], ◌∷◌, ◌++◌, length, Option, Some, None, Result, Ok, Bool, true, false, ◌&&◌, not, if◌then◌else◌, codes, encode_utf8}
+use Rattle.std.specs.Prelude.{ℕ, ◌+◌, max, List, [], ◌∷◌, ◌++◌, length, Option, Some, None, Result, Ok, Bool, true, false, ◌&&◌}
+use Rattle.std.specs.Prelude.{not, if◌then◌else◌, codes, encode_utf8}
 use Rattle.mc_base.specs.Reading.{◌>>=◌, fault}
 use Rattle.html_grammar.specs.declared.dom.Attribute.{Attribute}
 use Rattle.html_grammar.specs.declared.dom.DomNode.{DomNode}
@@ -84,21 +85,29 @@ without at m html [] = if html && same m (codes "html") then Ok ([], false) else
 without at m html (o ∷ os) = if same m o.name then Ok (os, html) else (if omits o.name then without at m html os else fault at 6)
 
 abbrev pub ended : State → List DomNode → List Open × Bool → Result State Fault
-ended s nodes left = Ok (record { stage = s.stage; nodes = nodes; words = None; opens = left.0; html = left.1; deepest = s.deepest })
+ended s nodes left =
+    Ok (record { stage = s.stage; nodes = nodes; words = None; opens = left.0; html = left.1; deepest = s.deepest })
 
 abbrev pub with_words : State → Option Piece → State
-with_words s words = record { stage = s.stage; nodes = s.nodes; words = words; opens = s.opens; html = s.html; deepest = s.deepest }
+with_words s words = record {
+  stage = s.stage;
+  nodes = s.nodes;
+  words = words;
+  opens = s.opens;
+  html = s.html;
+  deepest = s.deepest;
+}
 
 abbrev pub spoken : Option Piece → ℕ → ℕ → Piece
 spoken None at c = record { at = at; text = encode_utf8 c }
 spoken (Some p) at c = record { at = p.at; text = p.text ++ encode_utf8 c }
 
--- a character of the text; behind the body only white space stands
+-- a character of the text; after the body only white space stands
 abbrev pub spell : State → ℕ → ℕ → Spelled → List Open → Result State Fault
 spell s at c spelled [] = if is_white c spelled then Ok s else fault at 8
 spell s at c spelled (o ∷ os) = Ok (with_words s (Some (spoken s.words at c)))
 
--- a token in the body, or behind it
+-- a token in the body, or after it
 unfoldable pub step : State → Token → Result State Fault
 step s (Start tag) = started s (nodes_at_rest s) tag (drop_closed tag.name s.opens)
 step s (Raw tag text) = raw_put s (nodes_at_rest s) tag text (drop_closed tag.name s.opens)
@@ -109,16 +118,37 @@ step s (Char at c spelled) = spell s at c spelled s.opens
 
 -- one of html, head and body begins
 abbrev pub begin_html : State → ℕ → List Attribute → State
-begin_html s at attrs = record { stage = BeforeHead; nodes = s.nodes ++ element_node None at (codes "html") attrs ∷ []; words = None; opens = s.opens; html = s.html; deepest = max s.deepest 2 }
+begin_html s at attrs = record {
+  stage = BeforeHead;
+  nodes = s.nodes ++ element_node None at (codes "html") attrs ∷ [];
+  words = None;
+  opens = s.opens;
+  html = s.html;
+  deepest = max s.deepest 2;
+}
 
 abbrev pub begin_head : State → ℕ → List Attribute → State
-begin_head s at attrs = record { stage = InHead; nodes = s.nodes ++ element_node (Some 0) at (codes "head") attrs ∷ []; words = None; opens = s.opens; html = s.html; deepest = s.deepest }
+begin_head s at attrs = record {
+  stage = InHead;
+  nodes = s.nodes ++ element_node (Some 0) at (codes "head") attrs ∷ [];
+  words = None;
+  opens = s.opens;
+  html = s.html;
+  deepest = s.deepest;
+}
 
 abbrev pub end_head : State → State
 end_head s = record { stage = BehindHead; nodes = s.nodes; words = None; opens = s.opens; html = s.html; deepest = s.deepest }
 
 abbrev pub begin_body : State → ℕ → List Attribute → State
-begin_body s at attrs = record { stage = InBody; nodes = s.nodes ++ element_node (Some 0) at (codes "body") attrs ∷ []; words = None; opens = record { number = length s.nodes; name = codes "body" } ∷ []; html = s.html; deepest = s.deepest }
+begin_body s at attrs = record {
+  stage = InBody;
+  nodes = s.nodes ++ element_node (Some 0) at (codes "body") attrs ∷ [];
+  words = None;
+  opens = record { number = length s.nodes; name = codes "body" } ∷ [];
+  html = s.html;
+  deepest = s.deepest;
+}
 
 -- the nodes of an element of the head, whose number is 1
 abbrev pub head_element : List DomNode → Token → List DomNode
@@ -130,10 +160,24 @@ head_element nodes (Doctype at) = nodes
 head_element nodes (Char at c s) = nodes
 
 abbrev pub in_head : State → Token → State
-in_head s t = record { stage = s.stage; nodes = head_element s.nodes t; words = None; opens = s.opens; html = s.html; deepest = max s.deepest 3 }
+in_head s t = record {
+  stage = s.stage;
+  nodes = head_element s.nodes t;
+  words = None;
+  opens = s.opens;
+  html = s.html;
+  deepest = max s.deepest 3;
+}
 
 abbrev pub with_doctype : State → State
-with_doctype s = record { stage = Opening true; nodes = s.nodes; words = s.words; opens = s.opens; html = s.html; deepest = s.deepest }
+with_doctype s = record {
+  stage = Opening true;
+  nodes = s.nodes;
+  words = s.words;
+  opens = s.opens;
+  html = s.html;
+  deepest = s.deepest;
+}
 
 -- a token at each stage; one that a part doesn't take begins the next part
 unfoldable pub take_behind_head : State → Token → Result State Fault
@@ -192,7 +236,7 @@ conclude_at InBody size s = finish size s
 unfoldable pub conclude : ℕ → State → Result Built Fault
 conclude size s = conclude_at s.stage size s
 
--- the reading behind these tokens, or the first fault
+-- the reading after these tokens, or the first fault
 abbrev pub read_all : State → List Token → Result State Fault
 read_all s [] = Ok s
 read_all s (t ∷ ts) = take_token s t >>= λ next. read_all next ts

@@ -17,7 +17,8 @@ is_outer name = is_in name (codes "html" ∷ codes "head" ∷ codes "body" ∷ [
 
 -- elements without content (HTML, "void elements"; this profile's list)
 unfoldable pub is_void : List ℕ → Bool
-is_void name = is_in name (codes "area" ∷ codes "base" ∷ codes "br" ∷ codes "col" ∷ codes "embed" ∷ codes "hr" ∷ codes "img" ∷ codes "input" ∷ codes "link" ∷ codes "meta" ∷ codes "source" ∷ codes "track" ∷ codes "wbr" ∷ [])
+is_void name = is_in name (codes "area" ∷ codes "base" ∷ codes "br" ∷ codes "col" ∷ codes "embed" ∷ codes "hr" ∷ codes "img"
+    ∷ codes "input" ∷ codes "link" ∷ codes "meta" ∷ codes "source" ∷ codes "track" ∷ codes "wbr" ∷ [])
 
 -- elements whose content is raw text
 unfoldable pub is_raw : List ℕ → Bool
@@ -33,7 +34,10 @@ omits name = is_in name (codes "p" ∷ codes "li" ∷ codes "dt" ∷ codes "dd" 
 
 -- elements whose start tag closes an innermost p
 unfoldable pub is_block : List ℕ → Bool
-is_block name = is_in name (codes "address" ∷ codes "article" ∷ codes "aside" ∷ codes "blockquote" ∷ codes "details" ∷ codes "div" ∷ codes "dl" ∷ codes "fieldset" ∷ codes "figcaption" ∷ codes "figure" ∷ codes "footer" ∷ codes "form" ∷ codes "h1" ∷ codes "h2" ∷ codes "h3" ∷ codes "h4" ∷ codes "h5" ∷ codes "h6" ∷ codes "header" ∷ codes "hgroup" ∷ codes "hr" ∷ codes "main" ∷ codes "menu" ∷ codes "nav" ∷ codes "ol" ∷ codes "p" ∷ codes "pre" ∷ codes "search" ∷ codes "section" ∷ codes "ul" ∷ [])
+is_block name = is_in name (codes "address" ∷ codes "article" ∷ codes "aside" ∷ codes "blockquote" ∷ codes "details" ∷ codes "div"
+    ∷ codes "dl" ∷ codes "fieldset" ∷ codes "figcaption" ∷ codes "figure" ∷ codes "footer" ∷ codes "form" ∷ codes "h1" ∷ codes
+    "h2" ∷ codes "h3" ∷ codes "h4" ∷ codes "h5" ∷ codes "h6" ∷ codes "header" ∷ codes "hgroup" ∷ codes "hr" ∷ codes "main"
+    ∷ codes "menu" ∷ codes "nav" ∷ codes "ol" ∷ codes "p" ∷ codes "pre" ∷ codes "search" ∷ codes "section" ∷ codes "ul" ∷ [])
 
 -- the parts of lists, whose start tags close an innermost p too
 unfoldable pub is_list_part : List ℕ → Bool
@@ -51,4 +55,8 @@ closes tag name =
 
 -- elements that this profile names and doesn't lay out
 unfoldable pub is_refused : List ℕ → Bool
-is_refused name = is_in name (codes "table" ∷ codes "caption" ∷ codes "colgroup" ∷ codes "col" ∷ codes "thead" ∷ codes "tbody" ∷ codes "tfoot" ∷ codes "tr" ∷ codes "td" ∷ codes "th" ∷ codes "input" ∷ codes "button" ∷ codes "select" ∷ codes "textarea" ∷ codes "iframe" ∷ codes "object" ∷ codes "embed" ∷ codes "video" ∷ codes "audio" ∷ codes "canvas" ∷ codes "svg" ∷ codes "math" ∷ codes "frameset" ∷ codes "frame" ∷ codes "noframes" ∷ codes "plaintext" ∷ codes "xmp" ∷ codes "ruby" ∷ [])
+is_refused name = is_in name (codes "table" ∷ codes "caption" ∷ codes "colgroup" ∷ codes "col" ∷ codes "thead" ∷ codes "tbody"
+    ∷ codes "tfoot" ∷ codes "tr" ∷ codes "td" ∷ codes "th" ∷ codes "input" ∷ codes "button" ∷ codes "select" ∷ codes
+    "textarea" ∷ codes "iframe" ∷ codes "object" ∷ codes "embed" ∷ codes "video" ∷ codes "audio" ∷ codes "canvas" ∷ codes
+    "svg" ∷ codes "math" ∷ codes "frameset" ∷ codes "frame" ∷ codes "noframes" ∷ codes "plaintext" ∷ codes "xmp" ∷ codes
+    "ruby" ∷ [])

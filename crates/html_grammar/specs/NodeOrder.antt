@@ -1,5 +1,6 @@
 -- How the nodes of a tree stand in preorder, and the laws of that.
-use Rattle.std.specs.Prelude.{◌≡◌, ◌<◌, ◌≤◌, ◌↔◌, ℕ, zero, suc, Bool, true, false, List, [], length, slice_get, Option, None, Some, IsTrue, IsSome}
+use Rattle.std.specs.Prelude.{◌≡◌, ◌<◌, ◌≤◌, ◌↔◌, ℕ, zero, suc, Bool, true, false, List, [], length, slice_get, Option, None}
+use Rattle.std.specs.Prelude.{Some, IsTrue, IsSome}
 use Rattle.std.specs.Option.{option_and_then}
 use Rattle.html_grammar.specs.declared.dom.Attribute.{Attribute}
 use Rattle.html_grammar.specs.declared.dom.DomNode.{DomNode}
@@ -44,7 +45,7 @@ AllButTheRootHaveParents =
     (nodes : List DomNode) (at : ℕ) (name : List ℕ) (attributes : List Attribute) (kids : Forest) (i : ℕ)
     → nodes ≡ nodes_from None 0 (Element at name attributes kids Nil) → 0 < i → i < length nodes → IsSome (parent_at nodes i)
 
--- The nodes inside a node are those behind it up to some place, and no other.
+-- The nodes inside a node are those after it up to some place, and no other.
 abbrev pub SubtreesAreContiguous : Type 0
 SubtreesAreContiguous =
     (nodes : List DomNode) (tree : Forest) (i : ℕ) → nodes ≡ nodes_from None 0 tree → i < length nodes

@@ -7,7 +7,7 @@ use Rattle.html_grammar.specs.declared.place.Place.{Place}
 abbrev pub plain : ℕ → ℕ
 plain c = if c == 13 then 10 else c
 
--- the places of characters that begin at a byte, right behind a carriage return or not: CR LF is one line feed
+-- the places of characters that begin at a byte, right after a carriage return or not: CR LF is one line feed
 unfoldable pub places : Bool → ℕ → List ℕ → List Place
 places behind at [] = []
 places behind at (c ∷ cs) =
@@ -37,7 +37,7 @@ abbrev pub codes_while : (ℕ → Bool) → List Place → List ℕ
 codes_while test [] = []
 codes_while test (p ∷ ps) = if test p.character then (p.character ∷ codes_while test ps) else []
 
--- what stands behind them
+-- what stands after them
 abbrev pub behind_while : (ℕ → Bool) → List Place → List Place
 behind_while test [] = []
 behind_while test (p ∷ ps) = if test p.character then behind_while test ps else (p ∷ ps)

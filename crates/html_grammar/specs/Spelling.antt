@@ -1,6 +1,7 @@
--- Which characters spell which token: the forms. Where a form says what may not stand behind it, it goes as far as it
+-- Which characters spell which token: the forms. Where a form says what may not stand after it, it goes as far as it
 -- can.
-use Rattle.std.specs.Prelude.{◌≡◌, ◌⊎◌, ℕ, List, [], ◌∷◌, ◌++◌, map, Bool, true, false, ◌&&◌, ◌||◌, Option, Some, None, option_map, codes, encode_utf8_all}
+use Rattle.std.specs.Prelude.{◌≡◌, ◌⊎◌, ℕ, List, [], ◌∷◌, ◌++◌, map, Bool, true, false, ◌&&◌, ◌||◌, Option, Some, None}
+use Rattle.std.specs.Prelude.{option_map, codes, encode_utf8_all}
 use Rattle.std.specs.Char.{to_ascii_lowercase, is_ascii_alphabetic, is_ascii_alphanumeric}
 use Rattle.html_grammar.specs.declared.dom.Attribute.{Attribute}
 use Rattle.html_grammar.specs.declared.place.Place.{Place}
@@ -15,7 +16,8 @@ use Rattle.html_grammar.specs.References.{named_character}
 use Rattle.html_grammar.specs.Places.{place_or, begins_with, begins}
 use Rattle.html_grammar.specs.Tokens.{is_space}
 use Rattle.html_grammar.specs.Grammar.{run_text}
-use Rattle.html_grammar.specs.Lexing.{is_name_char, is_key_char, is_bare_char, is_other, begins_text, number_from, is_character, is_radix_digit, or_first, is_doubled, ends_raw, raw_piece, bad_reference}
+use Rattle.html_grammar.specs.Lexing.{is_name_char, is_key_char, is_bare_char, is_other, begins_text, number_from, is_character}
+use Rattle.html_grammar.specs.Lexing.{is_radix_digit, or_first, is_doubled, ends_raw, raw_piece, bad_reference}
 
 abbrev pub codes_of : List Place → List ℕ
 codes_of ps = map (λ p. p.character) ps
@@ -34,7 +36,7 @@ abbrev pub NoneBegins : (List Place → Bool) → List Place → List Place → 
 NoneBegins test [] rest = Unit {0}
 NoneBegins test (p ∷ inner) rest = (test (p ∷ (inner ++ rest)) ≡ false) × NoneBegins test inner rest
 
--- References, behind their &.
+-- References, after their &.
 
 -- digits, and ;
 pub record IsNumeral (radix n : ℕ) (form : List Place) : Type 0 where
@@ -48,7 +50,8 @@ pub record IsNumeral (radix n : ℕ) (form : List Place) : Type 0 where
 -- #, and decimal digits, or x and hexadecimal ones
 abbrev pub IsNumberReference : ℕ → List Place → Type 0
 IsNumberReference n form = (hash : Place) × (more : List Place) × (hash.character ≡ 35)
-    × (((form ≡ hash ∷ more) × IsNumeral 10 n more) ⊎ ((ex : Place) × (form ≡ hash ∷ (ex ∷ more)) × (ex.character ≡ 120) × IsNumeral 16 n more))
+    × (((form ≡ hash ∷ more) × IsNumeral 10 n more)
+    ⊎ ((ex : Place) × (form ≡ hash ∷ (ex ∷ more)) × (ex.character ≡ 120) × IsNumeral 16 n more))
 
 -- letters and digits, and ;
 pub record IsNameReference (name : List ℕ) (form : List Place) : Type 0 where
@@ -61,7 +64,8 @@ pub record IsNameReference (name : List ℕ) (form : List Place) : Type 0 where
 
 -- a reference to this character; to none; of a name that isn't in the table
 abbrev pub IsReference : ℕ → List Place → Type 0
-IsReference c form = (IsNumberReference c form × (is_character c ≡ true)) ⊎ ((name : List ℕ) × IsNameReference name form × (named_character name ≡ Some c))
+IsReference c form = (IsNumberReference c form × (is_character c ≡ true))
+    ⊎ ((name : List ℕ) × IsNameReference name form × (named_character name ≡ Some c))
 
 abbrev pub IsBadReference : List Place → Type 0
 IsBadReference form = (n : ℕ) × IsNumberReference n form × (is_character n ≡ false)
@@ -80,17 +84,21 @@ BeginsBad ps = (form : List Place) × (more : List Place) × (ps ≡ form ++ mor
 abbrev pub BeginsUnknown : List Place → Type 0
 BeginsUnknown ps = (form : List Place) × (more : List Place) × (ps ≡ form ++ more) × IsUnknownReference form
 
--- A character of a text, with what stands behind it: itself, and no & that begins a reference; a reference; or the & of
+-- A character of a text, with what stands after it: itself, and no & that begins a reference; a reference; or the & of
 -- one whose name isn't in the table.
 abbrev pub IsCharacter : ℕ → ℕ → Spelled → List Place → List Place → Type 0
-IsCharacter at c Plain one rest = (p : Place) × (one ≡ p ∷ []) × (p.at ≡ at) × (p.character ≡ c) × (c ≡ 38 → BeginsReference rest → ⊥)
-IsCharacter at c Reference one rest = (p : Place) × (form : List Place) × (one ≡ p ∷ form) × (p.at ≡ at) × (p.character ≡ 38) × IsReference c form
-IsCharacter at c Unknown one rest = (p : Place) × (one ≡ p ∷ []) × (p.at ≡ at) × (p.character ≡ 38) × (c ≡ 38) × BeginsUnknown rest
+IsCharacter at c Plain one rest = (p : Place) × (one ≡ p ∷ []) × (p.at ≡ at) × (p.character ≡ c)
+    × (c ≡ 38 → BeginsReference rest → ⊥)
+IsCharacter at c Reference one rest = (p : Place) × (form : List Place) × (one ≡ p ∷ form) × (p.at ≡ at) × (p.character ≡ 38)
+    × IsReference c form
+IsCharacter at c Unknown one rest = (p : Place) × (one ≡ p ∷ []) × (p.at ≡ at) × (p.character ≡ 38) × (c ≡ 38)
+    × BeginsUnknown rest
 
 -- The same in a value, where the & of a reference to no character is read as it stands, and marked by its place.
 abbrev pub IsPiece : ℕ → ℕ → Spelled → Option ℕ → List Place → List Place → Type 0
 IsPiece at c s None one rest = IsCharacter at c s one rest
-IsPiece at c s (Some bad) one rest = (p : Place) × (one ≡ p ∷ []) × (p.at ≡ at) × (p.character ≡ 38) × (c ≡ 38) × (s ≡ Plain) × (bad ≡ at) × BeginsBad rest
+IsPiece at c s (Some bad) one rest = (p : Place) × (one ≡ p ∷ []) × (p.at ≡ at) × (p.character ≡ 38) × (c ≡ 38) × (s ≡ Plain)
+    × (bad ≡ at) × BeginsBad rest
 
 -- Text, each piece of which begins with a character that passes a test, by its tokens, and the first place that is
 -- marked.
@@ -130,16 +138,19 @@ pub record IsQuoted (q : ℕ) (toks : List Token) (bad : Option ℕ) (at : ℕ) 
   pub stands : at ≡ place_or 0 (inner ++ closing ∷ [])
 
 abbrev pub IsBare : List Token → Option ℕ → ℕ → List Place → List Place → Type 0
-IsBare toks bad at form rest = IsText is_bare_char toks bad form rest × (begins_with is_bare_char form ≡ true) × (begins_with is_bare_char rest ≡ false) × (at ≡ place_or 0 form)
+IsBare toks bad at form rest = IsText is_bare_char toks bad form rest × (begins_with is_bare_char form ≡ true)
+    × (begins_with is_bare_char rest ≡ false) × (at ≡ place_or 0 form)
 
 abbrev pub IsValue : List Token → Option ℕ → ℕ → List Place → List Place → Type 0
-IsValue toks bad at form rest = IsQuoted 34 toks bad at form rest ⊎ (IsQuoted 39 toks bad at form rest ⊎ IsBare toks bad at form rest)
+IsValue toks bad at form rest = IsQuoted 34 toks bad at form rest
+    ⊎ (IsQuoted 39 toks bad at form rest ⊎ IsBare toks bad at form rest)
 
--- behind an attribute's name: nothing, or = and the value
+-- after an attribute's name: nothing, or = and the value
 abbrev pub IsAssigned : ℕ → Attribute → Option ℕ → Option ℕ → List Place → List Place → Type 0
 IsAssigned at a unknown bad tail rest =
     ((tail ≡ []) × (begins 61 rest ≡ false) × (a.value ≡ []) × (a.offset ≡ at) × (unknown ≡ None) × (bad ≡ None))
-    ⊎ ((equals : Place) × (form : List Place) × (toks : List Token) × (tail ≡ equals ∷ form) × (equals.character ≡ 61) × IsValue toks bad a.offset form rest
+    ⊎ ((equals : Place) × (form : List Place) × (toks : List Token) × (tail ≡ equals ∷ form) × (equals.character ≡ 61)
+    × IsValue toks bad a.offset form rest
     × (a.value ≡ run_text toks) × (unknown ≡ first_unknown toks))
 
 pub record IsAttribute (a : Attribute) (unknown bad : Option ℕ) (one rest : List Place) : Type 0 where
@@ -160,11 +171,12 @@ pub record IsTagEnd (one : List Place) : Type 0 where
   pub ends : last.character ≡ 62
   pub whole : (one ≡ white ++ last ∷ []) ⊎ ((slash : Place) × (slash.character ≡ 47) × (one ≡ white ++ (slash ∷ (last ∷ []))))
 
--- attributes, each behind white space, and the end of the tag
+-- attributes, each after white space, and the end of the tag
 abbrev pub IsAttributes : List Attribute → Option ℕ → Option ℕ → List Place → List Place → Type 0
 IsAttributes [] unknown bad one rest = (unknown ≡ None) × (bad ≡ None) × IsTagEnd one
 IsAttributes (a ∷ others) unknown bad one rest =
-    (here : Option ℕ) × (later : Option ℕ) × (now : Option ℕ) × (then : Option ℕ) × (white : List Place) × (spelled : List Place) × (more : List Place) × (one ≡ white ++ (spelled ++ more))
+    (here : Option ℕ) × (later : Option ℕ) × (now : Option ℕ) × (then : Option ℕ) × (white : List Place) × (spelled : List Place)
+    × (more : List Place) × (one ≡ white ++ (spelled ++ more))
     × SomePass is_space white × (unknown ≡ or_first here later) × (bad ≡ or_first now then)
     × IsAttribute a here now spelled (more ++ rest) × IsAttributes others later then more rest
 
@@ -173,7 +185,8 @@ IsAttributes (a ∷ others) unknown bad one rest =
 -- a letter, then letters, digits and -; the name is in lower case
 abbrev pub IsTagName : List Place → List ℕ → Type 0
 IsTagName [] name = ⊥
-IsTagName (p ∷ ps) name = (is_ascii_alphabetic p.character ≡ true) × Passes is_name_char (p ∷ ps) × (name ≡ map to_ascii_lowercase (codes_of (p ∷ ps)))
+IsTagName (p ∷ ps) name = (is_ascii_alphabetic p.character ≡ true) × Passes is_name_char (p ∷ ps)
+    × (name ≡ map to_ascii_lowercase (codes_of (p ∷ ps)))
 
 -- <, a name, attributes, >; the tag is marked with the first reference in it that names no character
 pub record IsTag (tag : Tag) (one rest : List Place) : Type 0 where
@@ -209,14 +222,15 @@ pub record IsEndTag (at : ℕ) (name : List ℕ) (one rest : List Place) : Type 
   pub spaces : Passes is_space white
   pub ends : last.character ≡ 62
 
--- a line feed directly behind <pre>
+-- a line feed directly after <pre>
 abbrev pub takes_line_feed : Tag → List Place → Bool
 takes_line_feed tag rest = same tag.name (codes "pre") && begins 10 rest
 
--- a start tag; of pre with the line feed behind it
+-- a start tag; of pre with the line feed after it
 abbrev pub IsStart : Tag → List Place → List Place → Type 0
 IsStart tag one rest = (IsTag tag one rest × (takes_line_feed tag rest ≡ false))
-    ⊎ ((tagged : List Place) × (feed : Place) × (one ≡ tagged ++ feed ∷ []) × IsTag tag tagged (feed ∷ rest) × (takes_line_feed tag (feed ∷ rest) ≡ true))
+    ⊎ ((tagged : List Place) × (feed : Place) × (one ≡ tagged ++ feed ∷ []) × IsTag tag tagged (feed ∷ rest)
+    × (takes_line_feed tag (feed ∷ rest) ≡ true))
 
 -- raw text, up to the first end tag of the element's name
 pub record IsRaw (tag : Tag) (text : Option Piece) (one rest : List Place) : Type 0 where
@@ -232,7 +246,7 @@ pub record IsRaw (tag : Tag) (text : Option Piece) (one rest : List Place) : Typ
   pub end_is : IsEndTag at name ending rest
   pub text_is : text ≡ raw_piece (place_or 0 inner) (codes_of inner)
 
--- <!-- up to the first --> behind it
+-- <!-- up to the first --> after it
 pub record IsComment (at : ℕ) (one rest : List Place) : Type 0 where
   pub opening : List Place
   pub inner : List Place
@@ -260,7 +274,7 @@ pub record IsDoctype (at : ℕ) (one : List Place) : Type 0 where
 abbrev pub begins_markup : List Place → Bool
 begins_markup ps = begins_with is_ascii_alphabetic ps || (begins 47 ps || (begins 33 ps || begins 63 ps))
 
--- These places spell this token, and those stand behind it. No two attributes of a tag have one name, and each
+-- These places spell this token, and those stand after it. No two attributes of a tag have one name, and each
 -- reference names a character.
 abbrev pub IsToken : Token → List Place → List Place → Type 0
 IsToken (Start tag) one rest = (is_raw tag.name ≡ false) × IsStart tag one rest × IsOnce tag × (tag.late ≡ None)

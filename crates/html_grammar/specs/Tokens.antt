@@ -70,7 +70,7 @@ attributes_of (Comment at) = []
 attributes_of (Doctype at) = []
 attributes_of (Char at c s) = []
 
--- the fault that a token has behind its own place
+-- the fault that a token has after its own place
 abbrev pub late_of : Token → Option Fault
 late_of (Start tag) = tag.late
 late_of (Raw tag text) = tag.late
@@ -85,7 +85,8 @@ reference_at (Some at) = Some (record { offset = at; name = constructs.Reference
 
 -- the first in a tag that isn't laid out: the element stands before the references in its attributes
 abbrev pub tag_construct : Tag → Option Found
-tag_construct tag = if is_refused tag.name then Some (record { offset = tag.at; name = constructs.Element }) else reference_at tag.unknown
+tag_construct tag = if is_refused tag.name then Some (record { offset = tag.at; name = constructs.Element }) else reference_at
+    tag.unknown
 
 abbrev pub char_construct : ℕ → Spelled → Option Found
 char_construct at Plain = None

@@ -19,5 +19,7 @@ words_node parent at text = record { parent = parent; offset = at; kind = kinds.
 -- the nodes in preorder, numbered from k, in an element of this number
 abbrev pub nodes_from : Option ℕ → ℕ → Forest → List DomNode
 nodes_from parent k Nil = []
-nodes_from parent k (Element at name attrs kids next) = element_node parent at name attrs ∷ (nodes_from (Some k) (suc k) kids ++ nodes_from parent (suc k + length (nodes_from (Some k) (suc k) kids)) next)
+nodes_from parent k (Element at name attrs kids next) =
+    element_node parent at name attrs
+    ∷ (nodes_from (Some k) (suc k) kids ++ nodes_from parent (suc k + length (nodes_from (Some k) (suc k) kids)) next)
 nodes_from parent k (Words at text next) = words_node parent at text ∷ nodes_from parent (suc k) next

@@ -1,5 +1,6 @@
 -- The document of a text, or its first fault.
-use Rattle.std.specs.Prelude.{ℕ, zero, suc, ◌==◌, nat_lt, min, not, List, [], ◌∷◌, length, chars, count_by, take_while, Bool, true, false, Option, Some, None, Result, Ok, Err, if◌then◌else◌}
+use Rattle.std.specs.Prelude.{ℕ, zero, suc, ◌==◌, nat_lt, min, not, List, [], ◌∷◌, length, chars, count_by, take_while, Bool}
+use Rattle.std.specs.Prelude.{true, false, Option, Some, None, Result, Ok, Err, if◌then◌else◌}
 use Rattle.std.specs.Str.Lossy.{utf8_valid_len}
 use Rattle.mc_base.specs.declared.refusal.Found.{Found}
 use Rattle.mc_base.specs.declared.refusal.Refusal.{Refusal}
@@ -37,12 +38,13 @@ abbrev pub concluded : ℕ → Option Found → State → Result Reading Fault
 concluded size seen s = conclude size s >>= λ last. Ok (record { built = last; construct = seen })
 
 -- The tokens one after the other, of which there are at most as many as counted: a token's own form comes first, then
--- the structure, then what the token has behind its place.
+-- the structure, then what the token has after its place.
 unfoldable pub read_from : ℕ → ℕ → Option Found → State → List Place → Result Reading Fault
 read_from n size seen s [] = concluded size seen s
 read_from zero size seen s (p ∷ ps) = concluded size seen s
 read_from (suc n) size seen s (p ∷ ps) =
-    token_at size p ps >>= λ t. not_late (late_of t.0) (take_token s t.0) >>= λ next. read_from n size (or_found seen (construct_of t.0)) next t.1
+    token_at size p ps >>= λ t. not_late (late_of t.0) (take_token s t.0) >>= λ next.
+    read_from n size (or_found seen (construct_of t.0)) next t.1
 
 -- the reading of a text, or its first fault
 unfoldable pub read_text : List ℕ → Result Reading Fault

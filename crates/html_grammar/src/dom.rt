@@ -32,7 +32,7 @@ pub enum NodeKind {
 
 /// An attribute, with its name in lower case.
 ///
-/// `offset` is the byte of the value's first place, behind an opening quote, or of the name where there is no value.
+/// `offset` is the byte of the value's first place, after an opening quote, or of the name where there is no value.
 #[derive(Drop)]
 pub struct Attribute {
     pub name: Text,

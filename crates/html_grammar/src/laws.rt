@@ -19,7 +19,7 @@ pub fn one_tree()
     ensures { laws.OneTree }
 {}
 
-/// The fault that is reported is the first: at a token that no document has behind those before it, or at the end of
+/// The fault that is reported is the first: at a token that no document has after those before it, or at the end of
 /// a text that some document begins with and that isn't one.
 #[tactic(auto, using(crate::proofs::First::first_fault))]
 pub fn the_fault_is_the_first()
@@ -68,7 +68,7 @@ pub fn parents_are_earlier()
     ensures root { order.AllButTheRootHaveParents }
 {}
 
-/// What is inside a node of a tree are the nodes behind it up to some place.
+/// What is inside a node of a tree are the nodes after it up to some place.
 pub fn subtrees_are_contiguous()
     ensures { order.SubtreesAreContiguous }
 {}

@@ -1,7 +1,7 @@
 use mc_base::Text;
 
 /// How far a document has come: before `html` (with or without its doctype), in `html` before `head`, in the head,
-/// behind it, or in `body` and behind.
+/// after it, or in `body` and after.
 #[derive(Clone, Copy)]
 pub enum Stage {
     Opening { doctype: bool },

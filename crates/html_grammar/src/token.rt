@@ -11,7 +11,7 @@ pub struct Piece {
 /// A start tag, with the byte of its `<` and its name in lower case.
 ///
 /// `unknown` is the place of the first reference in its attributes whose name isn't in the table. `late` is the first
-/// fault that what it spells has behind its own place: it comes behind what is wrong at the tag itself.
+/// fault that what it spells has after its own place: it comes after what is wrong at the tag itself.
 #[derive(Drop)]
 pub struct Tag {
     pub at: u64,

@@ -13,14 +13,18 @@ use Rattle.html_subset.specs.Gives.{Fails}
 abbrev Read : Type 0
 Read = Result (ReadAttributes × List Place) Fault
 
-pub attributes_go : (n i tag : ℕ) (x y : ReadAttributes) (ps after : List Place) (a : ReadAttribute) (total : Read) → i < n → piece_at n tag ps ≡ Ok (Some a, after) → y ≡ with_attribute x a → attributes_from (n - i) n tag x ps ≡ total → attributes_from (n - (i + 1)) n tag y after ≡ total
+pub attributes_go : (n i tag : ℕ) (x y : ReadAttributes) (ps after : List Place) (a : ReadAttribute) (total : Read) → i < n
+    → piece_at n tag ps ≡ Ok (Some a, after) → y ≡ with_attribute x a → attributes_from (n - i) n tag x ps ≡ total
+    → attributes_from (n - (i + 1)) n tag y after ≡ total
 unfolding attributes_from
 attributes_go n i tag x y ps after a total lt h grown so_far =
     let k : n - i ≡ suc (n - (i + 1)) = omega arith in
-    let one : attributes_from (n - i) n tag x ps ≡ attributes_from (n - (i + 1)) n tag (with_attribute x a) after = rw (k, h) refl in
+    let one : attributes_from (n - i) n tag x ps ≡ attributes_from (n - (i + 1)) n tag (with_attribute x a) after =
+    rw (k, h) refl in
     rw grown (sym one ∙ so_far)
 
-pub attributes_fail : (e : ReadError Fault) (n i tag : ℕ) (x : ReadAttributes) (ps : List Place) (total : Read) → i < n → Fails e (piece_at n tag ps) → attributes_from (n - i) n tag x ps ≡ total → Fails e total
+pub attributes_fail : (e : ReadError Fault) (n i tag : ℕ) (x : ReadAttributes) (ps : List Place) (total : Read) → i < n
+    → Fails e (piece_at n tag ps) → attributes_from (n - i) n tag x ps ≡ total → Fails e total
 unfolding attributes_from
 attributes_fail errors.Memory n i tag x ps total lt h so_far = tt
 attributes_fail (errors.Fault f) n i tag x ps total lt h so_far =
@@ -28,14 +32,16 @@ attributes_fail (errors.Fault f) n i tag x ps total lt h so_far =
     let one : attributes_from (n - i) n tag x ps ≡ Err f = rw (k, h) refl in
     sym so_far ∙ one
 
-pub attributes_end : (n i tag : ℕ) (x : ReadAttributes) (ps after : List Place) (total : Read) → i < n → piece_at n tag ps ≡ Ok (None, after) → attributes_from (n - i) n tag x ps ≡ total → total ≡ Ok (x, after)
+pub attributes_end : (n i tag : ℕ) (x : ReadAttributes) (ps after : List Place) (total : Read) → i < n
+    → piece_at n tag ps ≡ Ok (None, after) → attributes_from (n - i) n tag x ps ≡ total → total ≡ Ok (x, after)
 unfolding attributes_from
 attributes_end n i tag x ps after total lt h so_far =
     let k : n - i ≡ suc (n - (i + 1)) = omega arith in
     let one : attributes_from (n - i) n tag x ps ≡ Ok (x, after) = rw (k, h) refl in
     sym so_far ∙ one
 
-pub attributes_out : (n i tag : ℕ) (x : ReadAttributes) (ps : List Place) (total : Read) → n ≤ i → attributes_from (n - i) n tag x ps ≡ total → total ≡ fault tag 3
+pub attributes_out : (n i tag : ℕ) (x : ReadAttributes) (ps : List Place) (total : Read) → n ≤ i
+    → attributes_from (n - i) n tag x ps ≡ total → total ≡ fault tag 3
 unfolding attributes_from
 attributes_out n i tag x ps total le so_far =
     let k : n - i ≡ 0 = omega arith in

@@ -10,14 +10,16 @@ use Rattle.html_grammar.specs.Machine.{opening_state}
 use Rattle.html_grammar.specs.Places.{places_of}
 use Rattle.html_grammar.specs.Whole.{read_from, read_text}
 
-pub text_with_zero : (bytes : List ℕ) (free : ℕ) → IsUtf8 bytes → free ≡ length (take_while is_nonzero bytes) → free < length bytes → read_text bytes ≡ fault free 1
+pub text_with_zero : (bytes : List ℕ) (free : ℕ) → IsUtf8 bytes → free ≡ length (take_while is_nonzero bytes)
+    → free < length bytes → read_text bytes ≡ fault free 1
 unfolding read_text
 text_with_zero bytes free utf8 is lt =
     let whole = utf8_valid_len-IsUtf8 bytes utf8 in
     let least : sound_len bytes ≡ free = omega arith in
     rw (least, lt-ltb free (length bytes) lt) refl
 
-pub text_without_zero : (bytes : List ℕ) (free : ℕ) → IsUtf8 bytes → free ≡ length (take_while is_nonzero bytes) → length bytes ≤ free → read_text bytes ≡ read_from (length bytes) (length bytes) None opening_state (places_of (chars bytes))
+pub text_without_zero : (bytes : List ℕ) (free : ℕ) → IsUtf8 bytes → free ≡ length (take_while is_nonzero bytes)
+    → length bytes ≤ free → read_text bytes ≡ read_from (length bytes) (length bytes) None opening_state (places_of (chars bytes))
 unfolding read_text
 text_without_zero bytes free utf8 is le =
     let whole = utf8_valid_len-IsUtf8 bytes utf8 in

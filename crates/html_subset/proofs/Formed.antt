@@ -20,7 +20,8 @@ dom_formed bytes dom small h =
     let ps = places_of (chars bytes) in
     let places = text_places_fit bytes text.utf8 in
     let lexed = lexed_fit text.tokens ps text.spelled places.scalars in
-    let fits = document_fits (length bytes) text.tokens h.tree (sum_by token_bytes text.tokens) text.document (record { utf8 = lexed.0; bound = omega arith }) in
+    let fits = document_fits (length bytes) text.tokens h.tree (sum_by token_bytes text.tokens) text.document
+    (record { utf8 = lexed.0; bound = omega arith }) in
     let many = document_count (length bytes) text.tokens h.tree text.document in
     let costly = costs_fit text.tokens ps text.spelled in
     record {
@@ -28,12 +29,23 @@ dom_formed bytes dom small h =
       nodes = h.nodes;
       root = subst IsHtml (sym text.document.whole) (refl, refl);
       depth = h.depth;
-      count = omega (arith, small, ap length h.nodes, nodes_length None 0 h.tree, many, costly, length-le-weight ps, places.bound);
+      count = omega (
+        arith,
+        small,
+        ap length h.nodes,
+        nodes_length None 0 h.tree,
+        many,
+        costly,
+        length-le-weight ps,
+        places.bound,
+      );
       utf8 = subst (AllByRecursion NodeIsUtf8) (sym h.nodes) (nodes_utf8 None 0 h.tree fits.0);
-      texts = subst (AllByRecursion (NodeIsWithin (2 ^ 28))) (sym h.nodes) (nodes_within (2 ^ 28) None 0 h.tree (fits.2 (2 ^ 28) (omega (arith, small, lexed.1, places.bound)) (omega arith)));
+      texts = subst (AllByRecursion (NodeIsWithin (2 ^ 28))) (sym h.nodes)
+          (nodes_within (2 ^ 28) None 0 h.tree (fits.2 (2 ^ 28) (omega (arith, small, lexed.1, places.bound)) (omega arith)));
       bytes = omega (arith, small, ap (sum_by node_bytes) h.nodes, nodes_bytes None 0 h.tree, fits.1, lexed.1, places.bound);
     }
 
-pub answer_formed : (r : Result Dom Refusal) (bytes : List ℕ) → length bytes ≤ 2 ^ 28 → IfOk r (λ dom. IsDomOf bytes dom) → IfOk r (λ dom. IsWellFormed dom)
+pub answer_formed : (r : Result Dom Refusal) (bytes : List ℕ) → length bytes ≤ 2 ^ 28 → IfOk r (λ dom. IsDomOf bytes dom)
+    → IfOk r (λ dom. IsWellFormed dom)
 answer_formed (Ok dom) bytes small h = dom_formed bytes dom small h
 answer_formed (Err refusal) bytes small h = tt

@@ -1,5 +1,6 @@
 -- The texts of a token are UTF-8, and no longer than the characters that spell it.
-use Rattle.std.proofs.Common.{◌≡◌, ℕ, ◌+◌, ◌<◌, ◌≤◌, List, [], ◌∷◌, ◌++◌, length, Bool, true, false, cond, ltb, leb, ◌&&◌, ◌||◌, Option, Some, None, ◌⊎◌, inl, inr, refl, sym, ap, subst, arith, length-append}
+use Rattle.std.proofs.Common.{◌≡◌, ℕ, ◌+◌, ◌<◌, ◌≤◌, List, [], ◌∷◌, ◌++◌, length, Bool, true, false, cond, ltb, leb, ◌&&◌, ◌||◌}
+use Rattle.std.proofs.Common.{Option, Some, None, ◌⊎◌, inl, inr, refl, sym, ap, subst, arith, length-append}
 use Rattle.std.specs.Prelude.{encode_utf8, IsUtf8, codes, sum_by}
 use Rattle.std.specs.List.{AllByRecursion}
 use Rattle.std.specs.Char.{IsScalar, len_utf8, is_ascii_alphanumeric}
@@ -20,9 +21,12 @@ use Rattle.html_grammar.specs.References.{named_in, named_character}
 use Rattle.html_grammar.specs.Places.{place_or}
 use Rattle.html_grammar.specs.Grammar.{run_text}
 use Rattle.html_grammar.specs.Lexing.{is_character, raw_piece, is_radix_digit}
-use Rattle.html_grammar.specs.Spelling.{codes_of, SomePass, IsNumeral, IsNumberReference, IsNameReference, IsReference, IsCharacter, IsPiece, IsText, IsQuoted, IsValue, IsAssigned, IsAttribute, IsAttributes, IsTagName, IsTag, IsStart, IsToken, IsLexed}
+use Rattle.html_grammar.specs.Spelling.{codes_of, SomePass, IsNumeral, IsNumberReference, IsNameReference, IsReference}
+use Rattle.html_grammar.specs.Spelling.{IsCharacter, IsPiece, IsText, IsQuoted, IsValue, IsAssigned, IsAttribute, IsAttributes}
+use Rattle.html_grammar.specs.Spelling.{IsTagName, IsTag, IsStart, IsToken, IsLexed}
 use Rattle.html_subset.specs.WellFormed.{AttributeIsUtf8, attribute_bytes}
-use Rattle.html_subset.proofs.TextsFit.{weight, AllScalar, Fits, weight-append, scalar-append, length-le-weight, fits_none, fits_char, fits_append, fits_more, key_fits, plain_fits, name_fits}
+use Rattle.html_subset.proofs.TextsFit.{weight, AllScalar, Fits, weight-append, scalar-append, length-le-weight, fits_none}
+use Rattle.html_subset.proofs.TextsFit.{fits_char, fits_append, fits_more, key_fits, plain_fits, name_fits}
 
 -- References.
 
@@ -31,14 +35,17 @@ some_length test [] h = absurd h
 some_length test (p ∷ ps) h = omega arith
 
 numeral_length : (radix n : ℕ) (form : List Place) → IsNumeral radix n form → 2 ≤ length form
-numeral_length radix n form h = omega (arith, some_length (is_radix_digit radix) h.digits h.some, ap length h.whole, length-append h.digits (h.last ∷ []))
+numeral_length radix n form h =
+    omega (arith, some_length (is_radix_digit radix) h.digits h.some, ap length h.whole, length-append h.digits (h.last ∷ []))
 
 number_length : (n : ℕ) (form : List Place) → IsNumberReference n form → 3 ≤ length form
 number_length n form (hash, more, is, inl (whole, numeral)) = omega (arith, ap length whole, numeral_length 10 n more numeral)
-number_length n form (hash, more, is, inr (ex, whole, marked, numeral)) = omega (arith, ap length whole, numeral_length 16 n more numeral)
+number_length n form (hash, more, is, inr (ex, whole, marked, numeral)) =
+    omega (arith, ap length whole, numeral_length 16 n more numeral)
 
 name_length : (name : List ℕ) (form : List Place) → IsNameReference name form → 2 ≤ length form
-name_length name form h = omega (arith, some_length is_ascii_alphanumeric h.letters h.some, ap length h.whole, length-append h.letters (h.last ∷ []))
+name_length name form h = omega
+    (arith, some_length is_ascii_alphanumeric h.letters h.some, ap length h.whole, length-append h.letters (h.last ∷ []))
 
 both : (a b : Bool) → (a && b) ≡ true → (a ≡ true) × (b ≡ true)
 both true b h = (refl, h)
@@ -59,7 +66,9 @@ character_by c (inr high) =
     high_scalar c (omega arith) (ltb-true c 0x110000 parts.1)
 
 character_scalar : (c : ℕ) → is_character c ≡ true → IsScalar c
-character_scalar c h = character_by c (either (ltb c 0xD800) (ltb 0xDFFF c && ltb c 0x110000) (both (ltb 0 c) (ltb c 0xD800 || (ltb 0xDFFF c && ltb c 0x110000)) h).1)
+character_scalar c h = character_by c
+    (either (ltb c 0xD800) (ltb 0xDFFF c && ltb c 0x110000)
+    (both (ltb 0 c) (ltb c 0xD800 || (ltb 0xDFFF c && ltb c 0x110000)) h).1)
 
 -- a table all of whose characters are scalar values of at most three bytes
 abbrev all_short : List (List ℕ × ℕ) → Bool
@@ -69,7 +78,8 @@ all_short (e ∷ es) = (scalar e.1 && leb (len_utf8 e.1) 3) && all_short es
 abbrev IsShort : ℕ → Type 0
 IsShort c = IsScalar c × (len_utf8 c ≤ 3)
 
-found_by : (b : Bool) (d c : ℕ) (rest : Option ℕ) → cond b (Some d) rest ≡ Some c → IsShort d → (rest ≡ Some c → IsShort c) → IsShort c
+found_by : (b : Bool) (d c : ℕ) (rest : Option ℕ) → cond b (Some d) rest ≡ Some c → IsShort d → (rest ≡ Some c → IsShort c)
+    → IsShort c
 found_by true d c rest h short more = let e : d ≡ c = cc in subst IsShort e short
 found_by false d c rest h short more = more h
 
@@ -97,62 +107,79 @@ character_named name c h = named_short name table c refl h
 
 -- a reference is longer than its character
 reference_fits : (c : ℕ) (form : List Place) → IsReference c form → IsScalar c × (len_utf8 c ≤ 1 + length form)
-reference_fits c form (inl (number, is)) = (character_scalar c is, omega (arith, number_length c form number, (len_utf8_bounds c).1))
-reference_fits c form (inr (name, named, is)) = let short = character_named name c is in (short.0, omega (arith, name_length name form named, short.1))
+reference_fits c form (inl (number, is)) =
+    (character_scalar c is, omega (arith, number_length c form number, (len_utf8_bounds c).1))
+reference_fits c form (inr (name, named, is)) = let short = character_named name c is
+    in (short.0, omega (arith, name_length name form named, short.1))
 
 -- a character of a text, and the characters that spell it
-pub character_fits : (at c : ℕ) (s : Spelled) (one rest : List Place) → IsCharacter at c s one rest → AllScalar one → IsScalar c × (len_utf8 c ≤ weight one)
+pub character_fits : (at c : ℕ) (s : Spelled) (one rest : List Place) → IsCharacter at c s one rest → AllScalar one
+    → IsScalar c × (len_utf8 c ≤ weight one)
 character_fits at c Plain one rest (p, whole, stands, is, free) all =
     let own = subst AllScalar whole all in
     (subst IsScalar is own.0, omega (arith, ap weight whole, ap len_utf8 is))
 character_fits at c Reference one rest (p, form, whole, stands, is, ref) all =
     let fits = reference_fits c form ref in
     (fits.0, omega (arith, ap weight whole, fits.1, length-le-weight form, (len_utf8_bounds p.character).0))
-character_fits at c Unknown one rest (p, whole, stands, is, own, unknown) all =
-    (subst IsScalar (sym own) (low_scalar 38 (omega arith)), omega (arith, ap weight whole, (len_utf8_bounds p.character).0, len_utf8_ascii c (omega arith)))
+character_fits at c Unknown one rest (p, whole, stands, is, own, unknown) all = (
+  subst IsScalar (sym own) (low_scalar 38 (omega arith)),
+  omega (arith, ap weight whole, (len_utf8_bounds p.character).0, len_utf8_ascii c (omega arith)),
+)
 
 -- a piece of a value
-piece_fits : (at c : ℕ) (s : Spelled) (bad : Option ℕ) (one rest : List Place) → IsPiece at c s bad one rest → AllScalar one → IsScalar c × (len_utf8 c ≤ weight one)
+piece_fits : (at c : ℕ) (s : Spelled) (bad : Option ℕ) (one rest : List Place) → IsPiece at c s bad one rest → AllScalar one
+    → IsScalar c × (len_utf8 c ≤ weight one)
 piece_fits at c s None one rest h all = character_fits at c s one rest h all
-piece_fits at c s (Some bad) one rest (p, whole, stands, is, own, spelled, marked, begins) all =
-    (subst IsScalar (sym own) (low_scalar 38 (omega arith)), omega (arith, ap weight whole, (len_utf8_bounds p.character).0, len_utf8_ascii c (omega arith)))
+piece_fits at c s (Some bad) one rest (p, whole, stands, is, own, spelled, marked, begins) all = (
+  subst IsScalar (sym own) (low_scalar 38 (omega arith)),
+  omega (arith, ap weight whole, (len_utf8_bounds p.character).0, len_utf8_ascii c (omega arith)),
+)
 
 -- a text in an attribute's value
-pub text_fits : (test : ℕ → Bool) (toks : List Token) (bad : Option ℕ) (one rest : List Place) → IsText test toks bad one rest → AllScalar one → Fits (run_text toks) (weight one)
+pub text_fits : (test : ℕ → Bool) (toks : List Token) (bad : Option ℕ) (one rest : List Place) → IsText test toks bad one rest
+    → AllScalar one → Fits (run_text toks) (weight one)
 text_fits test [] bad one rest h all = fits_none (weight one)
 text_fits test (Char at c s ∷ ts) bad one rest (here, more, whole, now, later, marked, is, begins, others) all =
     let parts = scalar-append here more (subst AllScalar whole all) in
     let own = piece_fits at c s now here (more ++ rest) is parts.0 in
     fits_more (encode_utf8 c ++ run_text ts) (weight here + weight more) (weight one)
-    (fits_append (encode_utf8 c) (run_text ts) (weight here) (weight more) (fits_char c (weight here) own.0 own.1) (text_fits test ts later more rest others parts.1))
+    (fits_append (encode_utf8 c) (run_text ts) (weight here) (weight more) (fits_char c (weight here) own.0 own.1)
+    (text_fits test ts later more rest others parts.1))
     (omega (arith, ap weight whole, weight-append here more))
 text_fits test _ bad one rest h all = absurd h
 
 -- Attributes.
 
-quoted_fits : (q : ℕ) (toks : List Token) (bad : Option ℕ) (at : ℕ) (form rest : List Place) → IsQuoted q toks bad at form rest → AllScalar form → Fits (run_text toks) (weight form)
+quoted_fits : (q : ℕ) (toks : List Token) (bad : Option ℕ) (at : ℕ) (form rest : List Place) → IsQuoted q toks bad at form rest
+    → AllScalar form → Fits (run_text toks) (weight form)
 quoted_fits q toks bad at form rest h all =
     let own = subst AllScalar h.whole all in
     let parts = scalar-append h.inner (h.closing ∷ []) own.1 in
-    fits_more (run_text toks) (weight h.inner) (weight form) (text_fits _ toks bad h.inner (h.closing ∷ rest) h.text parts.0) (omega (arith, ap weight h.whole, weight-append h.inner (h.closing ∷ [])))
+    fits_more (run_text toks) (weight h.inner) (weight form) (text_fits _ toks bad h.inner (h.closing ∷ rest) h.text parts.0)
+    (omega (arith, ap weight h.whole, weight-append h.inner (h.closing ∷ [])))
 
-value_fits : (toks : List Token) (bad : Option ℕ) (at : ℕ) (form rest : List Place) → IsValue toks bad at form rest → AllScalar form → Fits (run_text toks) (weight form)
+value_fits : (toks : List Token) (bad : Option ℕ) (at : ℕ) (form rest : List Place) → IsValue toks bad at form rest
+    → AllScalar form → Fits (run_text toks) (weight form)
 value_fits toks bad at form rest (inl h) all = quoted_fits 34 toks bad at form rest h all
 value_fits toks bad at form rest (inr (inl h)) all = quoted_fits 39 toks bad at form rest h all
 value_fits toks bad at form rest (inr (inr h)) all = text_fits _ toks bad form rest h.0 all
 
-assigned_fits : (at : ℕ) (a : Attribute) (unknown bad : Option ℕ) (tail rest : List Place) → IsAssigned at a unknown bad tail rest → AllScalar tail → Fits a.value (weight tail)
-assigned_fits at a unknown bad tail rest (inl h) all = subst (λ (text : List ℕ). Fits text (weight tail)) (sym h.2) (fits_none (weight tail))
+assigned_fits : (at : ℕ) (a : Attribute) (unknown bad : Option ℕ) (tail rest : List Place) → IsAssigned at a unknown bad tail rest
+    → AllScalar tail → Fits a.value (weight tail)
+assigned_fits at a unknown bad tail rest (inl h) all =
+    subst (λ (text : List ℕ). Fits text (weight tail)) (sym h.2) (fits_none (weight tail))
 assigned_fits at a unknown bad tail rest (inr (equals, form, toks, whole, is, value, text, first)) all =
     let own = subst AllScalar whole all in
     subst (λ (t : List ℕ). Fits t (weight tail)) (sym text)
-    (fits_more (run_text toks) (weight form) (weight tail) (value_fits toks bad a.offset form rest value own.1) (omega (arith, ap weight whole)))
+    (fits_more (run_text toks) (weight form) (weight tail) (value_fits toks bad a.offset form rest value own.1)
+    (omega (arith, ap weight whole)))
 
 pub record AttributesFit (attributes : List Attribute) (most : ℕ) : Type 0 where
   pub utf8 : AllByRecursion AttributeIsUtf8 attributes
   pub bound : sum_by attribute_bytes attributes ≤ most
 
-attribute_fits : (a : Attribute) (unknown bad : Option ℕ) (one rest : List Place) → IsAttribute a unknown bad one rest → AllScalar one → AttributeIsUtf8 a × (attribute_bytes a ≤ weight one)
+attribute_fits : (a : Attribute) (unknown bad : Option ℕ) (one rest : List Place) → IsAttribute a unknown bad one rest
+    → AllScalar one → AttributeIsUtf8 a × (attribute_bytes a ≤ weight one)
 attribute_fits a unknown bad one rest h all =
     let own = subst AllScalar h.whole all in
     let parts = scalar-append (h.first ∷ h.more) h.tail own in
@@ -160,16 +187,39 @@ attribute_fits a unknown bad one rest h all =
     let value = assigned_fits h.first.at a unknown bad h.tail rest h.value_is parts.1 in
     ((name.utf8, value.utf8), omega (arith, name.bound, value.bound, ap weight h.whole, weight-append h.more h.tail))
 
-pub attributes_fit : (attributes : List Attribute) (unknown bad : Option ℕ) (one rest : List Place) → IsAttributes attributes unknown bad one rest → AllScalar one → AttributesFit attributes (weight one)
+pub attributes_fit : (attributes : List Attribute) (unknown bad : Option ℕ) (one rest : List Place)
+    → IsAttributes attributes unknown bad one rest → AllScalar one → AttributesFit attributes (weight one)
 attributes_fit [] unknown bad one rest h all = record { utf8 = tt; bound = omega arith }
-attributes_fit (a ∷ others) unknown bad one rest (here, later, now, then, white, spelled, more, whole, spaces, split, marked, is, others_are) all =
+attributes_fit (a ∷ others) unknown bad one rest (
+  here,
+  later,
+  now,
+  then,
+  white,
+  spelled,
+  more,
+  whole,
+  spaces,
+  split,
+  marked,
+  is,
+  others_are,
+) all =
     let own = scalar-append white (spelled ++ more) (subst AllScalar whole all) in
     let parts = scalar-append spelled more own.1 in
     let first = attribute_fits a here now spelled (more ++ rest) is parts.0 in
     let next = attributes_fit others later then more rest others_are parts.1 in
     record {
       utf8 = (first.0, next.utf8);
-      bound = omega (arith, first.1, next.bound, sum_by-cons attribute_bytes a others, ap weight whole, weight-append white (spelled ++ more), weight-append spelled more);
+      bound = omega (
+        arith,
+        first.1,
+        next.bound,
+        sum_by-cons attribute_bytes a others,
+        ap weight whole,
+        weight-append white (spelled ++ more),
+        weight-append spelled more,
+      );
     }
 
 -- Tokens.
@@ -238,9 +288,11 @@ start_fits : (tag : Tag) (one rest : List Place) → IsStart tag one rest → Al
 start_fits tag one rest (inl h) all = tag_fits tag one rest h.0 all
 start_fits tag one rest (inr (tagged, feed, whole, is, takes)) all =
     let parts = scalar-append tagged (feed ∷ []) (subst AllScalar whole all) in
-    tag_more tag (weight tagged) (weight one) (tag_fits tag tagged (feed ∷ rest) is parts.0) (omega (arith, ap weight whole, weight-append tagged (feed ∷ [])))
+    tag_more tag (weight tagged) (weight one) (tag_fits tag tagged (feed ∷ rest) is parts.0)
+    (omega (arith, ap weight whole, weight-append tagged (feed ∷ [])))
 
-pub token_fits : (t : Token) (one rest : List Place) → IsToken t one rest → AllScalar one → TokenIsUtf8 t × (token_bytes t ≤ weight one)
+pub token_fits : (t : Token) (one rest : List Place) → IsToken t one rest → AllScalar one
+    → TokenIsUtf8 t × (token_bytes t ≤ weight one)
 token_fits (Start tag) one rest h all = let fits = start_fits tag one rest h.1 all in ((fits.name, fits.attributes), fits.bound)
 token_fits (Raw tag text) one rest h all =
     let raw = h.1 in
@@ -248,14 +300,25 @@ token_fits (Raw tag text) one rest h all =
     let parts = scalar-append raw.tagged (raw.inner ++ raw.ending) own in
     let inside = scalar-append raw.inner raw.ending parts.1 in
     let fits = tag_fits tag raw.tagged (raw.inner ++ (raw.ending ++ rest)) raw.tag_is parts.0 in
-    let piece = subst (λ (p : Option Piece). PieceFits p (weight raw.inner)) (sym raw.text_is) (raw_piece_fits (place_or 0 raw.inner) raw.inner inside.0) in
-    ((fits.name, fits.attributes, piece.utf8), omega (arith, fits.bound, piece.bound, ap weight raw.whole, weight-append raw.tagged (raw.inner ++ raw.ending), weight-append raw.inner raw.ending))
+    let piece = subst (λ (p : Option Piece). PieceFits p (weight raw.inner)) (sym raw.text_is)
+    (raw_piece_fits (place_or 0 raw.inner) raw.inner inside.0) in (
+      (fits.name, fits.attributes, piece.utf8),
+      omega (
+        arith,
+        fits.bound,
+        piece.bound,
+        ap weight raw.whole,
+        weight-append raw.tagged (raw.inner ++ raw.ending),
+        weight-append raw.inner raw.ending,
+      ),
+    )
 token_fits (End at m) one rest h all = (tt, omega arith)
 token_fits (Comment at) one rest h all = (tt, omega arith)
 token_fits (Doctype at) one rest h all = (tt, omega arith)
 token_fits (Char at c s) one rest h all = character_fits at c s one rest h.0 all
 
-pub lexed_fit : (toks : List Token) (ps : List Place) → IsLexed toks ps → AllScalar ps → AllByRecursion TokenIsUtf8 toks × (sum_by token_bytes toks ≤ weight ps)
+pub lexed_fit : (toks : List Token) (ps : List Place) → IsLexed toks ps → AllScalar ps
+    → AllByRecursion TokenIsUtf8 toks × (sum_by token_bytes toks ≤ weight ps)
 lexed_fit [] ps h all = (tt, omega arith)
 lexed_fit (t ∷ ts) ps (one, rest, whole, is, others) all =
     let parts = scalar-append one rest (subst AllScalar whole all) in

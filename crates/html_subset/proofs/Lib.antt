@@ -1,4 +1,3 @@
-pub mod PlaceLemmas
 pub mod TextLemmas
 pub mod ValueLoop
 pub mod AttributeLoop

@@ -1,16 +1,19 @@
 -- Looking ahead.
-use Rattle.std.proofs.Common.{◌≡◌, ℕ, suc, ◌+◌, ◌-◌, ◌<◌, List, [], ◌∷◌, length, drop, None, false, refl, ap, ◌∙◌, sym, arith, drop-cons}
+use Rattle.std.proofs.Common.{◌≡◌, ℕ, suc, ◌+◌, ◌-◌, ◌<◌, List, [], ◌∷◌, length, drop, None, false, refl, ap, ◌∙◌, sym, arith}
+use Rattle.std.proofs.Common.{drop-cons}
 use Rattle.std.proofs.lemmas.List.{drop_all}
 use Rattle.html_grammar.specs.declared.place.Place.{Place}
 use Rattle.html_grammar.specs.Places.{first, behind_first}
 use Rattle.html_grammar.specs.Lexing.{begins_text, begins_folded}
 
 -- where the text ends, no more characters come
-pub text_out : (wanted : List ℕ) (i : ℕ) (ps : List Place) → i < length wanted → first ps ≡ None → begins_text (drop i wanted) ps ≡ false
+pub text_out : (wanted : List ℕ) (i : ℕ) (ps : List Place) → i < length wanted → first ps ≡ None
+    → begins_text (drop i wanted) ps ≡ false
 text_out wanted i [] lt none = rw (drop-cons wanted i 0 lt) refl
 text_out wanted i (p ∷ ps) lt none = absurd cc
 
-pub folded_out : (wanted : List ℕ) (i : ℕ) (ps : List Place) → i < length wanted → first ps ≡ None → begins_folded (drop i wanted) ps ≡ false
+pub folded_out : (wanted : List ℕ) (i : ℕ) (ps : List Place) → i < length wanted → first ps ≡ None
+    → begins_folded (drop i wanted) ps ≡ false
 folded_out wanted i [] lt none = rw (drop-cons wanted i 0 lt) refl
 folded_out wanted i (p ∷ ps) lt none = absurd cc
 

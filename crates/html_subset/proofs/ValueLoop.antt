@@ -1,11 +1,13 @@
 -- Reading a value character by character, as a loop does.
-use Rattle.std.proofs.Common.{◌≡◌, ℕ, suc, ◌+◌, ◌-◌, ◌≤◌, ◌<◌, List, [], ◌∷◌, Bool, true, false, Some, None, refl, ap, ◌∙◌, sym, arith}
+use Rattle.std.proofs.Common.{◌≡◌, ℕ, suc, ◌+◌, ◌-◌, ◌≤◌, ◌<◌, List, [], ◌∷◌, Bool, true, false, Some, None, refl, ap, ◌∙◌, sym}
+use Rattle.std.proofs.Common.{arith}
 use Rattle.html_grammar.specs.declared.place.Place.{Place}
 use Rattle.html_grammar.specs.declared.token.Value.{Value}
 use Rattle.html_grammar.specs.Places.{first, behind_first}
 use Rattle.html_grammar.specs.Lexing.{value_from, added}
 
-pub value_ends : (test : ℕ → Bool) (n i : ℕ) (v : Value) (ps : List Place) (total : Value × List Place) → i < n → first ps ≡ None → value_from (n - i) test v ps ≡ total → (v, ps) ≡ total
+pub value_ends : (test : ℕ → Bool) (n i : ℕ) (v : Value) (ps : List Place) (total : Value × List Place) → i < n → first ps ≡ None
+    → value_from (n - i) test v ps ≡ total → (v, ps) ≡ total
 unfolding value_from
 value_ends test n i v [] total lt none so_far =
     let k : n - i ≡ suc (n - (i + 1)) = omega arith in
@@ -13,7 +15,8 @@ value_ends test n i v [] total lt none so_far =
     sym one ∙ so_far
 value_ends test n i v (p ∷ ps) total lt none so_far = absurd cc
 
-pub value_stops : (test : ℕ → Bool) (n i : ℕ) (v : Value) (ps : List Place) (p : Place) (total : Value × List Place) → i < n → first ps ≡ Some p → test p.character ≡ false → value_from (n - i) test v ps ≡ total → (v, ps) ≡ total
+pub value_stops : (test : ℕ → Bool) (n i : ℕ) (v : Value) (ps : List Place) (p : Place) (total : Value × List Place) → i < n
+    → first ps ≡ Some p → test p.character ≡ false → value_from (n - i) test v ps ≡ total → (v, ps) ≡ total
 unfolding value_from
 value_stops test n i v [] p total lt some fails so_far = absurd cc
 value_stops test n i v (q ∷ qs) p total lt some fails so_far =
@@ -23,7 +26,9 @@ value_stops test n i v (q ∷ qs) p total lt some fails so_far =
     let one : value_from (n - i) test v (q ∷ qs) ≡ (v, q ∷ qs) = rw (k, off) refl in
     sym one ∙ so_far
 
-pub value_goes : (test : ℕ → Bool) (n i : ℕ) (v : Value) (ps : List Place) (p : Place) (w : Value) (after : List Place) (total : Value × List Place) → i < n → first ps ≡ Some p → test p.character ≡ true → (w, after) ≡ added v p (behind_first ps) → value_from (n - i) test v ps ≡ total → value_from (n - (i + 1)) test w after ≡ total
+pub value_goes : (test : ℕ → Bool) (n i : ℕ) (v : Value) (ps : List Place) (p : Place) (w : Value) (after : List Place)
+    (total : Value × List Place) → i < n → first ps ≡ Some p → test p.character ≡ true → (w, after) ≡ added v p (behind_first ps)
+    → value_from (n - i) test v ps ≡ total → value_from (n - (i + 1)) test w after ≡ total
 unfolding value_from
 value_goes test n i v [] p w after total lt some passes read so_far = absurd cc
 value_goes test n i v (q ∷ qs) p w after total lt some passes read so_far =
@@ -34,7 +39,8 @@ value_goes test n i v (q ∷ qs) p w after total lt some passes read so_far =
     let one : value_from (n - i) test v (q ∷ qs) ≡ value_from (n - (i + 1)) test w after = rw (k, on, e) refl in
     sym one ∙ so_far
 
-pub value_out : (test : ℕ → Bool) (n i : ℕ) (v : Value) (ps : List Place) (total : Value × List Place) → n ≤ i → value_from (n - i) test v ps ≡ total → (v, ps) ≡ total
+pub value_out : (test : ℕ → Bool) (n i : ℕ) (v : Value) (ps : List Place) (total : Value × List Place) → n ≤ i
+    → value_from (n - i) test v ps ≡ total → (v, ps) ≡ total
 unfolding value_from
 value_out test n i v ps total le so_far =
     let k : n - i ≡ 0 = omega arith in

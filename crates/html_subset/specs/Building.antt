@@ -5,7 +5,14 @@ use Rattle.html_subset.specs.declared.building.Builder.{Builder}
 use Rattle.html_subset.specs.declared.building.Finished.{Finished}
 
 abbrev pub state_of : Builder → State
-state_of b = record { stage = b.stage; nodes = b.nodes.items; words = b.words; opens = b.opens; html = b.html; deepest = b.deepest }
+state_of b = record {
+  stage = b.stage;
+  nodes = b.nodes.items;
+  words = b.words;
+  opens = b.opens;
+  html = b.html;
+  deepest = b.deepest;
+}
 
 -- with the text so far as a node
 abbrev pub at_rest : State → State

@@ -8,4 +8,5 @@ use Rattle.html_grammar.specs.Documents.{IsText}
 -- whatever tree the text spells, and with whatever first construct that isn't laid out, these are the document's
 abbrev pub IsTheOneOf : List ℕ → Dom → Type 0
 IsTheOneOf bytes dom =
-    (tree : Forest) (construct : Option Found) → IsText bytes tree construct → (dom.nodes ≡ nodes_from None 0 tree) × (dom.construct ≡ construct)
+    (tree : Forest) (construct : Option Found) → IsText bytes tree construct
+    → (dom.nodes ≡ nodes_from None 0 tree) × (dom.construct ≡ construct)

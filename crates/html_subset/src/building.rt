@@ -138,7 +138,7 @@ impl Builder {
         Ok(())
     }
 
-    /// An end tag in the body or behind it.
+    /// An end tag in the body or after it.
     #[tactic(auto, unfolding(html_grammar::specs::Machine::step))]
     fn end(&mut self, at: u64, name: Text) -> Result<(), ReadError>
         ensures state { Gives (λ _. state_of self.new) result (machine.step (state_of self.old) (Token.End at name)) }
@@ -149,7 +149,7 @@ impl Builder {
         Ok(())
     }
 
-    /// A character of text in the body or behind it.
+    /// A character of text in the body or after it.
     #[tactic(auto, unfolding(html_grammar::specs::Machine::step))]
     fn character(
         &mut self,
@@ -158,7 +158,8 @@ impl Builder {
         character: char,
         spelled: Spelled,
     ) -> Result<(), ReadError>
-        ensures state { Gives (λ _. state_of self.new) result (machine.step (state_of self.old) (Token.Char at character spelled)) }
+        ensures state { Gives (λ _. state_of self.new) result
+            (machine.step (state_of self.old) (Token.Char at character spelled)) }
         ensures few { OnOk result (length self.new.nodes.items ≤ length self.old.nodes.items) }
     {
         if self.opens.innermost().is_none() {
@@ -172,7 +173,7 @@ impl Builder {
         Ok(())
     }
 
-    /// A token in the body or behind it.
+    /// A token in the body or after it.
     #[tactic(auto, unfolding(html_grammar::specs::Machine::step))]
     fn step(&mut self, alloc: Global, token: Token) -> Result<(), ReadError>
         requires { length self.old.nodes.items + 3 < 2 ^ 32 }
@@ -264,7 +265,7 @@ impl Builder {
         Ok(())
     }
 
-    /// A token behind the head.
+    /// A token after the head.
     #[tactic(auto, unfolding(html_grammar::specs::Machine::take_behind_head))]
     fn take_behind_head(&mut self, alloc: Global, token: Token) -> Result<(), ReadError>
         requires { length self.old.nodes.items + 4 < 2 ^ 32 }

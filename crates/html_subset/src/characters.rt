@@ -7,9 +7,10 @@ ghost use Rattle.html_grammar.specs.Tokens as tokens;
 ghost use Rattle.html_grammar.specs.Lexing as lex;
 ghost use Rattle.html_subset.specs.Classes.{test_of};
 
-use crate::cursor::Cursor;
 use mc_base::Text;
 use std::alloc::{AllocError, Global};
+use text_cursor::Cursor;
+pub use text_cursor::{begins, offset, push};
 
 /// A kind of characters.
 #[derive(Clone, Copy)]
@@ -18,13 +19,13 @@ pub enum Class {
     Space,
     /// An ASCII letter, with which a tag's name begins.
     Letter,
-    /// What a tag's name has behind its first letter.
+    /// What a tag's name has after its first letter.
     Name,
     /// What an attribute's name has.
     Key,
     /// What a value without quotes has.
     Bare,
-    /// What stands behind the name in the end tag of raw text.
+    /// What stands after the name in the end tag of raw text.
     PastName,
     /// An ASCII letter or digit.
     Word,
@@ -87,16 +88,6 @@ pub fn passes(class: Class, character: char) -> bool
     }
 }
 
-/// Whether the next character is this one.
-pub fn begins(cursor: &Cursor, character: char) -> bool
-    ensures { result ≡ places.begins character cursor.now }
-{
-    match cursor.peek() {
-        Some(place) => place.character == character,
-        None => false,
-    }
-}
-
 /// Whether the next character is of a kind.
 pub fn begins_with(cursor: &Cursor, class: Class) -> bool
     ensures { result ≡ places.begins_with (test_of class) cursor.now }
@@ -104,16 +95,6 @@ pub fn begins_with(cursor: &Cursor, class: Class) -> bool
     match cursor.peek() {
         Some(place) => passes(class, place.character),
         None => false,
-    }
-}
-
-/// The byte of the next character, or 0.
-pub fn offset(cursor: &Cursor) -> u64
-    ensures { result ≡ places.place_or 0 cursor.now }
-{
-    match cursor.peek() {
-        Some(place) => place.at,
-        None => 0,
     }
 }
 
@@ -127,15 +108,6 @@ pub fn skip(cursor: &mut Cursor, class: Class)
         }
         cursor.bump();
     }
-}
-
-/// Adds a character at the end of a text.
-pub fn push(text: &mut Text, character: char) -> Result<(), AllocError>
-    ensures { OnOk result (text.new ≡ text.old ++ encode_utf8 character) }
-{
-    let mut bytes = [0u8; 4];
-    let spelled = character.encode_utf8(&mut bytes);
-    text.extend(spelled.as_bytes())
 }
 
 /// Goes past an attribute's name, and gives it in lower case.
@@ -236,7 +208,7 @@ pub fn begins_folded(cursor: &Cursor, wanted: &[u8]) -> bool
     true
 }
 
-/// What stands behind the next characters, so many of them.
+/// What stands after the next characters, so many of them.
 pub fn past<'a>(cursor: &Cursor<'a>, count: usize) -> Cursor<'a>
     ensures { result ≡ drop count cursor.now }
 {

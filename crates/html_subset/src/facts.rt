@@ -144,7 +144,7 @@ pub fn attributes_of(alloc: Global, token: Token) -> List<Attribute>
     }
 }
 
-/// The fault that a token has behind its own place.
+/// The fault that a token has after its own place.
 pub fn late_of(token: &Token) -> Option<Fault>
     ensures { result ≡ tokens.late_of token.now }
 {

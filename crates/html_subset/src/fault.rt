@@ -2,5 +2,5 @@
 
 use html_grammar::Fault;
 
-/// Want of memory, or a fault of the grammar.
+/// Out of memory, or a fault of the grammar.
 pub type ReadError = mc_base::ReadError<Fault>;

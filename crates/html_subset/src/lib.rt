@@ -7,7 +7,6 @@
 
 mod building;
 mod characters;
-mod cursor;
 mod facts;
 mod fault;
 mod names;

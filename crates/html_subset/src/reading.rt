@@ -16,7 +16,6 @@ ghost use Rattle.html_subset.specs.OneTree.{IsTheOneOf};
 ghost use Rattle.html_subset.specs.WellFormed.{IsWellFormed};
 
 use crate::building::{Builder, Finished};
-use crate::cursor::Cursor;
 use crate::facts::{construct_of, late_of};
 use crate::fault::ReadError;
 use crate::tokens::token_at;
@@ -24,6 +23,7 @@ use html_grammar::{Dom, DomNode, Fault, NodeKind, Place};
 use mc_base::{Found, Input, LimitName, List, Refusal, Rule, nonzero_len};
 use std::alloc::Global;
 use std::str;
+use text_cursor::Cursor;
 
 /// What reading comes to: the nodes, and the first construct that isn't laid out.
 #[derive(Drop)]
@@ -42,7 +42,7 @@ fn or_found(first: Option<Found>, then: Option<Found>) -> Option<Found>
     }
 }
 
-/// Takes the token that begins here. Gives what it has that isn't laid out, and what stands behind it.
+/// Takes the token that begins here. Gives what it has that isn't laid out, and what stands after it.
 #[tactic(auto, unfolding(crate::specs::Turn::turn))]
 fn take_turn<'a>(
     alloc: Global,
@@ -85,7 +85,8 @@ fn conclude(
 /// Takes the tokens of a text one after the other.
 fn read_tokens(alloc: Global, text: &str) -> Result<Read, ReadError>
     requires { length text.now ≤ 2 ^ 28 }
-    ensures { Gives (λ r. reading_of r) result (whole.read_from (length text.now) (length text.now) None opening_state (places_of (chars text.now))) }
+    ensures { Gives (λ r. reading_of r) result
+        (whole.read_from (length text.now) (length text.now) None opening_state (places_of (chars text.now))) }
 {
     let size = text.len();
     let mut rest = Cursor::new(text);
@@ -204,7 +205,7 @@ fn dom_of(alloc: Global, text: &[u8]) -> Result<Dom, Refusal>
 ///
 /// `Refusal::Grammar` is the first fault, by the byte where it stands and its rule, h1 to h9. `Refusal::Limit` comes
 /// where the text is on the grammar and has more than 20,000 elements (`elements`), or else more than 64 elements one
-/// inside another (`depth`); what is reached is the limit plus 1. Want of memory may be answered for every text.
+/// inside another (`depth`); what is reached is the limit plus 1. Out of memory may be answered for every text.
 pub fn parse(alloc: Global, text: &[u8]) -> Result<Dom, Refusal>
     requires { length text.now ≤ 2 ^ 28 }
     // What is answered is the document that the text spells, within the limits.

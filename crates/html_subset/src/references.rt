@@ -7,10 +7,10 @@ ghost use Rattle.html_grammar.specs.Lexing as lex;
 ghost use Rattle.html_grammar.specs.References.{named_in, named_character};
 
 use crate::characters::{Class, begins, begins_with, word};
-use crate::cursor::Cursor;
 use crate::names::same;
 use html_grammar::Meaning;
 use std::alloc::{AllocError, Global};
+use text_cursor::Cursor;
 
 /// A number with one more digit, cut at one above the greatest character.
 fn grown(value: u32, radix: u32, digit: char) -> u32
@@ -69,7 +69,7 @@ fn numbered<'a>(value: u32, rest: Cursor<'a>, behind: Cursor<'a>) -> (Meaning, C
     }
 }
 
-/// What digits and a `;` behind `&#` mean.
+/// What digits and a `;` after `&#` mean.
 #[tactic(auto, unfolding(html_grammar::specs::Lexing::number_at))]
 fn number_at<'a>(radix: u32, rest: Cursor<'a>, digits: Cursor<'a>) -> (Meaning, Cursor<'a>)
     requires low { 2 ≤ radix }
@@ -145,7 +145,7 @@ fn named_character(name: &[u8]) -> Option<char>
     )
 }
 
-/// What a name and a `;` behind `&` mean.
+/// What a name and a `;` after `&` mean.
 #[tactic(auto, unfolding(html_grammar::specs::Lexing::name_at))]
 fn name_at<'a>(alloc: Global, rest: Cursor<'a>) -> Result<(Meaning, Cursor<'a>), AllocError>
     ensures { IfOk result (λ x. (x.0, x.1) ≡ lex.name_at rest.entry) }
@@ -165,7 +165,7 @@ fn name_at<'a>(alloc: Global, rest: Cursor<'a>) -> Result<(Meaning, Cursor<'a>),
     }
 }
 
-/// What an `&` means, and what stands behind the reference, or behind the `&` where it is none.
+/// What an `&` means, and what stands after the reference, or after the `&` where it is none.
 #[tactic(auto, unfolding(html_grammar::specs::Lexing::meaning_at))]
 pub fn meaning<'a>(alloc: Global, rest: Cursor<'a>) -> Result<(Meaning, Cursor<'a>), AllocError>
     ensures { IfOk result (λ x. (x.0, x.1) ≡ lex.meaning_at rest.entry) }

@@ -79,7 +79,8 @@ fn at_bottom(at: u64, name: &[u8], html: bool) -> Result<bool, ReadError>
 
 /// Closes up to the innermost element of this name, `html` as the outermost. Answers whether `html` stays open.
 fn close_up_to(opens: &mut Vec<Open>, at: u64, name: &[u8], html: bool) -> Result<bool, ReadError>
-    ensures { Gives (λ left. (stack_of opens.new.items, left)) result (machine.without at name.now html (stack_of opens.old.items)) }
+    ensures { Gives (λ left. (stack_of opens.new.items, left)) result
+        (machine.without at name.now html (stack_of opens.old.items)) }
 {
     while let Some(open) = opens.pop() {
         if names::same(name, open.name.as_slice()) {

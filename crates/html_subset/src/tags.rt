@@ -5,13 +5,13 @@ ghost use Rattle.html_grammar.specs.Lexing as lex;
 ghost use Rattle.html_subset.specs.Gives.{Gives};
 
 use crate::characters::{Class, begins, begins_with, key, offset, skip, tag_name};
-use crate::cursor::Cursor;
 use crate::fault::ReadError;
 use crate::values::assigned_at;
 use html_grammar::{Attribute, Fault, ReadAttribute, ReadAttributes, Token};
 use mc_base::List;
 use std::alloc::{AllocError, Global};
 use std::collections::BTreeMap;
+use text_cursor::Cursor;
 
 /// An attribute, in a tag that begins at a byte.
 #[tactic(auto, unfolding(html_grammar::specs::Lexing::attribute_at))]
@@ -32,7 +32,7 @@ fn attribute_at<'a>(
     assigned_at(alloc, size, tag, at, name, rest)
 }
 
-/// The next attribute, or None behind the tag's end.
+/// The next attribute, or None after the tag's end.
 #[tactic(auto, unfolding(html_grammar::specs::Lexing::piece_at))]
 fn piece_at<'a>(
     alloc: Global,
@@ -135,7 +135,7 @@ pub fn is_doubled(alloc: Global, attributes: &[Attribute]) -> Result<bool, Alloc
     Ok(false)
 }
 
-/// An end tag behind its `</`.
+/// An end tag after its `</`.
 #[tactic(auto, unfolding(html_grammar::specs::Lexing::end_at))]
 pub fn end_tag<'a>(
     alloc: Global,

@@ -10,7 +10,6 @@ ghost use Rattle.html_subset.specs.Gives.{Gives, Fails};
 use crate::characters::{
     Class, begins, begins_folded, begins_text, begins_with, offset, past, push, skip, tag_name,
 };
-use crate::cursor::Cursor;
 use crate::fault::ReadError;
 use crate::names::{is_raw, same};
 use crate::references::meaning;
@@ -18,6 +17,7 @@ use crate::tags::{attributes, end_tag, is_doubled};
 use html_grammar::{Fault, Meaning, Piece, Place, ReadAttributes, Spelled, Tag, Token};
 use mc_base::Text;
 use std::alloc::{AllocError, Global};
+use text_cursor::Cursor;
 
 /// Goes on to where these characters come, or to the end.
 fn find_text(cursor: &mut Cursor, wanted: &[u8])
@@ -31,7 +31,7 @@ fn find_text(cursor: &mut Cursor, wanted: &[u8])
     }
 }
 
-/// A comment behind its `<!--`.
+/// A comment after its `<!--`.
 #[tactic(auto, unfolding(html_grammar::specs::Lexing::comment_at))]
 fn comment_at<'a>(at: u64, rest: Cursor<'a>) -> Result<(Token, Cursor<'a>), ReadError>
     ensures { Gives (λ x. (x.0, x.1)) result (lex.comment_at at rest.entry) }
@@ -44,7 +44,7 @@ fn comment_at<'a>(at: u64, rest: Cursor<'a>) -> Result<(Token, Cursor<'a>), Read
     Ok((Token::Comment { at }, past(&rest, 3)))
 }
 
-/// A doctype behind its `<!doctype`.
+/// A doctype after its `<!doctype`.
 #[tactic(auto, unfolding(html_grammar::specs::Lexing::doctype_at))]
 fn doctype_at<'a>(at: u64, rest: Cursor<'a>) -> Result<(Token, Cursor<'a>), ReadError>
     ensures { Gives (λ x. (x.0, x.1)) result (lex.doctype_at at rest.entry) }
@@ -58,7 +58,7 @@ fn doctype_at<'a>(at: u64, rest: Cursor<'a>) -> Result<(Token, Cursor<'a>), Read
     Ok((Token::Doctype { at }, rest))
 }
 
-/// A comment or a doctype behind its `<`.
+/// A comment or a doctype after its `<`.
 #[tactic(auto, unfolding(html_grammar::specs::Lexing::mark_at))]
 fn mark_at<'a>(at: u64, rest: Cursor<'a>) -> Result<(Token, Cursor<'a>), ReadError>
     ensures { Gives (λ x. (x.0, x.1)) result (lex.mark_at at rest.entry) }
@@ -122,7 +122,7 @@ fn with_late(tag: Tag, fault: Fault) -> Tag
     tag
 }
 
-/// A tag with a fault that comes behind the one that it has.
+/// A tag with a fault that comes after the one that it has.
 fn or_late(tag: Tag, fault: Fault) -> Tag
     ensures { result ≡ lex.or_late tag fault }
 {
@@ -132,7 +132,8 @@ fn or_late(tag: Tag, fault: Fault) -> Tag
 
 /// A raw element whose end tag is off its form.
 fn raw_off(tag: Tag, text: Option<Piece>, error: ReadError) -> Result<Token, ReadError>
-    ensures { (end : Result (AToken × List APlace) AFault) → Fails error end → Gives (λ t. (t, [])) result (lex.raw_ended tag text end) }
+    ensures { (end : Result (AToken × List APlace) AFault) → Fails error end
+        → Gives (λ t. (t, [])) result (lex.raw_ended tag text end) }
 {
     match error {
         ReadError::Memory => Err(ReadError::Memory),
@@ -143,7 +144,7 @@ fn raw_off(tag: Tag, text: Option<Piece>, error: ReadError) -> Result<Token, Rea
     }
 }
 
-/// A raw element with its end tag, which begins at a byte, behind its `</`.
+/// A raw element with its end tag, which begins at a byte, after its `</`.
 fn raw_ended<'a>(
     alloc: Global,
     tag: Tag,
@@ -162,7 +163,7 @@ fn raw_ended<'a>(
     }
 }
 
-/// The content and the end tag of a raw element behind its start tag.
+/// The content and the end tag of a raw element after its start tag.
 #[tactic(auto, unfolding(html_grammar::specs::Lexing::raw_at))]
 fn raw_at<'a>(alloc: Global, tag: Tag, rest: Cursor<'a>) -> Result<(Token, Cursor<'a>), ReadError>
     ensures { Gives (λ x. (x.0, x.1)) result (lex.raw_at tag rest.entry) }
@@ -183,7 +184,7 @@ fn raw_at<'a>(alloc: Global, tag: Tag, rest: Cursor<'a>) -> Result<(Token, Curso
     raw_ended(alloc, tag, text, at, past(&rest, 2))
 }
 
-/// An element of raw text, or a start tag with the line feed behind `<pre>`.
+/// An element of raw text, or a start tag with the line feed after `<pre>`.
 #[tactic(auto, unfolding(html_grammar::specs::Lexing::behind_tag))]
 fn behind_tag<'a>(
     alloc: Global,
@@ -213,7 +214,7 @@ fn bad_reference(bad: Option<u64>) -> Option<Fault>
     }
 }
 
-/// A start tag behind its `<`.
+/// A start tag after its `<`.
 #[tactic(auto, unfolding(html_grammar::specs::Lexing::start_at))]
 fn start_at<'a>(
     alloc: Global,
@@ -306,7 +307,7 @@ fn plain(place: Place) -> Token
     }
 }
 
-/// The token that begins with this character, and what stands behind it.
+/// The token that begins with this character, and what stands after it.
 #[tactic(auto, unfolding(html_grammar::specs::Lexing::token_at))]
 pub fn token_at<'a>(
     alloc: Global,

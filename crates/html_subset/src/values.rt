@@ -7,12 +7,12 @@ ghost use Rattle.html_subset.specs.Classes.{test_of};
 ghost use Rattle.html_subset.specs.Gives.{Gives};
 
 use crate::characters::{Class, begins, begins_with, offset, passes, push};
-use crate::cursor::Cursor;
 use crate::fault::ReadError;
 use crate::references::meaning;
 use html_grammar::{Fault, Meaning, Place, ReadAttribute, Value};
 use mc_base::Text;
 use std::alloc::{AllocError, Global};
+use text_cursor::Cursor;
 
 /// The first of two places that come one after the other.
 fn first_of(first: Option<u64>, then: u64) -> Option<u64>
@@ -72,7 +72,7 @@ fn by_meaning(value: Value, at: u64, meaning: Meaning) -> Result<Value, AllocErr
     }
 }
 
-/// A value with what a character of it spells, and what stands behind it.
+/// A value with what a character of it spells, and what stands after it.
 #[tactic(auto, unfolding(html_grammar::specs::Lexing::added))]
 fn added<'a>(
     alloc: Global,
@@ -91,7 +91,7 @@ fn added<'a>(
     Ok((value, after))
 }
 
-/// The value that characters of a kind spell, of which there are at most so many, and what stands behind it.
+/// The value that characters of a kind spell, of which there are at most so many, and what stands after it.
 fn value_from<'a>(
     alloc: Global,
     size: usize,
@@ -117,7 +117,7 @@ fn value_from<'a>(
     Ok((value, rest))
 }
 
-/// A value behind its opening quote.
+/// A value after its opening quote.
 #[tactic(auto, unfolding(html_grammar::specs::Lexing::quoted_at))]
 fn quoted_at<'a>(
     alloc: Global,
@@ -172,7 +172,7 @@ fn bare_at<'a>(
     ))
 }
 
-/// A value behind its `=`.
+/// A value after its `=`.
 #[tactic(auto, unfolding(html_grammar::specs::Lexing::value_at))]
 fn value_at<'a>(
     alloc: Global,
@@ -195,7 +195,7 @@ fn value_at<'a>(
     bare_at(alloc, size, tag, name, rest)
 }
 
-/// An attribute behind its name, which begins at a byte.
+/// An attribute after its name, which begins at a byte.
 #[tactic(auto, unfolding(html_grammar::specs::Lexing::assigned_at))]
 pub fn assigned_at<'a>(
     alloc: Global,

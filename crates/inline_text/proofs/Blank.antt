@@ -1,5 +1,6 @@
 -- Nothing but `wbr` is left of white space that collapses and `wbr`, and of nothing else.
-use Rattle.std.proofs.Common.{◌≡◌, ℕ, Bool, true, false, ◌&&◌, ◌==◌, List, [], ◌∷◌, ◌++◌, refl, sym, ◌∙◌, subst, cond, replicate, All}
+use Rattle.std.proofs.Common.{◌≡◌, ℕ, Bool, true, false, ◌&&◌, ◌==◌, List, [], ◌∷◌, ◌++◌, refl, sym, ◌∙◌, subst, cond, replicate}
+use Rattle.std.proofs.Common.{All}
 use Rattle.std.specs.Prelude.{IsTrue, ◌↔◌}
 use Rattle.std.specs.List.{AllByRecursion, list_all}
 use Rattle.std.proofs.lemmas.Bool.{and_parts}
@@ -8,7 +9,8 @@ use Rattle.inline_text.specs.declared.content.Piece.{Piece}
 use Rattle.inline_text.specs.declared.content.Piece.TheVariants.{Char, Image, Forced, Chance}
 use Rattle.inline_text.specs.declared.content.RunStyle.{RunStyle}
 use Rattle.inline_text.specs.declared.content.Kind.TheVariants.{Space, Content, Break}
-use Rattle.inline_text.specs.WhiteSpace.{keeps, is_white, char_becomes, kind_of_char, piece_becomes, kind_of, content_or, precedes_content, collapsed, is_chance, is_blank_kind, is_blank_piece}
+use Rattle.inline_text.specs.WhiteSpace.{keeps, is_white, char_becomes, kind_of_char, piece_becomes, kind_of, content_or}
+use Rattle.inline_text.specs.WhiteSpace.{precedes_content, collapsed, is_chance, is_blank_kind, is_blank_piece}
 use Rattle.inline_text.proofs.Scan.{collapsed_at, collapsed_behind_at}
 use Rattle.inline_text.proofs.Settled.{by_test}
 
@@ -22,11 +24,14 @@ IsBlank styles piece = IsTrue (is_blank_piece styles piece)
 
 char_goes : (styles : List RunStyle) (ch style : ℕ) (after rest : List Piece) (keep : Bool)
     → IsTrue (is_blank_kind (kind_of_char keep ch)) → (AllByRecursion IsChance (collapsed_at styles false after))
-    → AllByRecursion IsChance (char_becomes keep ch style false ++ collapsed_at styles (content_or (kind_of_char keep ch) false) after)
+    → AllByRecursion IsChance (char_becomes keep ch style false ++ collapsed_at styles (content_or (kind_of_char keep ch) false)
+    after)
 char_goes styles ch style after rest true blank h =
     absurd (by_test (ch == 10) (λ t. IsTrue (is_blank_kind (cond t Break Content)) → ⊥) (λ _ e. cc) (λ _ e. cc) blank)
 char_goes styles ch style after rest false blank h =
-    by_test (is_white ch) (λ t. IsTrue (is_blank_kind (cond t Space Content)) → AllByRecursion IsChance (cond t (cond false (Char 32 style ∷ []) []) (Char ch style ∷ []) ++ collapsed_at styles (content_or (cond t Space Content) false) after))
+    by_test (is_white ch) (λ t. IsTrue (is_blank_kind (cond t Space Content))
+    → AllByRecursion IsChance (cond t (cond false (Char 32 style ∷ []) []) (Char ch style ∷ []) ++ collapsed_at styles
+    (content_or (cond t Space Content) false) after))
     (λ _ _. h) (λ _ e. absurd (cc)) blank
 
 goes : (styles : List RunStyle) (pieces : List Piece) → AllByRecursion (IsBlank styles) pieces
@@ -46,11 +51,14 @@ front (x ∷ xs) ys h = let f = front xs ys h.1 in ((h.0, f.0), f.1)
 char_blank : (ch style : ℕ) (keep stays : Bool) → AllByRecursion IsChance (char_becomes keep ch style stays)
     → IsTrue (is_blank_kind (kind_of_char keep ch))
 char_blank ch style true stays h =
-    absurd (by_test (ch == 10) (λ t. AllByRecursion IsChance (cond t (Forced ∷ []) (cond (ch == 9) (replicate 8 (Char 32 style)) (Char ch style ∷ []))) → ⊥)
+    absurd (by_test (ch == 10) (λ t. AllByRecursion IsChance
+    (cond t (Forced ∷ []) (cond (ch == 9) (replicate 8 (Char 32 style)) (Char ch style ∷ []))) → ⊥)
     (λ _ a. let e = a.0 in cc)
-    (λ _. by_test (ch == 9) (λ t. AllByRecursion IsChance (cond t (replicate 8 (Char 32 style)) (Char ch style ∷ [])) → ⊥) (λ _ a. let e = a.0 in cc) (λ _ a. let e = a.0 in cc)) h)
+    (λ _. by_test (ch == 9) (λ t. AllByRecursion IsChance (cond t (replicate 8 (Char 32 style)) (Char ch style ∷ [])) → ⊥)
+    (λ _ a. let e = a.0 in cc) (λ _ a. let e = a.0 in cc)) h)
 char_blank ch style false stays h =
-    by_test (is_white ch) (λ t. AllByRecursion IsChance (cond t (cond stays (Char 32 style ∷ []) []) (Char ch style ∷ [])) → IsTrue (is_blank_kind (cond t Space Content)))
+    by_test (is_white ch) (λ t. AllByRecursion IsChance (cond t (cond stays (Char 32 style ∷ []) []) (Char ch style ∷ []))
+    → IsTrue (is_blank_kind (cond t Space Content)))
     (λ _ _. refl) (λ _ a. absurd (let e = a.0 in cc)) h
 
 piece_blank : (styles : List RunStyle) (piece : Piece) (stays : Bool)
@@ -90,6 +98,9 @@ pub left_are : (styles : List RunStyle) (pieces : List Piece) (answer : Bool)
     → IsTrue answer ↔ All IsChance (collapsed (record { pieces = pieces; styles = styles }))
 left_are styles pieces answer e =
     let same = collapsed_behind_at styles [] pieces in (
-      λ yes. All-from_recursion IsChance _ (subst (AllByRecursion IsChance) (sym same) (goes styles pieces (all_true (is_blank_piece styles) pieces (sym e ∙ yes)))),
-      λ all. e ∙ true_all (is_blank_piece styles) pieces (blank styles false pieces (subst (AllByRecursion IsChance) same (recursion_from_All IsChance _ all))),
+      λ yes. All-from_recursion IsChance _
+          (subst (AllByRecursion IsChance) (sym same)
+          (goes styles pieces (all_true (is_blank_piece styles) pieces (sym e ∙ yes)))),
+      λ all. e ∙ true_all (is_blank_piece styles) pieces
+          (blank styles false pieces (subst (AllByRecursion IsChance) same (recursion_from_All IsChance _ all))),
     )

@@ -1,18 +1,22 @@
 -- The images and forced breaks of the collapsed run, and how many pieces it has.
-use Rattle.std.proofs.Common.{◌≡◌, ℕ, ◌*◌, ◌≤◌, Bool, true, false, ◌&&◌, ◌==◌, List, [], ◌∷◌, ◌++◌, length, refl, ap, ◌∙◌, cond, replicate, filter, arith, length-append}
+use Rattle.std.proofs.Common.{◌≡◌, ℕ, ◌*◌, ◌≤◌, Bool, true, false, ◌&&◌, ◌==◌, List, [], ◌∷◌, ◌++◌, length, refl, ap, ◌∙◌, cond}
+use Rattle.std.proofs.Common.{replicate, filter, arith, length-append}
 use Rattle.std.proofs.lemmas.List.Elements.{filter-append}
 use Rattle.inline_text.specs.declared.content.Piece.{Piece}
 use Rattle.inline_text.specs.declared.content.Piece.TheVariants.{Char, Image, Forced, Chance}
 use Rattle.inline_text.specs.declared.content.RunStyle.{RunStyle}
 use Rattle.inline_text.specs.declared.content.Runs.{Runs}
-use Rattle.inline_text.specs.WhiteSpace.{keeps, is_white, char_becomes, piece_becomes, follows_content, precedes_content, becomes, collapsed_behind, collapsed, is_mark, mark_of_char, mark_of, marks}
+use Rattle.inline_text.specs.WhiteSpace.{keeps, is_white, char_becomes, piece_becomes, follows_content, precedes_content, becomes}
+use Rattle.inline_text.specs.WhiteSpace.{collapsed_behind, collapsed, is_mark, mark_of_char, mark_of, marks}
 use Rattle.inline_text.proofs.Settled.{by_test}
 
 char_marked : (ch style : ℕ) (keep stays : Bool) → filter is_mark (char_becomes keep ch style stays) ≡ mark_of_char keep ch
 char_marked ch style true stays =
-    by_test (ch == 10) (λ t. filter is_mark (cond t (Forced ∷ []) (cond (ch == 9) (replicate 8 (Char 32 style)) (Char ch style ∷ []))) ≡ cond t (Forced ∷ []) [])
+    by_test (ch == 10) (λ t. filter is_mark
+    (cond t (Forced ∷ []) (cond (ch == 9) (replicate 8 (Char 32 style)) (Char ch style ∷ []))) ≡ cond t (Forced ∷ []) [])
     (λ _. refl)
-    (λ _. by_test (ch == 9) (λ t. filter is_mark (cond t (replicate 8 (Char 32 style)) (Char ch style ∷ [])) ≡ []) (λ _. refl) (λ _. refl))
+    (λ _. by_test (ch == 9) (λ t. filter is_mark (cond t (replicate 8 (Char 32 style)) (Char ch style ∷ [])) ≡ []) (λ _. refl)
+    (λ _. refl))
 char_marked ch style false stays =
     by_test (is_white ch) (λ t. filter is_mark (cond t (cond stays (Char 32 style ∷ []) []) (Char ch style ∷ [])) ≡ [])
     (λ _. by_test stays (λ s. filter is_mark (cond s (Char 32 style ∷ []) []) ≡ []) (λ _. refl) (λ _. refl))
@@ -30,7 +34,8 @@ collapsed_marked : (styles : List RunStyle) (before pieces : List Piece)
 collapsed_marked styles before [] = refl
 collapsed_marked styles before (piece ∷ after) =
     filter-append is_mark (becomes styles before piece after) (collapsed_behind styles (piece ∷ before) after)
-    ∙ ap (λ front. front ++ filter is_mark (collapsed_behind styles (piece ∷ before) after)) (piece_marked styles piece (follows_content styles before && precedes_content styles after))
+    ∙ ap (λ front. front ++ filter is_mark (collapsed_behind styles (piece ∷ before) after))
+    (piece_marked styles piece (follows_content styles before && precedes_content styles after))
     ∙ ap (λ rest. mark_of styles piece ++ rest) (collapsed_marked styles (piece ∷ before) after)
 
 pub answer_marks : (runs answer : Runs) → answer.pieces ≡ collapsed runs
@@ -39,9 +44,11 @@ answer_marks runs answer p = ap (filter is_mark) p ∙ collapsed_marked runs.sty
 
 char_few : (ch style : ℕ) (keep stays : Bool) → length (char_becomes keep ch style stays) ≤ 8
 char_few ch style true stays =
-    by_test (ch == 10) (λ t. length (cond t (Forced ∷ []) (cond (ch == 9) (replicate 8 (Char 32 style)) (Char ch style ∷ []))) ≤ 8)
+    by_test (ch == 10) (λ t. length
+    (cond t (Forced ∷ []) (cond (ch == 9) (replicate 8 (Char 32 style)) (Char ch style ∷ []))) ≤ 8)
     (λ _. omega arith)
-    (λ _. by_test (ch == 9) (λ t. length (cond t (replicate 8 (Char 32 style)) (Char ch style ∷ [])) ≤ 8) (λ _. omega arith) (λ _. omega arith))
+    (λ _. by_test (ch == 9) (λ t. length (cond t (replicate 8 (Char 32 style)) (Char ch style ∷ [])) ≤ 8) (λ _. omega arith)
+    (λ _. omega arith))
 char_few ch style false stays =
     by_test (is_white ch) (λ t. length (cond t (cond stays (Char 32 style ∷ []) []) (Char ch style ∷ [])) ≤ 8)
     (λ _. by_test stays (λ s. length (cond s (Char 32 style ∷ []) []) ≤ 8) (λ _. omega arith) (λ _. omega arith))
@@ -63,4 +70,5 @@ collapsed_few styles before (piece ∷ after) =
     omega (arith, here, behind, both)
 
 pub answer_few : (runs answer : Runs) → answer.pieces ≡ collapsed runs → length answer.pieces ≤ 8 * length runs.pieces
-answer_few runs answer p = let few = collapsed_few runs.styles [] runs.pieces in let same = ap length p in omega (arith, few, same)
+answer_few runs answer p = let few = collapsed_few runs.styles [] runs.pieces in let same = ap length p
+    in omega (arith, few, same)

@@ -1,6 +1,7 @@
 -- Where lines of a collapsed run may break (CSS Text 3, section 5). A place of a run is seen between the pieces before it,
 -- the nearest first, and the pieces after it.
-use Rattle.std.specs.Prelude.{ℕ, Bool, true, false, ◌||◌, ◌&&◌, ◌==◌, not, List, [], ◌∷◌, Option, Some, None, slice_get, take, drop, reverse}
+use Rattle.std.specs.Prelude.{ℕ, Bool, true, false, ◌||◌, ◌&&◌, ◌==◌, not, List, [], ◌∷◌, Option, Some, None, slice_get, take}
+use Rattle.std.specs.Prelude.{drop, reverse}
 use Rattle.std.specs.Char.{is_ascii_alphabetic}
 use Rattle.inline_text.specs.declared.content.Piece.{Piece}
 use Rattle.inline_text.specs.declared.content.Piece.TheVariants.{Char, Image, Forced, Chance}
@@ -73,7 +74,7 @@ lets_break styles (Image w h style) between_letters = true
 lets_break styles Forced between_letters = false
 lets_break styles Chance between_letters = true
 
--- whether a place is a break opportunity: where the style before it allows wrapping, behind such a piece or before an
+-- whether a place is a break opportunity: where the style before it allows wrapping, after such a piece or before an
 -- image
 abbrev pub is_opportunity : List RunStyle → (before after : List Piece) → Bool
 is_opportunity styles [] after = false
@@ -85,7 +86,7 @@ is_opportunity styles (piece ∷ before) after =
 abbrev pub opportunity_at : Runs → (place : ℕ) → Bool
 opportunity_at runs place = is_opportunity runs.styles (reverse (take place runs.pieces)) (drop place runs.pieces)
 
--- for each of these pieces, behind the pieces `before`: whether the place directly behind it is an opportunity
+-- for each of these pieces, after the pieces `before`: whether the place directly after it is an opportunity
 abbrev pub opportunities_behind : List RunStyle → (before pieces : List Piece) → List Bool
 opportunities_behind styles before [] = []
 opportunities_behind styles before (piece ∷ after) =

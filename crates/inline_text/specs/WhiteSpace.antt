@@ -1,6 +1,7 @@
 -- How white space collapses (CSS 2.1, section 16.6.1): space, tab and line feed, by the style of each character. A piece
 -- of a run is seen between the pieces before it, the nearest first, and the pieces after it.
-use Rattle.std.specs.Prelude.{ℕ, ◌≡◌, ◌<◌, Bool, true, false, ◌||◌, ◌&&◌, ◌==◌, List, [], ◌∷◌, ◌++◌, length, Option, Some, None, IsTrue, not, replicate, reverse, slice_get, if◌then◌else◌}
+use Rattle.std.specs.Prelude.{ℕ, ◌≡◌, ◌<◌, Bool, true, false, ◌||◌, ◌&&◌, ◌==◌, List, [], ◌∷◌, ◌++◌, length, Option, Some, None}
+use Rattle.std.specs.Prelude.{IsTrue, not, replicate, reverse, slice_get, if◌then◌else◌}
 use Rattle.std.specs.List.{All}
 use Rattle.inline_text.specs.declared.content.Piece.{Piece}
 use Rattle.inline_text.specs.declared.content.Piece.TheVariants.{Char, Image, Forced, Chance}
@@ -90,10 +91,11 @@ piece_becomes styles Chance stays = Chance ∷ []
 abbrev pub becomes : List RunStyle → (before : List Piece) → Piece → (after : List Piece) → List Piece
 becomes styles before piece after = piece_becomes styles piece (follows_content styles before && precedes_content styles after)
 
--- what each of these pieces becomes, behind the pieces `before`
+-- what each of these pieces becomes, after the pieces `before`
 abbrev pub collapsed_behind : List RunStyle → (before pieces : List Piece) → List Piece
 collapsed_behind styles before [] = []
-collapsed_behind styles before (piece ∷ after) = becomes styles before piece after ++ collapsed_behind styles (piece ∷ before) after
+collapsed_behind styles before (piece ∷ after) =
+    becomes styles before piece after ++ collapsed_behind styles (piece ∷ before) after
 
 -- the pieces of a run after collapsing
 abbrev pub collapsed : Runs → List Piece
@@ -103,12 +105,13 @@ collapsed runs = collapsed_behind runs.styles [] runs.pieces
 abbrev pub IsCollapsed : Runs → Type 0
 IsCollapsed runs = collapsed runs ≡ runs.pieces
 
--- white space that collapses stands between content alone: none behind another, and none at the start, at the end or
+-- white space that collapses stands between content alone: none after another, and none at the start, at the end or
 -- beside a forced break
 abbrev pub SpacesStandBetween : Runs → Type 0
 SpacesStandBetween runs =
     (before : List Piece) (piece : Piece) (after : List Piece) → runs.pieces ≡ reverse before ++ piece ∷ after
-    → kind_of runs.styles piece ≡ Space → IsTrue (follows_content runs.styles before) × IsTrue (precedes_content runs.styles after)
+    → kind_of runs.styles piece ≡ Space → IsTrue (follows_content runs.styles before)
+    × IsTrue (precedes_content runs.styles after)
 
 -- a character that is no white space, an image or a `wbr`
 abbrev pub is_no_space : Piece → Bool

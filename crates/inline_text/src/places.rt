@@ -17,10 +17,10 @@ use crate::styles::{hyphenates, keeps_white_space, wraps};
 use mc_base::NoMemory;
 use std::alloc::Global;
 
-/// Where the lines of a collapsed run may break (CSS Text 3, section 5): for each piece, whether the place directly behind
+/// Where the lines of a collapsed run may break (CSS Text 3, section 5): for each piece, whether the place directly after
 /// it is a break opportunity.
 ///
-/// Where the style of the nearest character or image before a place allows wrapping, it is one behind a collapsed space,
+/// Where the style of the nearest character or image before a place allows wrapping, it is one after a collapsed space,
 /// U+200B, a soft hyphen whose style lets it, `-` between two ASCII letters, a `wbr` or an image, and before an image.
 pub fn opportunities(alloc: Global, runs: &Runs) -> Result<Vec<bool>, NoMemory>
     ensures list { IfOk result
@@ -51,7 +51,7 @@ fn is_behind_or_before(styles: &[RunStyle], piece: &Piece, letter: bool, after: 
     makes_opportunity(styles, piece, letter, after) || is_before_image(after)
 }
 
-/// Whether a piece makes the place behind it an opportunity; `letter` says whether a letter stands before the piece.
+/// Whether a piece makes the place after it an opportunity; `letter` says whether a letter stands before the piece.
 fn makes_opportunity(styles: &[RunStyle], piece: &Piece, letter: bool, after: &[Piece]) -> bool
     ensures { result ≡ lets_break styles.now piece.now (letter && begins_with_letter after.now) }
 {

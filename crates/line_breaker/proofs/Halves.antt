@@ -22,7 +22,8 @@ halved x r fits e =
     let high = half-most x in
     (omega (arith, ints, d, low, high), omega (arith, ints, d, low, high))
 
-pub above_is : (a d line a' d' : ℕ) (length h r : ℤ) → h ≡ int_div_euclid length (pos 2) → length ≡ pos line -ℤ pos a -ℤ pos d → a ≡ a' → d ≡ d' → r ≡ pos a +ℤ h
+pub above_is : (a d line a' d' : ℕ) (length h r : ℤ) → h ≡ int_div_euclid length (pos 2) → length ≡ pos line -ℤ pos a -ℤ pos d
+    → a ≡ a' → d ≡ d' → r ≡ pos a +ℤ h
     → r ≡ pos a' +ℤ int_div_euclid (pos line -ℤ pos a' -ℤ pos d') (pos 2)
 above_is a d line a' d' length h r half whole same_a same_d is =
     is ∙ ap (λ (x : ℤ). pos a +ℤ x) (half ∙ ap (λ (x : ℤ). int_div_euclid x (pos 2)) whole)

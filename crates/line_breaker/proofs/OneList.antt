@@ -1,5 +1,6 @@
 -- A run has one list of lines, and its lines stay within it.
-use Rattle.std.proofs.Common.{◌≡◌, ℕ, ◌+◌, ◌≤◌, ◌<◌, pos, List, [], ◌∷◌, length, drop, All, refl, sym, ap, subst, ◌∙◌, arith, length-drop}
+use Rattle.std.proofs.Common.{◌≡◌, ℕ, ◌+◌, ◌≤◌, ◌<◌, pos, List, [], ◌∷◌, length, drop, All, refl, sym, ap, subst, ◌∙◌, arith}
+use Rattle.std.proofs.Common.{length-drop}
 use Rattle.std.specs.Prelude.{◌⊎◌}
 use Rattle.std.proofs.Common.{inl, inr}
 use Rattle.std.specs.List.{AllByRecursion}
@@ -9,7 +10,8 @@ use Rattle.font_table.specs.declared.fonts.Face.{Face}
 use Rattle.inline_text.specs.declared.content.Piece.{Piece}
 use Rattle.inline_text.specs.declared.content.Runs.{Runs}
 use Rattle.line_breaker.specs.declared.line.Line.{Line}
-use Rattle.line_breaker.specs.Lines.{part, stretch_end, Counts, Fits, EndsAt, whole, last_that_fits, first, unbroken, HasHeight, line_width, IsLine, AreLines}
+use Rattle.line_breaker.specs.Lines.{part, stretch_end, Counts, Fits, EndsAt, whole, last_that_fits, first, unbroken, HasHeight}
+use Rattle.line_breaker.specs.Lines.{line_width, IsLine, AreLines}
 use Rattle.line_breaker.proofs.Following.{stretch-within}
 use Rattle.line_breaker.proofs.AllLines.{end_later}
 
@@ -40,17 +42,25 @@ stretch_fits runs faces width from to e fits = subst (Fits runs faces width from
 pub one_end : (runs : Runs) (faces : List Face) (width from a b : ℕ) → EndsAt runs faces width from a
     → EndsAt runs faces width from b → a ≡ b
 one_end runs faces width from a b (whole e fits) (whole e' fits') = e ∙ sym e'
-one_end runs faces width from a b (whole e fits) (last_that_fits wide counted fits' later) = absurd (wide (stretch_fits runs faces width from a e fits))
-one_end runs faces width from a b (whole e fits) (first wide none counted before) = absurd (wide (stretch_fits runs faces width from a e fits))
+one_end runs faces width from a b (whole e fits) (last_that_fits wide counted fits' later) =
+    absurd (wide (stretch_fits runs faces width from a e fits))
+one_end runs faces width from a b (whole e fits) (first wide none counted before) =
+    absurd (wide (stretch_fits runs faces width from a e fits))
 one_end runs faces width from a b (whole e fits) (unbroken none e') = e ∙ sym e'
-one_end runs faces width from a b (last_that_fits wide counted fits later) (whole e' fits') = absurd (wide (stretch_fits runs faces width from b e' fits'))
+one_end runs faces width from a b (last_that_fits wide counted fits later) (whole e' fits') =
+    absurd (wide (stretch_fits runs faces width from b e' fits'))
 one_end runs faces width from a b (last_that_fits wide counted fits later) (last_that_fits wide' counted' fits' later') =
-    no_less (λ (k : ℕ). Counts runs from k × Fits runs faces width from k) a b (counted, fits) (counted', fits') (λ k lt h. later k lt h.0 h.1) (λ k lt h. later' k lt h.0 h.1)
-one_end runs faces width from a b (last_that_fits wide counted fits later) (first wide' none counted' before) = absurd (none a counted fits)
+    no_less (λ (k : ℕ). Counts runs from k × Fits runs faces width from k) a b (counted, fits) (counted', fits')
+    (λ k lt h. later k lt h.0 h.1) (λ k lt h. later' k lt h.0 h.1)
+one_end runs faces width from a b (last_that_fits wide counted fits later) (first wide' none counted' before) =
+    absurd (none a counted fits)
 one_end runs faces width from a b (last_that_fits wide counted fits later) (unbroken none e') = absurd (none a counted)
-one_end runs faces width from a b (first wide none counted before) (whole e' fits') = absurd (wide (stretch_fits runs faces width from b e' fits'))
-one_end runs faces width from a b (first wide none counted before) (last_that_fits wide' counted' fits' later') = absurd (none b counted' fits')
-one_end runs faces width from a b (first wide none counted before) (first wide' none' counted' before') = no_more (Counts runs from) a b counted counted' before before'
+one_end runs faces width from a b (first wide none counted before) (whole e' fits') =
+    absurd (wide (stretch_fits runs faces width from b e' fits'))
+one_end runs faces width from a b (first wide none counted before) (last_that_fits wide' counted' fits' later') =
+    absurd (none b counted' fits')
+one_end runs faces width from a b (first wide none counted before) (first wide' none' counted' before') =
+    no_more (Counts runs from) a b counted counted' before before'
 one_end runs faces width from a b (first wide none counted before) (unbroken none' e') = absurd (none' a counted)
 one_end runs faces width from a b (unbroken none e) (whole e' fits') = e ∙ sym e'
 one_end runs faces width from a b (unbroken none e) (last_that_fits wide' counted' fits' later') = absurd (none b counted')
@@ -80,7 +90,8 @@ line_same runs faces width strut from x y h k =
     let to = one_end runs faces width from x.to y.to h.ends k.ends in
     fields_same x y (h.begins ∙ sym k.begins) to
     (h.is_width ∙ ap (line_width runs faces from) to ∙ sym k.is_width)
-    (height_same runs faces strut (part runs.pieces from x.to) x.h y.h h.is_height (subst (λ (n : ℕ). HasHeight runs faces strut (part runs.pieces from n) y.h) (sym to) k.is_height))
+    (height_same runs faces strut (part runs.pieces from x.to) x.h y.h h.is_height
+    (subst (λ (n : ℕ). HasHeight runs faces strut (part runs.pieces from n) y.h) (sym to) k.is_height))
 
 pub one_list : (runs : Runs) (faces : List Face) (width strut from : ℕ) (xs ys : List Line)
     → AreLines runs faces width strut from xs → AreLines runs faces width strut from ys → xs ≡ ys
@@ -89,7 +100,8 @@ one_list runs faces width strut from [] (y ∷ ys) h k = absurd (k.0 h)
 one_list runs faces width strut from (x ∷ xs) [] h k = absurd (h.0 k)
 one_list runs faces width strut from (x ∷ xs) (y ∷ ys) h k =
     let same = line_same runs faces width strut from x y h.1 k.1 in
-    let rest = one_list runs faces width strut x.to xs ys h.2 (subst (λ (line : Line). AreLines runs faces width strut line.to ys) (sym same) k.2) in
+    let rest = one_list runs faces width strut x.to xs ys h.2
+    (subst (λ (line : Line). AreLines runs faces width strut line.to ys) (sym same) k.2) in
     ap (λ (line : Line). line ∷ xs) same ∙ ap (λ (lines : List Line). y ∷ lines) rest
 
 -- ---- lines stay within the run
@@ -121,7 +133,8 @@ within_by_recursion runs faces width strut from (line ∷ lines) le are =
 pub within : (runs : Runs) (faces : List Face) (width strut : ℕ) (lines : List Line) → AreLines runs faces width strut 0 lines
     → All (λ (line : Line). line.to ≤ length runs.pieces) lines
 within runs faces width strut lines are =
-    All-from_recursion (λ (line : Line). line.to ≤ length runs.pieces) lines (within_by_recursion runs faces width strut 0 lines (omega arith) are)
+    All-from_recursion (λ (line : Line). line.to ≤ length runs.pieces) lines
+    (within_by_recursion runs faces width strut 0 lines (omega arith) are)
 
 few_from : (runs : Runs) (faces : List Face) (width strut from : ℕ) (lines : List Line) → from ≤ length runs.pieces
     → AreLines runs faces width strut from lines → from + length lines ≤ length runs.pieces

@@ -1,5 +1,6 @@
 -- What is measured once for each place of a run.
-use Rattle.std.specs.Prelude.{◌≡◌, ℕ, ◌+◌, ◌-◌, ◌*◌, ◌^◌, ◌<◌, ◌≤◌, min, Bool, true, false, ◌&&◌, ◌||◌, nat_lt, nat_le, ◌==◌, if◌then◌else◌, List, [], ◌∷◌, length, slice_index_or, slice_get, Option, Some, None}
+use Rattle.std.specs.Prelude.{◌≡◌, ℕ, ◌+◌, ◌-◌, ◌*◌, ◌^◌, ◌<◌, ◌≤◌, min, Bool, true, false, ◌&&◌, ◌||◌, nat_lt, nat_le, ◌==◌}
+use Rattle.std.specs.Prelude.{if◌then◌else◌, List, [], ◌∷◌, length, slice_index_or, slice_get, Option, Some, None}
 use Rattle.std.specs.List.{All}
 use Rattle.font_table.specs.declared.fonts.Face.{Face}
 use Rattle.inline_text.specs.declared.content.Piece.{Piece}
@@ -67,11 +68,13 @@ opportunity_before opportunities at = nat_lt 0 at && slice_index_or opportunitie
 abbrev pub ahead_of : List Place → List Bool → ℕ → List Piece → Ahead
 ahead_of places opportunities at [] = nothing_ahead at
 ahead_of places opportunities at (piece ∷ pieces) =
-    ahead_before at piece (opportunity_before opportunities at) (need (place_at places at)) (ahead_of places opportunities (at + 1) pieces)
+    ahead_before at piece (opportunity_before opportunities at) (need (place_at places at))
+    (ahead_of places opportunities (at + 1) pieces)
 
 abbrev pub aheads_from : List Place → List Bool → ℕ → List Piece → List Ahead
 aheads_from places opportunities at [] = nothing_ahead at ∷ []
-aheads_from places opportunities at (piece ∷ pieces) = ahead_of places opportunities at (piece ∷ pieces) ∷ aheads_from places opportunities (at + 1) pieces
+aheads_from places opportunities at (piece ∷ pieces) =
+    ahead_of places opportunities at (piece ∷ pieces) ∷ aheads_from places opportunities (at + 1) pieces
 
 abbrev pub ahead_at : List Ahead → ℕ → Ahead
 ahead_at ahead k = slice_index_or ahead k (nothing_ahead 0)
@@ -107,8 +110,10 @@ is_whole places from end width = nat_le (edge (place_at places end) - (place_at 
 
 pub data IsEnd (places : List Place) (ahead : List Ahead) (from end width to : ℕ) : Type 0 where
   all : is_whole places from end width ≡ true → to ≡ end → IsEnd places ahead from end width to
-  last : is_whole places from end width ≡ false → IsBest ahead from end (place_at places from).before width to → from < to → follows places from to ≡ true → IsEnd places ahead from end width to
-  first : (best : ℕ) → is_whole places from end width ≡ false → IsBest ahead from end (place_at places from).before width best → (from < best → follows places from best ≡ false)
+  last : is_whole places from end width ≡ false → IsBest ahead from end (place_at places from).before width to → from < to
+      → follows places from to ≡ true → IsEnd places ahead from end width to
+  first : (best : ℕ) → is_whole places from end width ≡ false → IsBest ahead from end (place_at places from).before width best
+      → (from < best → follows places from best ≡ false)
       → IsFirst places ahead from end to → IsEnd places ahead from end width to
 
 -- the lengths of a place are far from what 64 bits hold

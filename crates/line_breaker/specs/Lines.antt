@@ -1,6 +1,7 @@
 -- How a run is cut into lines (CSS 2.1, section 9.4.2; CSS Text 3, section 5.1). Places are counted from 0: place k stands
 -- before piece k.
-use Rattle.std.specs.Prelude.{◌≡◌, ℕ, ◌+◌, ◌-◌, ◌^◌, ◌<◌, ◌≤◌, pos, ◌+ℤ◌, Bool, true, false, IsTrue, ◌||◌, ◌==◌, ◌⊎◌, if◌then◌else◌, List, [], ◌∷◌, ◌++◌, take, drop, length}
+use Rattle.std.specs.Prelude.{◌≡◌, ℕ, ◌+◌, ◌-◌, ◌^◌, ◌<◌, ◌≤◌, pos, ◌+ℤ◌, Bool, true, false, IsTrue, ◌||◌, ◌==◌, ◌⊎◌}
+use Rattle.std.specs.Prelude.{if◌then◌else◌, List, [], ◌∷◌, ◌++◌, take, drop, length}
 use Rattle.std.specs.List.{All, list_any}
 use Rattle.font_table.specs.declared.fonts.Face.{Face}
 use Rattle.inline_text.specs.declared.content.Piece.{Piece}
@@ -11,7 +12,8 @@ use Rattle.inline_text.specs.Opportunities.{opportunity_at}
 use Rattle.inline_text.specs.WhiteSpace.{HasStyle}
 pub use Rattle.inline_text.specs.WhiteSpace.{is_chance}
 use Rattle.line_breaker.specs.declared.line.Line.{Line}
-use Rattle.line_breaker.specs.Measures.{style_of, width_sum, last_space, last_hyphen, above_of, below_of, greatest_above, greatest_below}
+use Rattle.line_breaker.specs.Measures.{style_of, width_sum, last_space, last_hyphen, above_of, below_of, greatest_above}
+use Rattle.line_breaker.specs.Measures.{greatest_below}
 
 -- a character or an image
 abbrev pub is_content : Piece → Bool
@@ -53,7 +55,7 @@ pub record Counts (runs : Runs) (from place : ℕ) : Type 0 where
   pub content_before : IsTrue (list_any is_content (part runs.pieces from place))
   pub content_after : IsTrue (content_ahead (drop place runs.pieces))
 
--- The width of a line: it leaves out a collapsed space before its end, and counts a hyphen where it ends behind a soft
+-- The width of a line: it leaves out a collapsed space before its end, and counts a hyphen where it ends after a soft
 -- hyphen and before its stretch does.
 abbrev pub line_width : Runs → List Face → (from to : ℕ) → ℕ
 line_width runs faces from to =
@@ -68,10 +70,13 @@ pub data EndsAt (runs : Runs) (faces : List Face) (width from to : ℕ) : Type 0
   -- it is its whole stretch, if that fits
   whole : to ≡ stretch_end runs.pieces from → Fits runs faces width from to → EndsAt runs faces width from to
   -- else it ends at the last opportunity that counts and at which it fits
-  last_that_fits : (Fits runs faces width from (stretch_end runs.pieces from) → ⊥) → Counts runs from to → Fits runs faces width from to
-      → ((place : ℕ) → to < place → Counts runs from place → Fits runs faces width from place → ⊥) → EndsAt runs faces width from to
+  last_that_fits : (Fits runs faces width from (stretch_end runs.pieces from) → ⊥) → Counts runs from to
+      → Fits runs faces width from to
+      → ((place : ℕ) → to < place → Counts runs from place → Fits runs faces width from place → ⊥)
+      → EndsAt runs faces width from to
   -- else at the first that counts
-  first : (Fits runs faces width from (stretch_end runs.pieces from) → ⊥) → ((place : ℕ) → Counts runs from place → Fits runs faces width from place → ⊥) → Counts runs from to
+  first : (Fits runs faces width from (stretch_end runs.pieces from) → ⊥)
+      → ((place : ℕ) → Counts runs from place → Fits runs faces width from place → ⊥) → Counts runs from to
       → ((place : ℕ) → place < to → Counts runs from place → ⊥) → EndsAt runs faces width from to
   -- or is its whole stretch where none does
   unbroken : ((place : ℕ) → Counts runs from place → ⊥) → to ≡ stretch_end runs.pieces from → EndsAt runs faces width from to
@@ -80,7 +85,8 @@ pub data EndsAt (runs : Runs) (faces : List Face) (width from to : ℕ) : Type 0
 -- the line's characters, and its images
 abbrev pub HasHeight : Runs → List Face → (strut : ℕ) → List Piece → ℕ → Type 0
 HasHeight runs faces strut pieces h =
-    pos h ≡ greatest_above runs.styles faces (above_of faces (style_of runs.styles strut)) pieces +ℤ greatest_below runs.styles faces (below_of faces (style_of runs.styles strut)) pieces
+    pos h ≡ greatest_above runs.styles faces (above_of faces (style_of runs.styles strut)) pieces +ℤ greatest_below runs.styles
+    faces (below_of faces (style_of runs.styles strut)) pieces
 
 -- a line that begins at a place
 pub record IsLine (runs : Runs) (faces : List Face) (width strut from : ℕ) (line : Line) : Type 0 where
@@ -89,11 +95,12 @@ pub record IsLine (runs : Runs) (faces : List Face) (width strut from : ℕ) (li
   pub is_width : line.w ≡ line_width runs faces from line.to
   pub is_height : HasHeight runs faces strut (part runs.pieces from line.to) line.h
 
--- The lines from a place on, each behind the one before. What has no character, image or forced break makes no line.
+-- The lines from a place on, each after the one before. What has no character, image or forced break makes no line.
 abbrev pub AreLines : Runs → List Face → (width strut from : ℕ) → List Line → Type 0
 AreLines runs faces width strut from [] = All (λ piece. IsTrue (is_chance piece)) (drop from runs.pieces)
 AreLines runs faces width strut from (line ∷ lines) =
-    (All (λ piece. IsTrue (is_chance piece)) (drop from runs.pieces) → ⊥) × IsLine runs faces width strut from line × AreLines runs faces width strut line.to lines
+    (All (λ piece. IsTrue (is_chance piece)) (drop from runs.pieces) → ⊥) × IsLine runs faces width strut from line
+    × AreLines runs faces width strut line.to lines
 
 -- ---- the conditions
 
@@ -131,4 +138,5 @@ pub record HoldsAll (pieces : List Piece) (lines : List Line) : Type 0 where
 
 -- a line is no wider than the width, unless no opportunity that counts fits
 abbrev pub IsNarrow : Runs → List Face → (width : ℕ) → Line → Type 0
-IsNarrow runs faces width line = (line.w ≤ width) ⊎ ((place : ℕ) → Counts runs line.from place → Fits runs faces width line.from place → ⊥)
+IsNarrow runs faces width line = (line.w ≤ width)
+    ⊎ ((place : ℕ) → Counts runs line.from place → Fits runs faces width line.from place → ⊥)

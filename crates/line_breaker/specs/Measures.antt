@@ -36,7 +36,8 @@ width_sum styles faces (piece ∷ pieces) = width_of styles faces piece + width_
 
 -- a collapsed space's width where that piece is one, or else 0; forced breaks and `wbr` are looked through
 abbrev pub space_behind : List RunStyle → List Face → (so_far : ℕ) → Piece → ℕ
-space_behind styles faces so_far (Char ch style) = if is_collapsed_space styles (Char ch style) then width_of styles faces (Char ch style) else 0
+space_behind styles faces so_far (Char ch style) =
+    if is_collapsed_space styles (Char ch style) then width_of styles faces (Char ch style) else 0
 space_behind styles faces so_far (Image w h style) = 0
 space_behind styles faces so_far Forced = so_far
 space_behind styles faces so_far Chance = so_far
@@ -48,7 +49,8 @@ last_space styles faces so_far (piece ∷ pieces) = last_space styles faces (spa
 
 -- the advance of `-` in the style of a soft hyphen
 abbrev pub hyphen_of : List RunStyle → List Face → Piece → ℕ
-hyphen_of styles faces (Char ch style) = if is_soft_hyphen styles (Char ch style) then advance_in (style_of styles style) faces 45 else 0
+hyphen_of styles faces (Char ch style) = if is_soft_hyphen styles (Char ch style) then advance_in (style_of styles style) faces 45
+    else 0
 hyphen_of styles faces (Image w h style) = 0
 hyphen_of styles faces Forced = 0
 hyphen_of styles faces Chance = 0

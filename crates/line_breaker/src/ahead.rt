@@ -79,7 +79,7 @@ fn opportunity_before(opportunities: &[bool], at: usize) -> bool
     at > 0 && opportunities[at - 1]
 }
 
-/// What follows each place, for the places and the opportunities behind the pieces.
+/// What follows each place, for the places and the opportunities after the pieces.
 pub fn aheads(
     alloc: Global,
     pieces: &[Piece],

@@ -15,7 +15,7 @@ use inline_text::{Piece, Runs, opportunities};
 use mc_base::{List, NoMemory, Units};
 use std::alloc::Global;
 
-/// Whether a line that begins behind `base` reaches no further than the width.
+/// Whether a line that begins after `base` reaches no further than the width.
 fn fits_in(base: Units, width: Units, needed: Option<Units>) -> bool
     ensures { result ≡ arrays.fits_in base width needed }
 {
@@ -47,7 +47,7 @@ fn follows(places: &[Place], from: usize, at: usize) -> bool
     places[from].contents < places[at].contents
 }
 
-/// The first place behind `from` that counts, or `end`.
+/// The first place after `from` that counts, or `end`.
 fn first_counting(places: &[Place], ahead: &[Ahead], from: usize, end: usize) -> usize
     requires begins { from < end }
     requires places { end < length places.now }
@@ -108,7 +108,7 @@ fn is_chance(piece: &Piece) -> bool
     matches!(*piece, Piece::Chance)
 }
 
-/// The place behind the last piece that isn't a `wbr`.
+/// The place after the last piece that isn't a `wbr`.
 fn lines_end(pieces: &[Piece]) -> usize
     ensures within { result ≤ length pieces.now }
     ensures rest { All (λ piece. IsTrue (is_chance_piece piece)) (drop result pieces.now) }

@@ -89,7 +89,8 @@ pub fn line_height(strut: Extent, styles: &[RunStyle], fonts: &Fonts, pieces: &[
     requires styles { All (IsStyle fonts.now) styles.now }
     requires named { All (HasStyle styles.now) pieces.now }
     requires measurable { All IsMeasurable pieces.now }
-    ensures { pos result ≡ measures.greatest_above styles.now fonts.now strut.above pieces.now +ℤ measures.greatest_below styles.now fonts.now strut.below pieces.now }
+    ensures { pos result ≡ measures.greatest_above styles.now fonts.now strut.above pieces.now +ℤ measures.greatest_below
+        styles.now fonts.now strut.below pieces.now }
 {
     let mut extent = strut;
     for piece in pieces {

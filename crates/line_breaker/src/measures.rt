@@ -55,9 +55,10 @@ fn is_collapsed_space(styles: &[RunStyle], piece: &Piece) -> bool
     }
 }
 
-/// The width of the collapsed space that stands last, behind a piece of this width.
+/// The width of the collapsed space that stands last, after a piece of this width.
 pub fn space_behind(styles: &[RunStyle], so_far: Units, piece: &Piece, width: Units) -> Units
-    ensures same { (faces : Items OneFace) → width ≡ measures.width_of styles.now faces piece.now → result ≡ measures.space_behind styles.now faces so_far piece.now }
+    ensures same { (faces : Items OneFace) → width ≡ measures.width_of styles.now faces piece.now
+        → result ≡ measures.space_behind styles.now faces so_far piece.now }
     ensures most { so_far ≤ 10 * 2 ^ 24 → width ≤ 10 * 2 ^ 24 → result ≤ 10 * 2 ^ 24 }
 {
     match *piece {
@@ -89,7 +90,7 @@ fn is_soft_hyphen(styles: &[RunStyle], piece: &Piece) -> bool
     }
 }
 
-/// The width of the hyphen that a line has behind a piece.
+/// The width of the hyphen that a line has after a piece.
 pub fn hyphen(styles: &[RunStyle], fonts: &Fonts, piece: &Piece) -> Units
     requires styles { All (IsStyle fonts.now) styles.now }
     requires named { HasStyle styles.now piece.now }

@@ -25,7 +25,8 @@ seen (Ok x) = inl (x, refl)
 seen (Err f) = inr (f, refl)
 
 -- the first of two steps that were made
-pub step : {A B P : Type 0} (r : Result A Fault) (f : A → Result B Fault) (y : B) → (r >>= f) ≡ Ok y → ((x : A) → r ≡ Ok x → f x ≡ Ok y → P) → P
+pub step : {A B P : Type 0} (r : Result A Fault) (f : A → Result B Fault) (y : B) → (r >>= f) ≡ Ok y
+    → ((x : A) → r ≡ Ok x → f x ≡ Ok y → P) → P
 step (Ok x) f y e go = go x refl e
 step (Err d) f y e go = absurd cc
 

@@ -21,9 +21,11 @@ no_nul : (bytes : List ℕ) → AllByRecursion IsSafe bytes → length (take_whi
 no_nul [] safe = refl
 no_nul (b ∷ bytes) safe =
     let other : is_nonzero b ≡ true = ap not (ne_eqb b 0 (λ same. omega (arith, same, safe.0.0))) in
-    ap length (take_while-cons is_nonzero b bytes ∙ ap (λ t. cond t (b ∷ take_while is_nonzero bytes) []) other) ∙ ap suc (no_nul bytes safe.1)
+    ap length (take_while-cons is_nonzero b bytes ∙ ap (λ t. cond t (b ∷ take_while is_nonzero bytes) []) other)
+    ∙ ap suc (no_nul bytes safe.1)
 
 pub sound_text : (bytes : List ℕ) → AllByRecursion IsSafe bytes → sound_len bytes ≡ length bytes
 sound_text bytes safe =
-    let valid = utf8_valid_len-IsUtf8 bytes (IsUtf8-from_ascii bytes (IsAscii-from_all bytes (All-from_recursion (λ b. b < 128) bytes (low_bytes bytes safe)))) in
+    let valid = utf8_valid_len-IsUtf8 bytes
+    (IsUtf8-from_ascii bytes (IsAscii-from_all bytes (All-from_recursion (λ b. b < 128) bytes (low_bytes bytes safe)))) in
     omega (arith, valid, no_nul bytes safe)

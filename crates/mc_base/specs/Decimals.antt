@@ -1,6 +1,7 @@
 -- Decimal numbers as style sheets write them (CSS Syntax Module Level 3, section 4.3.12, without an exponent): an optional
 -- sign, digits, and optionally a point with at least one digit after it. Digits before a point may be missing.
-use Rattle.std.specs.Prelude.{◌≡◌, ℕ, ◌+◌, ◌*◌, ◌^◌, min, Bool, true, false, IsTrue, ◌&&◌, List, [], ◌∷◌, ◌++◌, take, replicate, codes, Option, Some, None}
+use Rattle.std.specs.Prelude.{◌≡◌, ℕ, ◌+◌, ◌*◌, ◌^◌, min, Bool, true, false, IsTrue, ◌&&◌, List, [], ◌∷◌, ◌++◌, take, replicate}
+use Rattle.std.specs.Prelude.{codes, Option, Some, None}
 use Rattle.std.specs.Char.{is_ascii_digit}
 use Rattle.std.specs.List.{list_all}
 use Rattle.std.specs.Str.Parse.{digits_value}
@@ -51,7 +52,8 @@ fraction_value None = 0
 fraction_value (Some digits) = digits_value 10 (first_nine digits)
 
 abbrev pub decimal_of : Bool → List ℕ → Option (List ℕ) → Decimal
-decimal_of negative whole fraction = record { negative = negative; billionths = whole_value whole * 10 ^ 9 + fraction_value fraction }
+decimal_of negative whole fraction =
+    record { negative = negative; billionths = whole_value whole * 10 ^ 9 + fraction_value fraction }
 
 -- the text writes this number
 pub record IsDecimal (text : List ℕ) (number : Decimal) : Type 0 where

@@ -1,5 +1,6 @@
 -- What the files and the sink in memory do, call by call. These forms are this project's own.
-use Rattle.std.specs.Prelude.{◌≡◌, ℕ, ◌+◌, ◌-◌, ◌^◌, ◌<◌, ◌≤◌, min, Bool, true, false, ◌==◌, List, ◌++◌, length, take, Option, None, Some, Result, Ok, Err, IsErr, IsErrOf, find, ⊤}
+use Rattle.std.specs.Prelude.{◌≡◌, ℕ, ◌+◌, ◌-◌, ◌^◌, ◌<◌, ◌≤◌, min, Bool, true, false, ◌==◌, List, ◌++◌, length, take, Option}
+use Rattle.std.specs.Prelude.{None, Some, Result, Ok, Err, IsErr, IsErrOf, find, ⊤}
 use Rattle.std.specs.List.{list_any}
 use Rattle.std.specs.Option.{option_map}
 use Rattle.std.specs.Str.{bytes_eq}
@@ -32,7 +33,7 @@ IsAnswer false None limit answer = IsErrOf answer Failed
 IsAnswer false (Some bytes) limit (Ok _) = length bytes ≤ limit
 IsAnswer false (Some bytes) limit (Err fault) = (limit < length bytes) × (fault ≡ TooLong limit)
 
--- want of memory, or this answer
+-- out of memory, or this answer
 abbrev pub IsAnswerUnlessNoMemory : Bool → Option (List ℕ) → ℕ → Result (Unit {0}) FileFault → Type 0
 IsAnswerUnlessNoMemory planned held limit (Err NoMemory) = ⊤
 IsAnswerUnlessNoMemory planned held limit answer = IsAnswer planned held limit answer

@@ -130,7 +130,7 @@ fn decimal_at(text: &[u8]) -> Option<Decimal>
 
 /// The number that a text writes (CSS Syntax 3, section 4.3.12, without an exponent), or `None` where it writes none.
 ///
-/// Digits after the ninth behind the point are dropped, and a whole part above 999,999,999 is taken as that. It takes no
+/// Digits after the ninth after the point are dropped, and a whole part above 999,999,999 is taken as that. It takes no
 /// memory.
 pub fn read_decimal(text: &[u8]) -> Option<Decimal>
     ensures found { IfSome result (IsDecimal text.now) }

@@ -59,7 +59,7 @@ impl<T> List<T> {
         self.items.is_empty()
     }
 
-    /// Adds an item at the end. After want of memory the list is as before, and the item is handed back.
+    /// Adds an item at the end. When out of memory, the list is as before, and the item is handed back.
     pub fn push(&mut self, item: T) -> Result<(), AllocFailed<T>>
         ensures ok { OnOk result (self.new ≡ self.old ++ item ∷ []) }
         ensures err { OnErr result (self.new ≡ self.old) }

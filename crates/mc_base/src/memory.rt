@@ -1,6 +1,7 @@
 //! Files and a sink in memory, whose failures are planned.
 
-ghost use Rattle.std.specs.Prelude.{◌≡◌, ◌≢◌, ℕ, ◌+◌, ◌-◌, ◌^◌, ◌<◌, ◌≤◌, min, [], ◌∷◌, ◌==◌, List as Items, Some, Option, ◌++◌, length, find, OnOk, OnErr, IfOk, IfSome, IsErrOf, vec_len, vec_capacity, take};
+ghost use Rattle.std.specs.Prelude.{◌≡◌, ◌≢◌, ℕ, ◌+◌, ◌-◌, ◌^◌, ◌<◌, ◌≤◌, min, [], ◌∷◌, ◌==◌, List as Items, Some, Option, ◌++◌};
+ghost use Rattle.std.specs.Prelude.{length, find, OnOk, OnErr, IfOk, IfSome, IsErrOf, vec_len, vec_capacity, take};
 ghost use Rattle.mc_base.specs.Memory.{planned_takes, Puts};
 ghost use Rattle.std.specs.Option.{option_copied};
 ghost use Rattle.std.specs.Str.{bytes_eq};

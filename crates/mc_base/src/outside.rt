@@ -15,7 +15,7 @@ pub enum FileFault {
     /// More than `limit` bytes are held.
     #[error("limit")]
     TooLong { limit: u64 },
-    /// Want of memory.
+    /// Out of memory.
     #[error("memory")]
     NoMemory,
 }

@@ -12,7 +12,7 @@ pub struct Fault {
     pub rule: u8,
 }
 
-/// Want of memory, or a fault of the text.
+/// Out of memory, or a fault of the text.
 #[derive(Drop)]
 pub enum ReadError<F> {
     Memory,

@@ -3,7 +3,7 @@
 use std::alloc::{AllocError, AllocFailed};
 use thiserror::Error;
 
-/// Want of memory.
+/// Out of memory.
 #[derive(Clone, Copy, Debug, PartialEq, Eq, Error)]
 #[error("memory")]
 pub struct NoMemory;
@@ -131,7 +131,7 @@ pub enum Refusal {
         reached: u64,
         limit: u64,
     },
-    /// Want of memory.
+    /// Out of memory.
     #[error("memory")]
     NoMemory,
 }

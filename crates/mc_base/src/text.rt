@@ -56,7 +56,7 @@ impl Text {
         self.bytes.is_empty()
     }
 
-    /// Adds a byte at the end. After want of memory the text is as before.
+    /// Adds a byte at the end. When out of memory, the text is as before.
     pub fn push(&mut self, byte: u8) -> Result<(), AllocError>
         ensures ok { OnOk result (self.new ≡ self.old ++ byte ∷ []) }
         ensures err { OnErr result (self.new ≡ self.old) }
@@ -65,7 +65,7 @@ impl Text {
         Ok(())
     }
 
-    /// Adds these bytes at the end. After want of memory the text is as before.
+    /// Adds these bytes at the end. When out of memory, the text is as before.
     pub fn extend(&mut self, bytes: &[u8]) -> Result<(), AllocError>
         ensures ok { OnOk result (self.new ≡ self.old ++ bytes.now) }
         ensures err { OnErr result (self.new ≡ self.old) }

@@ -34,8 +34,20 @@ no_row k (place at level rest) atoms = no_row k rest atoms
 no_row k (atom at height rest) atoms = no_row k rest atoms.1
 no_row k (row at n w step x content ended rest) atoms = absurd atoms.0
 
-one_row : (at first_at n w st : ℕ) (available : Option ℕ) (auto : _) (content : Option Rest) (ended : ℕ) → length (content_rows content) ≡ 0 →
-    HoldsFlatRows (flows_of (record { at = at; first_at = first_at; n = n; w = w; step = st; available = available; auto = auto; content = content; ended = ended }))
+one_row : (at first_at n w st : ℕ) (available : Option ℕ) (auto : _) (content : Option Rest) (ended : ℕ)
+    → length (content_rows content) ≡ 0 →
+    HoldsFlatRows
+    (flows_of (record {
+      at = at;
+      first_at = first_at;
+      n = n;
+      w = w;
+      step = st;
+      available = available;
+      auto = auto;
+      content = content;
+      ended = ended;
+    }))
 one_row at first_at n w st available auto None ended few zero lt = All-nil IsAtom
 one_row at first_at n w st available auto None ended few (suc r) lt = absurd (omega arith)
 one_row at first_at n w st available auto (Some rest) ended few zero lt =
@@ -43,7 +55,18 @@ one_row at first_at n w st available auto (Some rest) ended few zero lt =
 one_row at first_at n w st available auto (Some rest) ended few (suc r) lt = absurd (omega arith)
 
 more_rows : (at first_at n w st : ℕ) (available : Option ℕ) (auto : _) (content : Option Rest) (ended : ℕ) →
-    HoldsFlatRows (flows_of (record { at = at; first_at = first_at; n = n; w = w; step = st; available = available; auto = auto; content = content; ended = ended })) →
+    HoldsFlatRows
+    (flows_of (record {
+      at = at;
+      first_at = first_at;
+      n = n;
+      w = w;
+      step = st;
+      available = available;
+      auto = auto;
+      content = content;
+      ended = ended;
+    })) →
     length (content_rows content) ≡ 0
 more_rows at first_at n w st available auto None ended flat = refl
 more_rows at first_at n w st available auto (Some rest) ended flat =
@@ -52,9 +75,11 @@ more_rows at first_at n w st available auto (Some rest) ended flat =
 pub flat_with_one : (d : FlowsData) (file : FlowFile) → d ≡ flows_of file → length d.rows ≡ 1 → HoldsFlatRows d
 flat_with_one d file is one =
     let few : length (flows_of file).rows ≡ 1 = subst (λ e. length e.rows ≡ 1) is one in
-    subst HoldsFlatRows (sym is) (one_row file.at file.first_at file.n file.w file.step file.available file.auto file.content file.ended (omega arith))
+    subst HoldsFlatRows (sym is) (one_row file.at file.first_at file.n file.w file.step file.available file.auto file.content
+    file.ended (omega arith))
 
 pub one_where_flat : (d : FlowsData) (file : FlowFile) → d ≡ flows_of file → HoldsFlatRows d → length d.rows ≡ 1
 one_where_flat d file is flat =
-    let few = more_rows file.at file.first_at file.n file.w file.step file.available file.auto file.content file.ended (subst HoldsFlatRows is flat) in
+    let few = more_rows file.at file.first_at file.n file.w file.step file.available file.auto file.content file.ended
+    (subst HoldsFlatRows is flat) in
     subst (λ e. length e.rows ≡ 1) (sym is) (omega arith)

@@ -38,28 +38,34 @@ pub no_limit : (text : List ℕ) (d : FlowsData) (file : FlowFile) → FlowSays 
 no_limit text d file says is = subst (λ f. limit_of f ≡ None) (file_same text says.0 file says.1 is) says.2
 
 -- no limit is a fault of grammar
-pub limit_apart : (file : FlowFile) (input : Input) (offset : ℕ) (rule : Rule) → limit_of file ≡ Some (Grammar input offset rule) → ⊥
+pub limit_apart : (file : FlowFile) (input : Input) (offset : ℕ) (rule : Rule)
+    → limit_of file ≡ Some (Grammar input offset rule) → ⊥
 limit_apart file input offset rule e = passed_limit (file_lines file) (Grammar input offset rule) e
 
 -- ---- what is refused by the reader
 
 abbrev GivesFlows : List ℕ → Result FlowsData Refusal → Type 0
-GivesFlows text result = (file : FlowFile) → IsFile text file → MatchResult result (λ flows. (limit_of file ≡ None) × (flows ≡ flows_of file)) (λ refusal. (refusal ≡ NoMemory) ⊎ (limit_of file ≡ Some refusal))
+GivesFlows text result = (file : FlowFile) → IsFile text file
+    → MatchResult result (λ flows. (limit_of file ≡ None) × (flows ≡ flows_of file))
+    (λ refusal. (refusal ≡ NoMemory) ⊎ (limit_of file ≡ Some refusal))
 
-no_file : (text : List ℕ) (input : Input) (offset : ℕ) (rule : Rule) → GivesFlows text (Err (Grammar input offset rule)) → IsNoFlowFile text
+no_file : (text : List ℕ) (input : Input) (offset : ℕ) (rule : Rule) → GivesFlows text (Err (Grammar input offset rule))
+    → IsNoFlowFile text
 no_file text input offset rule only file is = go (only file is)
   where
     go : (Grammar input offset rule ≡ NoMemory) ⊎ (limit_of file ≡ Some (Grammar input offset rule)) → ⊥
     go (inl e) = absurd cc
     go (inr e) = limit_apart file input offset rule e
 
-pub reader_refuses : (text : List ℕ) (refusal : Refusal) → GivesFlows text (Err refusal) → RefusesText text refusal → (refusal ≡ NoMemory) ⊎ RefusesBytes text refusal
+pub reader_refuses : (text : List ℕ) (refusal : Refusal) → GivesFlows text (Err refusal) → RefusesText text refusal
+    → (refusal ≡ NoMemory) ⊎ RefusesBytes text refusal
 reader_refuses text (Grammar input offset rule) only refused = inr (no_file text input offset rule only, refused)
 reader_refuses text (Construct input offset name) only refused = absurd refused
 reader_refuses text (Limit name reached limit) only refused = inr (inl refused)
 reader_refuses text NoMemory only refused = inl refl
 
-pub reader_result : (text : List ℕ) (result : Result FlowsData Refusal) (refusal : Refusal) → result ≡ Err refusal → GivesFlows text result → IfErr result (RefusesText text) → (refusal ≡ NoMemory) ⊎ RefusesBytes text refusal
+pub reader_result : (text : List ℕ) (result : Result FlowsData Refusal) (refusal : Refusal) → result ≡ Err refusal
+    → GivesFlows text result → IfErr result (RefusesText text) → (refusal ≡ NoMemory) ⊎ RefusesBytes text refusal
 reader_result text (Ok flows) refusal is only refused = absurd cc
 reader_result text (Err e) refusal is only refused =
     let same : e ≡ refusal = cc in

@@ -35,7 +35,8 @@ IsNoFlowFile bytes = (file : FlowFile) → IsFile bytes file → ⊥
 
 -- this text is the result of a flow file
 abbrev pub IsFlowResult : List ℕ → List ℕ → Type 0
-IsFlowResult bytes text = (length bytes ≤ flow_limit) × ((d : FlowsData) × FlowSays bytes d × HoldsFlatRows d × (text ≡ result_text d) × (length text ≤ result_limit))
+IsFlowResult bytes text = (length bytes ≤ flow_limit)
+    × ((d : FlowsData) × FlowSays bytes d × HoldsFlatRows d × (text ≡ result_text d) × (length text ≤ result_limit))
 
 -- these bytes are a flow file within its limits, and a row of it holds another one
 abbrev pub HoldsRows : List ℕ → Type 0
@@ -48,7 +49,8 @@ IsLongWinded bytes = (d : FlowsData) × FlowSays bytes d × HoldsFlatRows d × (
 -- a flow file has too many bytes, passes one of its limits, or has too long a result
 abbrev pub PassesLimit : List ℕ → Type 0
 PassesLimit bytes =
-    (flow_limit < length bytes) ⊎ ((length bytes ≤ flow_limit) × (((file : FlowFile) × IsFile bytes file × (limit_of file ≢ None)) ⊎ IsLongWinded bytes))
+    (flow_limit < length bytes) ⊎ ((length bytes ≤ flow_limit)
+    × (((file : FlowFile) × IsFile bytes file × (limit_of file ≢ None)) ⊎ IsLongWinded bytes))
 
 -- a flow file has more bytes than it may have
 abbrev pub IsTooLong : List ℕ → Refusal → Type 0
@@ -64,17 +66,19 @@ abbrev pub RefusesBytes : List ℕ → Refusal → Type 0
 RefusesBytes bytes (Grammar input offset rule) = IsNoFlowFile bytes × RefusesText bytes (Grammar input offset rule)
 RefusesBytes bytes (Construct input offset name) =
     (input ≡ Flow) × (offset ≡ 0) × (name ≡ Unbuilt) × HoldsRows bytes
-RefusesBytes bytes (Limit name reached limit) = RefusesText bytes (Limit name reached limit) ⊎ HasLongResult bytes (Limit name reached limit)
+RefusesBytes bytes (Limit name reached limit) = RefusesText bytes (Limit name reached limit)
+    ⊎ HasLongResult bytes (Limit name reached limit)
 RefusesBytes bytes NoMemory = ⊤
 
 -- the bytes of an input, where they are told
 abbrev pub IsHeld : Option (List ℕ) → List ℕ → Type 0
 IsHeld held bytes = IfSome held (λ told. bytes ≡ told)
 
--- a flow file is refused for this reason; want of memory has none
+-- a flow file is refused for this reason; out of memory has none
 abbrev pub RefusesFlow : Option (List ℕ) → Refusal → Type 0
 RefusesFlow held refusal =
-    (refusal ≡ NoMemory) ⊎ ((bytes : List ℕ) × IsHeld held bytes × (IsTooLong bytes refusal ⊎ ((length bytes ≤ flow_limit) × RefusesBytes bytes refusal)))
+    (refusal ≡ NoMemory) ⊎ ((bytes : List ℕ) × IsHeld held bytes
+    × (IsTooLong bytes refusal ⊎ ((length bytes ≤ flow_limit) × RefusesBytes bytes refusal)))
 
 -- this is true of the bytes of a command's flow file
 abbrev pub OfFlow : Option Command → (List ℕ → Option (List ℕ)) → (List ℕ → Type 0) → Type 0
@@ -86,11 +90,12 @@ abbrev pub Refuses : Option Command → (List ℕ → Option (List ℕ)) → Ref
 Refuses None held refusal = ⊥
 Refuses (Some (rows flow)) held refusal = RefusesFlow (held flow) refusal
 
--- the flow file of a command is told, and it is refused for this reason, which isn't want of memory
+-- the flow file of a command is told, and it is refused for this reason, which isn't out of memory
 abbrev pub RefusesTold : Option Command → (List ℕ → Option (List ℕ)) → Refusal → Type 0
 RefusesTold None held refusal = ⊥
 RefusesTold (Some (rows flow)) held refusal =
-    (refusal ≢ NoMemory) × IsSomeAnd (held flow) (λ bytes. IsTooLong bytes refusal ⊎ ((length bytes ≤ flow_limit) × RefusesBytes bytes refusal))
+    (refusal ≢ NoMemory) × IsSomeAnd (held flow)
+    (λ bytes. IsTooLong bytes refusal ⊎ ((length bytes ≤ flow_limit) × RefusesBytes bytes refusal))
 
 -- this text is the result of a command
 abbrev pub Gives : Option Command → (List ℕ → Option (List ℕ)) → List ℕ → Type 0
@@ -117,7 +122,8 @@ AllRead command before now = (input : Input) → IfSome (name_asked input comman
 -- of the sink rose; an input is refused.
 abbrev pub IsCause : Option Command → (List ℕ → Option (List ℕ)) → (List ℕ → ℕ) → (List ℕ → ℕ) → ℕ → ℕ → Stop → Type 0
 IsCause command held before now out_before out_now Usage = command ≡ None
-IsCause command held before now out_before out_now (Read input) = IsSomeAnd (name_asked input command) (λ name. before name < now name)
+IsCause command held before now out_before out_now (Read input) =
+    IsSomeAnd (name_asked input command) (λ name. before name < now name)
 IsCause command held before now out_before out_now Write = HasRisen out_before out_now
 IsCause command held before now out_before out_now (Refused refusal) = Refuses command held refusal
 

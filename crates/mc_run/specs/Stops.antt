@@ -1,13 +1,22 @@
 -- Why a command stops, and the line that tells it. Statuses and lines are this project's own.
-use Rattle.std.specs.Prelude.{ℕ, List, [], ◌∷◌, codes}
+use Rattle.std.specs.Prelude.{ℕ, List, [], ◌∷◌, ◌++◌, codes}
 use Rattle.std.specs.List.{concat}
 use Rattle.std.specs.Fmt.{decimal}
 use Rattle.mc_base.specs.declared.refusal.Input.{Input}
 use Rattle.mc_base.specs.declared.refusal.Input.TheVariants.{Document, Sheet, Metrics, Flow, Result, Script}
 use Rattle.mc_base.specs.declared.refusal.ConstructName.{ConstructName}
-use Rattle.mc_base.specs.declared.refusal.ConstructName.TheVariants.{Reference, Element, Escape, Media, AtRule, PseudoClass, PseudoElement, Display, WhiteSpace, Function, Unit as UnitName, Revert, NegativeMargin, BlockInInline, Height, ImgSize, Float, Position, Top, Right, Bottom, Left, Overflow, OverflowX, OverflowY, WritingMode, Direction, VerticalAlign, TextIndent, TextTransform, LetterSpacing, WordSpacing, MinWidth, MinHeight, MaxHeight, Font, Unbuilt}
+use Rattle.mc_base.specs.declared.refusal.ConstructName.TheVariants.{Reference, Element, Escape, Media, AtRule, PseudoClass}
+use Rattle.mc_base.specs.declared.refusal.ConstructName.TheVariants.{PseudoElement, Display, WhiteSpace, Function}
+use Rattle.mc_base.specs.declared.refusal.ConstructName.TheVariants.{Unit as UnitName, Revert, NegativeMargin, BlockInInline}
+use Rattle.mc_base.specs.declared.refusal.ConstructName.TheVariants.{Height, ImgSize, Float, Position, Top, Right, Bottom, Left}
+use Rattle.mc_base.specs.declared.refusal.ConstructName.TheVariants.{Overflow, OverflowX, OverflowY, WritingMode, Direction}
+use Rattle.mc_base.specs.declared.refusal.ConstructName.TheVariants.{VerticalAlign, TextIndent, TextTransform, LetterSpacing}
+use Rattle.mc_base.specs.declared.refusal.ConstructName.TheVariants.{WordSpacing, MinWidth, MinHeight, MaxHeight, Font, Unbuilt}
 use Rattle.mc_base.specs.declared.refusal.LimitName.{LimitName}
-use Rattle.mc_base.specs.declared.refusal.LimitName.TheVariants.{Document as DocumentBytes, Flow as FlowBytes, Sheet as SheetBytes, Metrics as MetricsBytes, Script as ScriptBytes, Result as ResultBytes, Elements, Depth, Rules, Items, InnerItems, Columns, Nest, Length, Paragraphs}
+use Rattle.mc_base.specs.declared.refusal.LimitName.TheVariants.{Document as DocumentBytes, Flow as FlowBytes}
+use Rattle.mc_base.specs.declared.refusal.LimitName.TheVariants.{Sheet as SheetBytes, Metrics as MetricsBytes}
+use Rattle.mc_base.specs.declared.refusal.LimitName.TheVariants.{Script as ScriptBytes, Result as ResultBytes, Elements, Depth}
+use Rattle.mc_base.specs.declared.refusal.LimitName.TheVariants.{Rules, Items, InnerItems, Columns, Nest, Length, Paragraphs}
 use Rattle.mc_base.specs.declared.refusal.Refusal.{Refusal}
 use Rattle.mc_base.specs.declared.refusal.Refusal.TheVariants.{Grammar, Construct, Limit, NoMemory}
 use Rattle.mc_run.specs.declared.stop.Stop.{Stop}
@@ -84,12 +93,18 @@ abbrev pub line_feed : List ℕ
 line_feed = 10 ∷ []
 
 unfoldable pub usage_text : List ℕ
-usage_text = codes "usage: mcol layout DOC SHEET METRICS WIDTH HEIGHT, check DOC SHEET METRICS WIDTH HEIGHT RESULT, rows FLOW, rows-check FLOW RESULT, gen START COUNT or trial START COUNT"
+usage_text =
+    codes "usage: mcol layout DOC SHEET METRICS WIDTH HEIGHT, check DOC SHEET METRICS WIDTH HEIGHT RESULT, rows FLOW, "
+    ++ codes "rows-check FLOW RESULT, gen START COUNT or trial START COUNT"
 
 abbrev pub refusal_line : Refusal → List ℕ
-refusal_line (Grammar input offset rule) = concat (codes "grammar: " ∷ input_text input ∷ space ∷ decimal offset ∷ space ∷ (rule.letter ∷ []) ∷ decimal rule.number ∷ line_feed ∷ [])
-refusal_line (Construct input offset name) = concat (codes "construct: " ∷ input_text input ∷ space ∷ decimal offset ∷ space ∷ construct_text name ∷ line_feed ∷ [])
-refusal_line (Limit name reached limit) = concat (codes "limit: " ∷ limit_text name ∷ space ∷ decimal reached ∷ space ∷ decimal limit ∷ line_feed ∷ [])
+refusal_line (Grammar input offset rule) =
+    concat (codes "grammar: " ∷ input_text input ∷ space ∷ decimal offset ∷ space ∷ (rule.letter ∷ []) ∷ decimal rule.number
+    ∷ line_feed ∷ [])
+refusal_line (Construct input offset name) =
+    concat (codes "construct: " ∷ input_text input ∷ space ∷ decimal offset ∷ space ∷ construct_text name ∷ line_feed ∷ [])
+refusal_line (Limit name reached limit) =
+    concat (codes "limit: " ∷ limit_text name ∷ space ∷ decimal reached ∷ space ∷ decimal limit ∷ line_feed ∷ [])
 refusal_line NoMemory = concat (codes "memory" ∷ line_feed ∷ [])
 
 -- the line that tells why a command stopped

@@ -12,7 +12,8 @@ ghost use Rattle.mc_run.specs.declared.stop.Stop.{Stop as AnyStop};
 ghost use Rattle.mc_run.specs.Told.{Tells};
 ghost use Rattle.mc_run.specs.Stops.{line_of, refusal_status, status_of};
 ghost use Rattle.mc_run.specs.Words.{command_of};
-ghost use Rattle.mc_run.specs.Outcome.{flow_limit, IsNoFlowFile, HoldsRows, PassesLimit, OfFlow, Accepts, name_asked, OnlyAsked, AllRead, IsCause, RefusesTold, GetsResult, GetsPart};
+ghost use Rattle.mc_run.specs.Outcome.{flow_limit, IsNoFlowFile, HoldsRows, PassesLimit, OfFlow, Accepts, name_asked, OnlyAsked};
+ghost use Rattle.mc_run.specs.Outcome.{AllRead, IsCause, RefusesTold, GetsResult, GetsPart};
 
 mod answer;
 mod inputs;
@@ -30,7 +31,7 @@ use stop::{status, tell};
 /// `files` are read by name; the result is put to `out` in one call after it is whole, and the line of a refusal to
 /// `err`, whose faults change nothing. The status is 0 where the result was put, 1 where the words aren't taken, 2 after a
 /// read fault, 3 after a write fault, 4 where the flow file is off its grammar, 5 where a row of it holds another one, 6
-/// where a limit is passed and 7 for want of memory.
+/// where a limit is passed and 7 when out of memory.
 pub fn run<F: Files, K: Sink, E: Sink>(
     alloc: Global,
     words: &[String],

@@ -43,7 +43,7 @@ fn laid_rows(alloc: Global, flows: &Flows) -> Result<List<FlatRow>, NoMemory>
     Ok(rows)
 }
 
-/// The result of the flows of a flow file, or None where it is too long: then no line is put behind the first that doesn't
+/// The result of the flows of a flow file, or None where it is too long: then no line is put after the first that doesn't
 /// fit.
 #[tactic(auto, unfolding(crate::specs::Printed::result_text))]
 fn write_result(alloc: Global, flows: &Flows) -> Result<Option<Text>, NoMemory>

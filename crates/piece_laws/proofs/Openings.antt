@@ -7,7 +7,8 @@ use Rattle.flow_list.specs.Data.{FlowsData}
 use Rattle.flow_data.specs.Flows.{box_of}
 use Rattle.flow_list.specs.ClonedEdges.{tops}
 use Rattle.flow_list.specs.Placing.{RowLaid, Laid, margin, solid, wall, opens, closes, atom, row, ends_gap, gap_of, behind_gap, gap_height, Placed, opens_at, closes_at, atom_at, row_at, placed_in_gap, gap_places, placed_item, laid_height, places_from}
-use Rattle.flow_list.specs.Fragments.{closes_here, inside_box, behind_box, trees_of, all_trees, continued_from}
+use Rattle.flow_list.specs.Fragments.{inside_box, behind_box, trees_of, all_trees, continued_from}
+use Rattle.flow_laws.proofs.HoldingTrees.{behind-box-length, behind-length, inside-length}
 use Rattle.piece_laws.specs.Boxes.{BoxPiece, continued_piece, pieces_in_tree, pieces_in_trees, started_piece}
 
 abbrev pub of_placed : Placed → List BoxPiece
@@ -76,14 +77,6 @@ split-gap (x ∷ xs) = go (ends_gap x) (split-gap xs)
     go false e = append_assoc (of_laid x) (flat_map of_laid (gap_of xs)) (flat_map of_laid (behind_gap xs))
         ∙ ap (λ us. of_laid x ++ us) e
 
-behind-length : (xs : List Laid) → length (behind_gap xs) ≤ length xs
-behind-length [] = omega arith
-behind-length (x ∷ xs) = go (ends_gap x) (behind-length xs)
-  where
-    go : (b : Bool) → length (behind_gap xs) ≤ length xs → length (cond b (x ∷ xs) (behind_gap xs)) ≤ length (x ∷ xs)
-    go true le = omega arith
-    go false le = omega arith
-
 abbrev later_places : (n end : ℕ) → List Laid → List Placed
 later_places n end later = elim later as
     (λ _. List Placed) [ [] ↦ [] | x ∷ more ↦ placed_item end x ++ places_from n (end + laid_height x) more ]
@@ -129,22 +122,6 @@ box-splits b (closes_at c y ∷ ps) = go (c == b) (box-splits b ps)
     go false e = e
 box-splits b (atom_at k y ∷ ps) = box-splits b ps
 box-splits b (row_at r y ∷ ps) = box-splits b ps
-
-inside-length : (b : ℕ) (ps : List Placed) → length (inside_box b ps) ≤ length ps
-inside-length b [] = omega arith
-inside-length b (p ∷ ps) = go (closes_here b p) (inside-length b ps)
-  where
-    go : (e : Bool) → length (inside_box b ps) ≤ length ps → length (cond e [] (p ∷ inside_box b ps)) ≤ length (p ∷ ps)
-    go true le = omega arith
-    go false le = omega arith
-
-behind-box-length : (b : ℕ) (ps : List Placed) → length (behind_box b ps) ≤ length ps
-behind-box-length b [] = omega arith
-behind-box-length b (p ∷ ps) = go (closes_here b p) (behind-box-length b ps)
-  where
-    go : (e : Bool) → length (behind_box b ps) ≤ length ps → length (cond e ps (behind_box b ps)) ≤ length (p ∷ ps)
-    go true le = omega arith
-    go false le = omega arith
 
 trees-open : (columns : RowLaid → List PlainTree) (n : ℕ) (ps : List Placed) → length ps ≤ n →
     pieces_in_trees (plain_trees (trees_of columns n ps)) ≡ flat_map of_placed ps

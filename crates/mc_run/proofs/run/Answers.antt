@@ -34,8 +34,11 @@ pub returns-clause-refused : goal.returns-clause-refused
 returns-clause-refused g c = λ refusal told read memory.
     let part = c.in-Err.ensures.part in
     let is : c.in-Err.stop ≡ Refused refusal =
-    stops_for (command_of (map string_bytes c.args.words.now)) (g.F.Files.held c.args.files.now) (g.F.Files.faults c.args.files.now) (g.F.Files.faults c.answer.new.files)
-    (g.K.Sink.faults c.args.out.now) (g.K.Sink.faults c.answer.new.out) c.in-Err.stop refusal c.in-Err.ensures.err (λ same. let p = part same in (p.0, p.1)) told read (subst (λ n. n ≢ 7) c.status.ensures memory) in (
+    stops_for (command_of (map string_bytes c.args.words.now)) (g.F.Files.held c.args.files.now)
+    (g.F.Files.faults c.args.files.now) (g.F.Files.faults c.answer.new.files)
+    (g.K.Sink.faults c.args.out.now) (g.K.Sink.faults c.answer.new.out) c.in-Err.stop refusal c.in-Err.ensures.err
+    (λ same. let p = part same in (p.0, p.1)) told read (subst (λ n. n ≢ 7) c.status.ensures memory) in (
       c.status.ensures ∙ ap status_of is,
-      subst (λ (s : Stop). Tells (g.E.Sink.written c.args.err.now) (g.E.Sink.written c.tell.new.err) (g.E.Sink.faults c.args.err.now) (g.E.Sink.faults c.tell.new.err) (line_of s)) is c.tell.ensures,
+      subst (λ (s : Stop). Tells (g.E.Sink.written c.args.err.now) (g.E.Sink.written c.tell.new.err)
+          (g.E.Sink.faults c.args.err.now) (g.E.Sink.faults c.tell.new.err) (line_of s)) is c.tell.ensures,
     )

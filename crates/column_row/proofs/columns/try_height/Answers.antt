@@ -8,7 +8,9 @@ pub returns-then-allowed-eq0-clause-stays : goal.returns-then-allowed-eq0-clause
 returns-then-allowed-eq0-clause-stays c = λ h le below.
     let n = c.item_count-count.ensures in
     let t = c.loop-begin-test.true in
-    sym (c.loop-begin.invariant.fits h le below ∙ fits-out (all_rows c.args.flows.now) c.args.flows.now (flow_of c.args.flows.now c.args.flow) h c.loop-begin.begin.item (omega arith) c.loop-begin.allowed c.if-allowed-eq0.true)
+    sym (c.loop-begin.invariant.fits h le below
+    ∙ fits-out (all_rows c.args.flows.now) c.args.flows.now (flow_of c.args.flows.now c.args.flow) h
+    c.loop-begin.begin.item (omega arith) c.loop-begin.allowed c.if-allowed-eq0.true)
 
 pub returns-then-not-is_good-clause-stays : goal.returns-then-not-is_good-clause-stays
 returns-then-not-is_good-clause-stays c = λ h le below.
@@ -17,7 +19,9 @@ returns-then-not-is_good-clause-stays c = λ h le below.
     let z = c.if-allowed-eq0.false in
     let both = c.lesser-next.ensures.both h below in
     sym (c.loop-begin.invariant.fits h le both.0
-    ∙ fits-bad (all_rows c.args.flows.now) c.args.flows.now (flow_of c.args.flows.now c.args.flow) h c.loop-begin.begin.item (omega arith) c.column_at-end.result (c.column_at-end.ensures.stays h le both.1) c.loop-begin.allowed (omega arith) (sym c.if-not-is_good.ensures))
+    ∙ fits-bad (all_rows c.args.flows.now) c.args.flows.now (flow_of c.args.flows.now c.args.flow) h c.loop-begin.begin.item
+    (omega arith) c.column_at-end.result (c.column_at-end.ensures.stays h le both.1) c.loop-begin.allowed (omega arith)
+    (sym c.if-not-is_good.ensures))
 
 pub loop-begin-preserved : goal.loop-begin-preserved
 loop-begin-preserved c =
@@ -28,7 +32,9 @@ loop-begin-preserved c =
       fits = λ h le below.
           let both = c.lesser-next.ensures.both h below in
           c.loop-begin.invariant.fits h le both.0
-          ∙ fits-good (all_rows c.args.flows.now) c.args.flows.now (flow_of c.args.flows.now c.args.flow) h c.loop-begin.begin.item (omega arith) c.column_at-end.result (c.column_at-end.ensures.stays h le both.1) c.loop-begin.allowed (omega arith) (sym c.if-not-is_good.ensures);
+          ∙ fits-good (all_rows c.args.flows.now) c.args.flows.now (flow_of c.args.flows.now c.args.flow) h
+          c.loop-begin.begin.item (omega arith) c.column_at-end.result (c.column_at-end.ensures.stays h le both.1)
+          c.loop-begin.allowed (omega arith) (sym c.if-not-is_good.ensures);
       next = c.lesser-next.ensures.each c.args.height c.loop-begin.invariant.next c.column_at-end.ensures.bound;
       within = c.column_at-end.ensures.within;
       cloned = c.column_at-end.ensures.cloned;
@@ -38,4 +44,6 @@ pub returns-clause-stays : goal.returns-clause-stays
 returns-clause-stays c = λ h le below.
     let n = c.item_count-count.ensures in
     let t = c.loop-begin-test.false in
-    sym (c.loop-begin.invariant.fits h le below ∙ fits-end (all_rows c.args.flows.now) c.args.flows.now (flow_of c.args.flows.now c.args.flow) h c.loop-begin.allowed c.loop-begin.begin.item (omega arith))
+    sym (c.loop-begin.invariant.fits h le below
+    ∙ fits-end (all_rows c.args.flows.now) c.args.flows.now (flow_of c.args.flows.now c.args.flow) h c.loop-begin.allowed
+    c.loop-begin.begin.item (omega arith))

@@ -9,7 +9,9 @@ use Rattle.column_row.proofs.columns.try_height.Given as goal
 abbrev pub invariant-loop-begin : goal.invariant-loop-begin
 invariant-loop-begin l = record {
   fits : (h : ℕ) → l.height ≤ h → IsBelow h l.next →
-      reach_end (flow_of l.flows l.flow) row_start (columns (all_rows l.flows) l.flows (flow_of l.flows l.flow) l.most row_start h) ≡ reach_end (flow_of l.flows l.flow) (l.begin.item ∷ []) (columns (all_rows l.flows) l.flows (flow_of l.flows l.flow) l.allowed (l.begin.item ∷ []) h);
+      reach_end (flow_of l.flows l.flow) row_start
+      (columns (all_rows l.flows) l.flows (flow_of l.flows l.flow) l.most row_start h) ≡ reach_end (flow_of l.flows l.flow)
+      (l.begin.item ∷ []) (columns (all_rows l.flows) l.flows (flow_of l.flows l.flow) l.allowed (l.begin.item ∷ []) h);
   next : IsBelow l.height l.next;
   within : l.begin.item ≤ length (flow_of l.flows l.flow).items;
   cloned : IsAcross l.flows (flow_of l.flows l.flow) l.begin.item l.begin.cloned;

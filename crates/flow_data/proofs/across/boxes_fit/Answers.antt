@@ -13,7 +13,8 @@ returns-then-opened_fit c =
     let P = IsBoxInReach d c.args.left in
     let Starts : Seam → Type 0 = λ (s : Seam). All (λ edge. All P (started edge)) s.head in
     same_fact (All P (boxes_in f)) c.seams_fit.ensures
-    (λ h. of_boxes P f (subst (All P) c.opened_of.ensures (c.opened_fit.ensures.0 c.if-opened_fit.true)) (subst (All Starts) c.seams_of.ensures h))
+    (λ h. of_boxes P f (subst (All P) c.opened_of.ensures (c.opened_fit.ensures.0 c.if-opened_fit.true))
+    (subst (All Starts) c.seams_of.ensures h))
     (λ h. subst (All Starts) (sym c.seams_of.ensures) (of_starts P f h))
 
 pub returns-else-opened_fit : goal.returns-else-opened_fit
@@ -21,4 +22,5 @@ returns-else-opened_fit c =
     let d = c.args.parts.now in
     let f = flow_of d c.args.flow in
     let P = IsBoxInReach d c.args.left in
-    refused_by (All P (boxes_in f)) c.opened_fit.result c.if-opened_fit.false (λ h. not_so c.opened_fit.ensures c.if-opened_fit.false (subst (All P) (sym c.opened_of.ensures) (of_opened P f h)))
+    refused_by (All P (boxes_in f)) c.opened_fit.result c.if-opened_fit.false
+    (λ h. not_so c.opened_fit.ensures c.if-opened_fit.false (subst (All P) (sym c.opened_of.ensures) (of_opened P f h)))

@@ -13,8 +13,11 @@ returns-then-not-branch c =
     let i = c.loop-number.number-index in
     let xs = c.args.boxes.now in
     let lt = c.loop-number-test.true in
-    let had = not-false _ (sym c.in_ok-insert.ensures.added ∙ c.if-not-branch.true) in
-    (λ e. absurd cc, λ distinct. absurd (twice xs i (get_or xs i 0) lt (here xs i lt) (sym (c.loop-number.invariant.seen _) ∙ had) distinct))
+    let had = not-false _ (sym c.in_ok-insert.ensures.added ∙ c.if-not-branch.true) in (
+      λ e. absurd cc,
+      λ distinct. absurd
+          (twice xs i (get_or xs i 0) lt (here xs i lt) (sym (c.loop-number.invariant.seen _) ∙ had) distinct),
+    )
 
 pub loop-number-preserved : goal.loop-number-preserved
 loop-number-preserved c =
@@ -23,8 +26,10 @@ loop-number-preserved c =
     let lt = c.loop-number-test.true in
     let lacked = not-true _ (sym c.in_ok-insert.ensures.added ∙ c.if-not-branch.false) in
     record {
-      distinct = apart xs i (get_or xs i 0) lt (here xs i lt) (sym (c.loop-number.invariant.seen _) ∙ lacked) c.loop-number.invariant.distinct;
-      seen = λ q. c.in_ok-insert.ensures.updates.0 q ∙ seen_more xs i (get_or xs i 0) q _ lt (here xs i lt) (c.loop-number.invariant.seen q);
+      distinct = apart xs i (get_or xs i 0) lt (here xs i lt) (sym (c.loop-number.invariant.seen _) ∙ lacked)
+          c.loop-number.invariant.distinct;
+      seen = λ q. c.in_ok-insert.ensures.updates.0 q
+          ∙ seen_more xs i (get_or xs i 0) q _ lt (here xs i lt) (c.loop-number.invariant.seen q);
     }
 
 pub returns : goal.returns

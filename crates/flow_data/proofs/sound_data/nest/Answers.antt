@@ -11,4 +11,8 @@ returns-then-rows_nest c =
     let Nested : Type 0 = EachIndex d.rows (NestsAtMost d 3) in
     let Later : Type 0 = EachIndex d.stacks (λ s. All (λ named. s < named) (stacks_within d s)) in
     same_fact (Inner × Nested × Later) c.stacks_name_later.ensures
-    (λ later. (c.inner_rows_are_sound.ensures.0 c.if-not-inner_rows_are_sound.false, c.rows_nest.ensures.0 c.if-rows_nest.true, later)) (λ all. all.2)
+    (λ later. (
+      c.inner_rows_are_sound.ensures.0 c.if-not-inner_rows_are_sound.false,
+      c.rows_nest.ensures.0 c.if-rows_nest.true,
+      later,
+    )) (λ all. all.2)

@@ -11,12 +11,14 @@ returns-then-not-are_in_range c =
     refused (IsSound c.args.parts.now) (λ s. not_so c.are_in_range.ensures c.if-not-are_in_range.true (
       s.rows,
       s.boxes,
-      All-from_get_or (λ (s : Stack). (s.flow < length c.args.parts.now.flows) × (s.w < 2 ^ 60)) c.args.parts.now.stacks no_stack (λ k lt. ((s.stacks k lt).flow, (s.stacks k lt).w_limit)),
+      All-from_get_or (λ (s : Stack). (s.flow < length c.args.parts.now.flows) × (s.w < 2 ^ 60)) c.args.parts.now.stacks no_stack
+          (λ k lt. ((s.stacks k lt).flow, (s.stacks k lt).w_limit)),
     ))
 
 pub returns-then-not-nest : goal.returns-then-not-nest
 returns-then-not-nest c =
-    refused (IsSound c.args.parts.now) (λ s. not_so c.nest.ensures c.if-not-nest.true (s.inner_rows, s.nest_limit, λ k lt. (s.stacks k lt).later))
+    refused (IsSound c.args.parts.now)
+    (λ s. not_so c.nest.ensures c.if-not-nest.true (s.inner_rows, s.nest_limit, λ k lt. (s.stacks k lt).later))
 
 pub returns : goal.returns
 returns c =

@@ -13,12 +13,15 @@ returns-in-loop-item t c =
     let items = c.items_of-item-items.result.now in
     let is_its = c.items_of-item-items.ensures ∙ ap (λ (r : RowInfo). (flow_of d r.flow).items) c.row_of.ensures in
     refused (NestsAtMost d c.args.n c.args.row) (λ h.
-    not_so c.nests_at_most.ensures c.if-not-nests_at_most.true (nests-inner d c.args.n c.args.row c.loop-item.item-index c.in-Row.inner items c.if-n-eq0.false is_its c.loop-item-test.true c.in-Row.is h))
+    not_so c.nests_at_most.ensures c.if-not-nests_at_most.true
+    (nests-inner d c.args.n c.args.row c.loop-item.item-index c.in-Row.inner items c.if-n-eq0.false is_its
+    c.loop-item-test.true c.in-Row.is h))
 
 pub returns : goal.returns
 returns t c =
     let d = c.args.parts.now in
     let items = c.items_of-item-items.result.now in
     let is_its = c.items_of-item-items.ensures ∙ ap (λ (r : RowInfo). (flow_of d r.flow).items) c.row_of.ensures in
-    let all = subst (All (λ item. All (NestsAtMost d (c.args.n - 1)) (row_in item))) (take_all c.loop-item.item-index items c.loop-item-test.false) c.loop-item.invariant in
+    let all = subst (All (λ item. All (NestsAtMost d (c.args.n - 1)) (row_in item)))
+    (take_all c.loop-item.item-index items c.loop-item-test.false) c.loop-item.invariant in
     accepted (NestsAtMost d c.args.n c.args.row) (nests-from_items d c.args.n c.args.row items c.if-n-eq0.false is_its all)

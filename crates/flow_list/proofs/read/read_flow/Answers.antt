@@ -1,6 +1,7 @@
 use Rattle.std.proofs.Common.{arith}
 use Rattle.std.proofs.lemmas.Result.{err_from_is_err_and}
-use Rattle.flow_list.proofs.FileReadings.{read_faultless, read_few, read_low, read_only, read_sound, refused_only, refused_told, refuses}
+use Rattle.flow_list.proofs.FileReadings.{read_faultless, read_few, read_low, read_only, read_sound, refused_only, refused_told}
+use Rattle.flow_list.proofs.FileReadings.{refuses}
 use Rattle.flow_list.proofs.read.read_flow.Goals as goal
 
 pub returns-in_err-lines-clause-only : goal.returns-in_err-lines-clause-only

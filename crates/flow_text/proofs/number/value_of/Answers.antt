@@ -5,7 +5,11 @@ use Rattle.flow_text.proofs.NumberLemmas.{one_more_fits, digit_is}
 use Rattle.flow_text.proofs.number.value_of.Goals as goal
 
 pub overflow_mul-value : goal.overflow_mul-value
-overflow_mul-value c = omega (arith, one_more_fits c.args.digits.now c.loop-digit.digit-index c.requires.all c.requires.few c.loop-digit-test.true)
+overflow_mul-value c = omega (
+  arith,
+  one_more_fits c.args.digits.now c.loop-digit.digit-index c.requires.all c.requires.few
+      c.loop-digit-test.true,
+)
 
 pub overflow_sub-digit : goal.overflow_sub-digit
 overflow_sub-digit c = omega (arith, digit_at c.args.digits.now c.loop-digit.digit-index c.requires.all c.loop-digit-test.true)

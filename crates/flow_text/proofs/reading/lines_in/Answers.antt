@@ -10,7 +10,8 @@ returns-in_err-line c =
     let front = rw c.split_at.ensures.back at c.split_at-in-loop-at.ensures.front in
     let behind = rw c.split_at.ensures.back at c.split_at-in-loop-at.ensures.back in
     let fails = rw c.is_empty.ensures at c.in_err-line.ensures in
-    rw (p.1, p.2) (bad_line c.in_err-line.field-0.0 c.loop-at.reading c.loop-at.lines c.args.text.now _ _ c.loop-at.at c.len_before.result c.loop-at-test.true k front behind fails c.loop-at.invariant)
+    rw (p.1, p.2) (bad_line c.in_err-line.field-0.0 c.loop-at.reading c.loop-at.lines c.args.text.now _ _ c.loop-at.at
+    c.len_before.result c.loop-at-test.true k front behind fails c.loop-at.invariant)
 
 pub returns-in_err-reading : goal.returns-in_err-reading
 returns-in_err-reading c =
@@ -19,7 +20,8 @@ returns-in_err-reading c =
     let front = rw c.split_at.ensures.back at c.split_at-in-loop-at.ensures.front in
     let behind = rw c.split_at.ensures.back at c.split_at-in-loop-at.ensures.back in
     let line = rw c.is_empty.ensures at c.in_ok-line.ensures in
-    rw (p.1, p.2) (bad_place c.in_err-reading.field-0.0 c.loop-at.reading c.loop-at.lines c.in_ok-line.line c.args.text.now _ _ c.loop-at.at c.len_before.result c.loop-at-test.true k front behind line c.in_err-reading.ensures c.loop-at.invariant)
+    rw (p.1, p.2) (bad_place c.in_err-reading.field-0.0 c.loop-at.reading c.loop-at.lines c.in_ok-line.line c.args.text.now _ _
+    c.loop-at.at c.len_before.result c.loop-at-test.true k front behind line c.in_err-reading.ensures c.loop-at.invariant)
 
 pub loop-at-preserved : goal.loop-at-preserved
 loop-at-preserved c =
@@ -27,10 +29,14 @@ loop-at-preserved c =
     let front = rw c.split_at.ensures.back at c.split_at-in-loop-at.ensures.front in
     let behind = rw c.split_at.ensures.back at c.split_at-in-loop-at.ensures.back in
     let line = rw c.is_empty.ensures at c.in_ok-line.ensures in
-    rw c.in_ok-push.ensures.ok (goes_on c.loop-at.reading c.in_ok-reading.reading c.loop-at.lines c.in_ok-line.line c.args.text.now _ _ c.loop-at.at c.len_before.result _ _ c.loop-at-test.true k front behind c.split_at-in-loop-at.ensures.front_len refl line c.in_ok-reading.ensures c.loop-at.invariant)
+    rw c.in_ok-push.ensures.ok (goes_on c.loop-at.reading c.in_ok-reading.reading c.loop-at.lines c.in_ok-line.line
+    c.args.text.now _ _ c.loop-at.at c.len_before.result _ _ c.loop-at-test.true k front behind
+    c.split_at-in-loop-at.ensures.front_len refl line c.in_ok-reading.ensures c.loop-at.invariant)
 
 pub returns-in-Some : goal.returns-in-Some
-returns-in-Some c = may_not_end c.loop-at.reading c.loop-at.lines c.args.text.now c.loop-at.at c.in-Some.fault c.loop-at-test.false c.loop-at.invariant (sym c.in-Some.ensures)
+returns-in-Some c = may_not_end c.loop-at.reading c.loop-at.lines c.args.text.now c.loop-at.at c.in-Some.fault
+    c.loop-at-test.false c.loop-at.invariant (sym c.in-Some.ensures)
 
 pub returns : goal.returns
-returns c = may_end c.loop-at.reading c.loop-at.lines c.args.text.now c.loop-at.at c.loop-at-test.false c.loop-at.invariant (sym c.in_default.ensures)
+returns c = may_end c.loop-at.reading c.loop-at.lines c.args.text.now c.loop-at.at c.loop-at-test.false c.loop-at.invariant
+    (sym c.in_default.ensures)

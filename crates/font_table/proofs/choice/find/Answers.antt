@@ -26,9 +26,12 @@ unfolding nowhere
 returns-in-Err-clause-value c =
     let xs = c.args.advances.now in
     let ch = c.args.ch in
-    let parted = c.in-Err.ensures.position (λ (a : Advance). a.ch) (answers_always _ _ _ (λ f a r g h. search rules)) (searchable xs ch c.requires) in
+    let parted = c.in-Err.ensures.position (λ (a : Advance). a.ch) (answers_always _ _ _ (λ f a r g h. search rules))
+    (searchable xs ch c.requires) in
     sym (own-none xs nowhere ch (λ i lt same.
     elim (cases_lt i c.in-Err.field-0) [
-      | inl below ↦ let less = parted.0 i nowhere (omega arith) below in let equal = equal_is (get_or xs i nowhere).ch ch same in absurd cc
-      | inr above ↦ let greater = parted.1 i nowhere above lt in let equal = equal_is (get_or xs i nowhere).ch ch same in absurd cc
+      | inl below ↦ let less = parted.0 i nowhere (omega arith) below in let equal = equal_is (get_or xs i nowhere).ch ch same
+          in absurd cc
+      | inr above ↦ let greater = parted.1 i nowhere above lt in let equal = equal_is (get_or xs i nowhere).ch ch same
+          in absurd cc
     ]))

@@ -8,4 +8,5 @@ ends : (family : List ℕ) (i : ℕ) (rest : List ℕ) → i < length family →
 ends family i rest lt none = rw (drop-cons family i 0, none) refl
 
 pub returns-in-None : goal.returns-in-None
-returns-in-None c = sym (ends c.args.family.now c.loop-byte.byte-index c.loop-byte.rest.now c.loop-byte-test.true (nil_from_length c.loop-byte.rest.now c.in-None.ensures.cases)) ∙ c.loop-byte.invariant
+returns-in-None c = sym (ends c.args.family.now c.loop-byte.byte-index c.loop-byte.rest.now c.loop-byte-test.true
+    (nil_from_length c.loop-byte.rest.now c.in-None.ensures.cases)) ∙ c.loop-byte.invariant

@@ -17,7 +17,8 @@ refusal_of text (refusals.Limit name reached limit) h = absurd h
 pub returns-in_err-faces-clause-only : goal.returns-in_err-faces-clause-only
 returns-in_err-faces-clause-only c = λ faces table.
     let p = err_from_is_err_and c.from_residual.result c.from_residual.ensures.1 in
-    rw (p.1, p.2) (subst (λ (r : Result (List Face) Fault). Fails c.in_err-faces.field-0.0 r) (is_read c.args.text.now faces table) c.in_err-faces.ensures)
+    rw (p.1, p.2) (subst (λ (r : Result (List Face) Fault). Fails c.in_err-faces.field-0.0 r)
+    (is_read c.args.text.now faces table) c.in_err-faces.ensures)
 
 pub returns-in_err-faces-clause-first : goal.returns-in_err-faces-clause-first
 returns-in_err-faces-clause-first c =
@@ -25,10 +26,12 @@ returns-in_err-faces-clause-first c =
     rw (p.1, p.2) (refusal_of c.args.text.now c.in_err-faces.field-0.0 c.in_err-faces.ensures)
 
 pub of-requires : goal.of-requires
-of-requires c = is_sound c.args.text.now c.in_ok-faces.faces c.requires (is_found c.args.text.now c.in_ok-faces.faces c.in_ok-faces.ensures)
+of-requires c = is_sound c.args.text.now c.in_ok-faces.faces c.requires
+    (is_found c.args.text.now c.in_ok-faces.faces c.in_ok-faces.ensures)
 
 pub returns-clause-found : goal.returns-clause-found
 returns-clause-found c = rw c.of.ensures (is_found c.args.text.now c.in_ok-faces.faces c.in_ok-faces.ensures)
 
 pub returns-clause-only : goal.returns-clause-only
-returns-clause-only c = λ faces table. sym (is_read c.args.text.now faces table) ∙ c.in_ok-faces.ensures ∙ ap (λ (xs : List Face). Ok xs) (sym c.of.ensures)
+returns-clause-only c = λ faces table. sym (is_read c.args.text.now faces table) ∙ c.in_ok-faces.ensures
+    ∙ ap (λ (xs : List Face). Ok xs) (sym c.of.ensures)

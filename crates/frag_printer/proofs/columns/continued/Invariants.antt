@@ -6,6 +6,7 @@ use Rattle.frag_printer.proofs.columns.continued.Given as goal
 
 abbrev pub invariant-loop-number : goal.invariant-loop-number
 invariant-loop-number l = record {
-  placed : map placed_as l.placed.items ++ continued_from l.flows l.y (drop l.number-index l.boxes) ≡ continued_from l.flows 0 l.boxes;
+  placed : map placed_as l.placed.items ++ continued_from l.flows l.y (drop l.number-index l.boxes)
+      ≡ continued_from l.flows 0 l.boxes;
   y : l.y + tops l.flows (drop l.number-index l.boxes) ≡ tops l.flows l.boxes;
 }

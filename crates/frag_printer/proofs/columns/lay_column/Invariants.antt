@@ -15,7 +15,8 @@ invariant-loop-k l =
     let f = flow_of l.flows l.flow in
     record {
       places : with_more l.at (rest_laid l.flows f (strip_of l.at) l.k (l.end - l.k)) ≡ column_places l.flows f l.begin l.end;
-      strip : rest_strip l.flows f (strip_of l.at) l.k (l.end - l.k) ≡ strip_after (all_rows l.flows) f (start_strip l.flows f (l.begin ∷ [])) l.begin row_start (l.end - l.begin);
+      strip : rest_strip l.flows f (strip_of l.at) l.k (l.end - l.k)
+          ≡ strip_after (all_rows l.flows) f (start_strip l.flows f (l.begin ∷ [])) l.begin row_start (l.end - l.begin);
       margin : HasMargin l.at;
       room : HasRoom l.flows f l.k (strip_of l.at);
       across : l.boxes.items ≡ open_across f l.k;

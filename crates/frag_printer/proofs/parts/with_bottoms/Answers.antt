@@ -17,6 +17,11 @@ loop-i-preserved c =
     let first = drop_more all (i - 1) (Opens 0 0 false) lt ∙ ap (λ k. get_or all (i - 1) (Opens 0 0 false) ∷ drop k all) back in
     let h = c.loop-i.invariant in
     record {
-      parts = c.in_ok-add_part.ensures.part (map placed_as (drop i all)) h.ends ∙ ap (λ ps. ps ++ part_of (get_or all (i - 1) (Opens 0 0 false)) (map placed_as (drop i all)) ∷ []) h.parts ∙ sym (ap (λ ps. reverse (parts_of ps)) first ∙ reverse-append (part_of (get_or all (i - 1) (Opens 0 0 false)) (map placed_as (drop i all)) ∷ []) (parts_of (drop i all)));
-      ends = λ q. c.in_ok-add_part.ensures.ends (map placed_as (drop i all)) h.ends q ∙ ap (λ ps. bottom_of q (map placed_as ps)) (sym first);
+      parts = c.in_ok-add_part.ensures.part (map placed_as (drop i all)) h.ends
+          ∙ ap (λ ps. ps ++ part_of (get_or all (i - 1) (Opens 0 0 false)) (map placed_as (drop i all)) ∷ []) h.parts
+          ∙ sym (ap (λ ps. reverse (parts_of ps)) first
+          ∙ reverse-append (part_of (get_or all (i - 1) (Opens 0 0 false)) (map placed_as (drop i all)) ∷ [])
+          (parts_of (drop i all)));
+      ends = λ q. c.in_ok-add_part.ensures.ends (map placed_as (drop i all)) h.ends q
+          ∙ ap (λ ps. bottom_of q (map placed_as ps)) (sym first);
     }

@@ -1,4 +1,4 @@
--- what stands behind is added, the last first, and the ends of boxes there are kept
+-- what stands after is added, the last first, and the ends of boxes there are kept
 use Rattle.std.proofs.Common.{◌≡◌, ℕ, drop, map, nat_eq, reverse}
 use Rattle.std.specs.HashMap.{get}
 use Rattle.flow_list.specs.Fragments.{bottom_of}

@@ -13,9 +13,16 @@ loop-waiting-preserved c =
     let before : List Laid = map laid_as (take i gap) in
     let h = c.loop-waiting.invariant in
     record {
-      places = so-far (map placed_as c.loop-waiting.placed.items) _ _ (gap_places c.args.y c.args.end before (map laid_as (drop i gap))) _ _ h.places (gap-more c.args.y c.args.end i gap (Margin 0) c.loop-waiting-test.true) (c.in_ok-place.ensures.placed before h.margin h.started);
-      margin = c.max-margin.ensures ∙ ap (λ m. max c.loop-waiting.margin m) c.margin_in.ensures ∙ ap (λ m. max m (margin_of (get_or gap i (Margin 0)))) h.margin ∙ sym (ap greatest_margin (taken-more i gap (Margin 0) c.loop-waiting-test.true) ∙ greatest-more (take i gap) (get_or gap i (Margin 0)));
-      started = λ q. c.in_ok-place.ensures.started before h.started q ∙ ap (opens_among q) (sym (taken-more i gap (Margin 0) c.loop-waiting-test.true));
+      places = so-far (map placed_as c.loop-waiting.placed.items) _ _
+          (gap_places c.args.y c.args.end before (map laid_as (drop i gap))) _ _ h.places
+          (gap-more c.args.y c.args.end i gap (Margin 0) c.loop-waiting-test.true)
+          (c.in_ok-place.ensures.placed before h.margin h.started);
+      margin = c.max-margin.ensures ∙ ap (λ m. max c.loop-waiting.margin m) c.margin_in.ensures
+          ∙ ap (λ m. max m (margin_of (get_or gap i (Margin 0)))) h.margin
+          ∙ sym (ap greatest_margin (taken-more i gap (Margin 0) c.loop-waiting-test.true)
+          ∙ greatest-more (take i gap) (get_or gap i (Margin 0)));
+      started = λ q. c.in_ok-place.ensures.started before h.started q
+          ∙ ap (opens_among q) (sym (taken-more i gap (Margin 0) c.loop-waiting-test.true));
     }
 
 pub place-requires : goal.place-requires

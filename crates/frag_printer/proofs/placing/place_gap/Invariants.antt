@@ -7,7 +7,8 @@ use Rattle.frag_printer.proofs.placing.place_gap.Given as goal
 
 abbrev pub invariant-loop-waiting : goal.invariant-loop-waiting
 invariant-loop-waiting l = record {
-  places : map placed_as l.placed.items ++ gap_places l.y l.end (map laid_as (take l.waiting-index l.gap)) (map laid_as (drop l.waiting-index l.gap))
+  places : map placed_as l.placed.items ++ gap_places l.y l.end (map laid_as (take l.waiting-index l.gap))
+      (map laid_as (drop l.waiting-index l.gap))
       ≡ map placed_as l.initial.placed.items ++ gap_places l.y l.end [] (map laid_as l.gap);
   margin : l.margin ≡ greatest_margin (map laid_as (take l.waiting-index l.gap));
   started : (q : ℕ) → contains nat_eq l.started q ≡ opens_among q (map laid_as (take l.waiting-index l.gap));

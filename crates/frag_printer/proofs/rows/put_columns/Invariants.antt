@@ -11,8 +11,12 @@ use Rattle.frag_printer.proofs.rows.put_columns.Given as goal
 
 abbrev pub invariant-loop-i : goal.invariant-loop-i
 invariant-loop-i l = record {
-  text : l.out.text ++ tree_text (columns_lines (row_fragments l.flows (length l.flows.rows)) l.flows no_stacks l.row l.at.depth (frame_of l.at) l.y l.height l.i l.begin (drop l.i l.ends))
-      ≡ l.initial.out.text ++ tree_text (columns_lines (row_fragments l.flows (length l.flows.rows)) l.flows no_stacks l.row l.at.depth (frame_of l.at) l.y l.height 0 0 l.ends);
+  text : l.out.text ++ tree_text
+      (columns_lines (row_fragments l.flows (length l.flows.rows)) l.flows no_stacks l.row l.at.depth (frame_of l.at) l.y l.height
+      l.i l.begin (drop l.i l.ends))
+      ≡ l.initial.out.text ++ tree_text
+      (columns_lines (row_fragments l.flows (length l.flows.rows)) l.flows no_stacks l.row l.at.depth (frame_of l.at) l.y
+      l.height 0 0 l.ends);
   within : KeepsLimit l.initial.out l.out;
   across : l.boxes.items ≡ open_across (flow_of l.flows l.row.flow) l.begin;
   places : ArePlaces (flow_of l.flows l.row.flow) l.begin (drop l.i l.ends);

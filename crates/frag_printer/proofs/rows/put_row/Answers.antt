@@ -10,6 +10,7 @@ put_columns-requires-clause-count c =
     let sound = c.flow_counts-counts.ensures.sound in
     let in_flows = (sound.rows c.args.flat.now.row no_row c.requires.row).flow in
     let few : length f.items < 2 ^ 32 = (sound.flows (row_of d c.args.flat.now.row).flow no_flow in_flows).count in
-    let n : 0 + length c.args.flat.now.ends ≤ length f.items = places-count f 0 c.args.flat.now.ends (omega arith) c.requires.places in
+    let n : 0 + length c.args.flat.now.ends ≤ length f.items =
+    places-count f 0 c.args.flat.now.ends (omega arith) c.requires.places in
     let s : length c.as_slice.result.now ≡ length c.args.flat.now.ends = ap length c.as_slice.ensures in
     omega arith

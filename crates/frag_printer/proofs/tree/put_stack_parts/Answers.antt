@@ -23,7 +23,10 @@ loop-part-preserved c =
     let deeper = e.depth in
     let more = e.bottoms in
     record {
-      text = e.text (drop (i + 1) parts) ∙ ap (λ ps. c.loop-part.out.text ++ tree_text (part_lines d no_stacks (flow_of d c.args.flow) c.loop-part.reached.at.depth (frame_of c.loop-part.reached.at) ps)) (sym (drop_more parts i none lt)) ∙ h.text;
+      text = e.text (drop (i + 1) parts)
+          ∙ ap (λ ps. c.loop-part.out.text ++ tree_text
+          (part_lines d no_stacks (flow_of d c.args.flow) c.loop-part.reached.at.depth (frame_of c.loop-part.reached.at) ps))
+          (sym (drop_more parts i none lt)) ∙ h.text;
       within = (e.within.0 ∙ h.within.0, λ short. e.within.1 (h.within.1 short));
       rows = rows-next d parts i none lt c.args.rows.now c.loop-part.reached.next c.in_ok-reached.reached.next h.rows e.next;
       x = e.x;

@@ -12,7 +12,8 @@ pub returns-clause-refused : goal.returns-clause-refused
 returns-clause-refused c = answer_refused c.dom_of.result c.args.text.now c.dom_of.ensures
 
 pub returns-clause-formed : goal.returns-clause-formed
-returns-clause-formed c = answer_formed c.dom_of.result c.args.text.now c.requires (answer_found c.dom_of.result c.args.text.now c.dom_of.ensures)
+returns-clause-formed c = answer_formed c.dom_of.result c.args.text.now c.requires
+    (answer_found c.dom_of.result c.args.text.now c.dom_of.ensures)
 
 pub returns-clause-one : goal.returns-clause-one
 returns-clause-one c = answer_one c.dom_of.result c.args.text.now (answer_found c.dom_of.result c.args.text.now c.dom_of.ensures)

@@ -5,7 +5,8 @@ use Rattle.html_subset.proofs.references.number.Given as goal
 
 abbrev pub invariant-loop-place : goal.invariant-loop-place
 invariant-loop-place l = record {
-  value : number_from l.radix l.value (codes_while (is_radix_digit l.radix) l.cursor) ≡ number_from l.radix 0 (codes_while (is_radix_digit l.radix) l.fn.cursor);
+  value : number_from l.radix l.value (codes_while (is_radix_digit l.radix) l.cursor)
+      ≡ number_from l.radix 0 (codes_while (is_radix_digit l.radix) l.fn.cursor);
   rest : behind_while (is_radix_digit l.radix) l.cursor ≡ behind_while (is_radix_digit l.radix) l.fn.cursor;
   small : l.value ≤ 0x110000;
 }

@@ -7,4 +7,5 @@ pub returns-then-count-eq0 : goal.returns-then-count-eq0
 returns-then-count-eq0 c = rw (stack_none c.args.opens.now c.if-count-eq0.true) refl
 
 pub returns : goal.returns
-returns c = rw (stack_top c.args.opens.now (length c.args.opens.now) c.index-opens-count.result refl (omega arith)) (c.closes.ensures ∙ ap (closes c.args.name.now) c.as_slice.ensures)
+returns c = rw (stack_top c.args.opens.now (length c.args.opens.now) c.index-opens-count.result refl (omega arith))
+    (c.closes.ensures ∙ ap (closes c.args.name.now) c.as_slice.ensures)

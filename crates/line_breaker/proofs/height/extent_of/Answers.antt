@@ -17,7 +17,8 @@ invariant_of-result c = record {
 
 pub returns-clause-above : goal.returns-clause-above
 returns-clause-above c =
-    above_is c.ascent-ascent.result c.descent-descent.result c.args.style.now.line _ _ _ c.half.result _ c.half.ensures.value (omega (arith, ints)) c.ascent-ascent.ensures.value c.descent-descent.ensures.value (omega (arith, ints))
+    above_is c.ascent-ascent.result c.descent-descent.result c.args.style.now.line _ _ _ c.half.result _ c.half.ensures.value
+    (omega (arith, ints)) c.ascent-ascent.ensures.value c.descent-descent.ensures.value (omega (arith, ints))
 
 pub returns-clause-below : goal.returns-clause-below
 returns-clause-below c = let above = returns-clause-above c in omega (arith, ints, above)

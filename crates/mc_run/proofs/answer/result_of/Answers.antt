@@ -5,4 +5,5 @@ use Rattle.mc_run.proofs.Causes.{only_flow}
 use Rattle.mc_run.proofs.answer.result_of.Goals as goal
 
 pub returns-clause-others : goal.returns-clause-others
-returns-clause-others g c = only_flow _ (Some (asked c.args.command)) (g.F.Files.faults c.args.files.now) (g.F.Files.faults c.rows_of.new.files) c.rows_of.ensures.others (search rules)
+returns-clause-others g c = only_flow _ (Some (asked c.args.command)) (g.F.Files.faults c.args.files.now)
+    (g.F.Files.faults c.rows_of.new.files) c.rows_of.ensures.others (search rules)

@@ -5,4 +5,5 @@ use Rattle.mc_run.proofs.rows.rows_result.Goals as goal
 pub returns-in_err-flows-clause-err : goal.returns-in_err-flows-clause-err
 returns-in_err-flows-clause-err c =
     let p = err_from_is_err_and c.from_residual.result c.from_residual.ensures.1 in
-    rw (p.1, p.2) (reader_result c.args.bytes.now c.read_flow.result c.in_err-flows.field-0.0 c.in_err-flows.was c.read_flow.ensures.only c.read_flow.ensures.refused)
+    rw (p.1, p.2) (reader_result c.args.bytes.now c.read_flow.result c.in_err-flows.field-0.0 c.in_err-flows.was
+    c.read_flow.ensures.only c.read_flow.ensures.refused)

@@ -19,6 +19,7 @@ pub loop-piece-preserved : goal.loop-piece-preserved
 loop-piece-preserved g c =
     let ok = at_ok c.put.result (sym c.is_err.ensures.value ∙ c.if-is_err.false) c.put.ensures.ok in
     record {
-      put = subst (Appends _ _) (sym (pieces_more _ c.args.pieces.now c.loop-piece.piece-index _ c.loop-piece-test.true)) (appends_on _ _ _ _ _ c.loop-piece.invariant.put ok);
+      put = subst (Appends _ _) (sym (pieces_more _ c.args.pieces.now c.loop-piece.piece-index _ c.loop-piece-test.true))
+          (appends_on _ _ _ _ _ c.loop-piece.invariant.put ok);
       later = omega (arith, c.put.ensures.later, c.loop-piece.invariant.later);
     }

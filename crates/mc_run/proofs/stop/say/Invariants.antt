@@ -6,6 +6,7 @@ use Rattle.mc_run.proofs.stop.say.Given as goal
 
 abbrev pub invariant-loop-piece : goal.invariant-loop-piece
 invariant-loop-piece g l = record {
-  put : Appends (g.E.Sink.written l.initial.err) (g.E.Sink.written l.err) (concat (map (λ piece. piece.now) (take l.piece-index l.pieces)));
+  put : Appends (g.E.Sink.written l.initial.err) (g.E.Sink.written l.err)
+      (concat (map (λ piece. piece.now) (take l.piece-index l.pieces)));
   later : g.E.Sink.faults l.initial.err ≤ g.E.Sink.faults l.err;
 }

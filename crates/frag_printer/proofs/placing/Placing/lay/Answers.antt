@@ -16,5 +16,6 @@ returns-in_ok-wait-in-Start c =
 pub returns-in_ok-wait-in-End : goal.returns-in_ok-wait-in-End
 returns-in_ok-wait-in-End c =
     let w = c.in_ok-wait-in-End.ensures in
-    let h = leads-closes c.args.self.now c.wait-in-End.new.self c.in-End.number c.requires.margin w.placed w.gap w.y w.margin w.drops in
+    let h = leads-closes c.args.self.now c.wait-in-End.new.self c.in-End.number c.requires.margin w.placed w.gap w.y w.margin
+    w.drops in
     rw c.in-End.is h

@@ -3,7 +3,9 @@ use Rattle.frag_printer.proofs.Edges.{edge-room, leads-edge}
 use Rattle.frag_printer.proofs.placing.Placing.lay_all.Goals as goal
 
 pub lay-requires-clause-room : goal.lay-requires-clause-room
-lay-requires-clause-room c = edge-room c.args.edges.now c.loop-edge.edge-index (Margin 0) c.loop-edge-test.true c.args.self.now c.loop-edge.self c.loop-edge.invariant c.requires.room
+lay-requires-clause-room c = edge-room c.args.edges.now c.loop-edge.edge-index (Margin 0) c.loop-edge-test.true c.args.self.now
+    c.loop-edge.self c.loop-edge.invariant c.requires.room
 
 pub loop-edge-preserved : goal.loop-edge-preserved
-loop-edge-preserved c = leads-edge c.args.edges.now c.loop-edge.edge-index (Margin 0) c.loop-edge-test.true c.args.self.now c.loop-edge.self c.loop-edge.invariant c.lay.new.self c.in_ok-lay.ensures
+loop-edge-preserved c = leads-edge c.args.edges.now c.loop-edge.edge-index (Margin 0) c.loop-edge-test.true c.args.self.now
+    c.loop-edge.self c.loop-edge.invariant c.lay.new.self c.in_ok-lay.ensures

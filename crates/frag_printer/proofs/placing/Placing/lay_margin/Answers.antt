@@ -5,4 +5,5 @@ use Rattle.frag_printer.proofs.placing.Placing.lay_margin.Goals as goal
 pub returns : goal.returns
 returns c =
     let w = c.in_ok-wait.ensures in
-    leads-margin c.args.self.now c.wait.new.self c.args.margin c.requires c.if-self.false w.placed w.gap w.y (w.margin ∙ c.max-self.ensures) w.drops
+    leads-margin c.args.self.now c.wait.new.self c.args.margin c.requires c.if-self.false w.placed w.gap w.y
+    (w.margin ∙ c.max-self.ensures) w.drops

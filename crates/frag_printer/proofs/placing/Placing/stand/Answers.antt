@@ -9,10 +9,16 @@ use Rattle.frag_printer.proofs.placing.Placing.stand.Goals as goal
 pub returns-then-height-eq0 : goal.returns-then-height-eq0
 returns-then-height-eq0 c =
     let w = c.in_ok-wait.ensures in
-    leads-flat c.args.self.now c.wait.new.self c.args.item c.args.height c.requires.margin c.if-height-eq0.true w.placed w.gap w.y w.margin w.drops
+    leads-flat c.args.self.now c.wait.new.self c.args.item c.args.height c.requires.margin c.if-height-eq0.true w.placed w.gap w.y
+    w.margin w.drops
 
 pub returns : goal.returns
 returns c =
     let w = c.in_ok-pass.ensures in
-    leads-atom c.args.self.now (record c.pass.new.self { placed = c.push.new.self }) c.args.item c.args.height c.requires.margin c.if-height-eq0.false
-    (ap (map placed_as) c.in_ok-push.ensures.items ∙ map-append placed_as c.pass.new.self.placed.items (Atom c.args.item (c.args.self.now.y + c.args.self.now.margin) ∷ []) ∙ ap (λ ps. ps ++ atom_at c.args.item (c.args.self.now.y + c.args.self.now.margin) ∷ []) w.placed) w.gap w.y w.margin w.drops
+    leads-atom c.args.self.now (record c.pass.new.self { placed = c.push.new.self }) c.args.item c.args.height c.requires.margin
+    c.if-height-eq0.false
+    (ap (map placed_as) c.in_ok-push.ensures.items
+    ∙ map-append placed_as c.pass.new.self.placed.items
+    (Atom c.args.item (c.args.self.now.y + c.args.self.now.margin) ∷ [])
+    ∙ ap (λ ps. ps ++ atom_at c.args.item (c.args.self.now.y + c.args.self.now.margin) ∷ []) w.placed) w.gap w.y w.margin
+    w.drops

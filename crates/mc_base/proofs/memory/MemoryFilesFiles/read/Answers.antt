@@ -6,4 +6,5 @@ pub returns-then-contains-clause-others : goal.returns-then-contains-clause-othe
 returns-then-contains-clause-others c = λ other apart. rw (← c.self.view_is) (others_noted _ _ _ _ other c.note.ensures apart)
 
 pub returns-in_default-clause-others : goal.returns-in_default-clause-others
-returns-in_default-clause-others c = λ other apart. rw (← c.self.view_is) (others_noted _ _ _ _ other c.note-in_default.ensures apart)
+returns-in_default-clause-others c =
+    λ other apart. rw (← c.self.view_is) (others_noted _ _ _ _ other c.note-in_default.ensures apart)

@@ -78,7 +78,7 @@ ghost use Rattle.std.specs.Prelude.{◌≡◌, ◌+◌, ◌^◌, ◌<◌, ◌≤
 ghost use Rattle.std.specs.Char.{len_utf8};
 ghost use Rattle.html_grammar.specs.Places.{places, first, behind_first};
 
-/// The first character of a text, and what stands behind it.
+/// The first character of a text, and what stands after it.
 fn split_first(text: &str) -> Option<(char, &str)>
     ensures value { MatchOption result (chars text.now ≡ [])
         (λ x. chars text.now ≡ x.0 ∷ chars x.1.now) }

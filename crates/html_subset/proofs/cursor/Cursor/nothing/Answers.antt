@@ -1,6 +1,0 @@
-use Rattle.std.proofs.lemmas.Str.{chars-nil}
-use Rattle.html_subset.proofs.PlaceLemmas.{places_none}
-use Rattle.html_subset.proofs.cursor.Cursor.nothing.Goals as goal
-
-pub returns : goal.returns
-returns c = places_none _ 0 chars-nil
