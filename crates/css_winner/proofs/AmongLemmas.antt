@@ -16,11 +16,10 @@ among_split [] ys x h = inr h
 among_split (z ∷ xs) ys x (inl e) = inl (inl e)
 among_split (z ∷ xs) ys x (inr h) = elim (among_split xs ys x h) [ inl a ↦ inl (inr a) | inr a ↦ inr a ]
 
+only_one : {X : Type 0} (y x : X) → Among (y ∷ []) x → y ≡ x
+only_one y x (inl e) = e
+only_one y x (inr h) = absurd h
+
 -- of a list with one more item
 pub among_more : {X : Type 0} (xs : List X) (y x : X) → Among (xs ++ y ∷ []) x → Among xs x ⊎ (y ≡ x)
-among_more xs y x h =
-    elim (among_split xs (y ∷ []) x h) [ inl a ↦ inl a | inr b ↦ inr (only y x b) ]
-  where
-    only : (y x : _) → Among (y ∷ []) x → y ≡ x
-    only y x (inl e) = e
-    only y x (inr h) = absurd h
+among_more xs y x h = elim (among_split xs (y ∷ []) x h) [ inl a ↦ inl a | inr b ↦ inr (only_one y x b) ]

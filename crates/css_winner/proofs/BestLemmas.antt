@@ -1,5 +1,5 @@
 -- One more claim, and the best that was found.
-use Rattle.std.proofs.Common.{◌≡◌, ◌≢◌, ◌⊎◌, inl, inr, ℕ, ◌<◌, Bool, true, false, List, [], ◌∷◌, ◌++◌, length, get_or, set, Option, Some, None, refl, sym, ap, subst, ◌∙◌, arith, get_or-set_same, get_or-set_other}
+use Rattle.std.proofs.Common.{◌≡◌, ◌≢◌, ◌⊎◌, inl, inr, ℕ, zero, suc, ◌<◌, Bool, true, false, List, [], ◌∷◌, ◌++◌, length, get_or, set, Option, Some, None, refl, sym, ap, subst, ◌∙◌, arith, get_or-set_same, get_or-set_other}
 use Rattle.std.specs.Prelude.{slice_get, MatchOption, replicate, map}
 use Rattle.std.specs.Option.{option_map}
 use Rattle.std.proofs.lemmas.Option.{slice_get_within}
@@ -25,6 +25,19 @@ pub one_target : (a b : Target) → target_place a ≡ target_place b → a ≡ 
 one_target a b e =
     let both : Some a ≡ Some b = sym (places_known a) ∙ (ap (λ n. slice_get (map Laid properties ++ map Unlaid barred_properties) n) e ∙ places_known b) in
     cc
+
+none_at : (n place : ℕ) → get_or {A = Option Offer} (replicate n None) place None ≡ None
+none_at zero place = refl
+none_at (suc n) zero = refl
+none_at (suc n) (suc place) = none_at n place
+
+-- at first nothing was seen and nothing is held
+pub nothing_best : (best : List (Option Offer)) → best ≡ replicate 60 None → IsBest [] best
+nothing_best best e =
+    record {
+      size = ap length e;
+      each = λ place small. subst (IsBestAt [] place) (sym (ap (λ b. found_at b place) e ∙ ap (option_map claim_of) (none_at 60 place))) (λ claim among there. absurd among);
+    }
 
 module _ (seen : List Claim) (c : Claim) where
   abbrev all : List Claim

@@ -69,27 +69,27 @@ class_is tests.PseudoElement text e = absurd cc
 -- the first id that is asked for is asked for
 pub asks_id : (P : Test → Type 0) (ts : List Test) (text : List ℕ) → first_id ts ≡ Some text → All P ts → P (tests.Id text)
 asks_id P [] text e all = absurd cc
-asks_id P (t ∷ ts) text e all = by (id_of t) refl e
+asks_id P (t ∷ ts) text e all = by (id_of t) refl e (λ more. asks_id P ts text more (All-tail P t ts all))
   where
-    by : (o : Option (List ℕ)) → id_of t ≡ o → or_else o (first_id ts) ≡ Some text → P (tests.Id text)
-    by None is e = asks_id P ts text e (All-tail P t ts all)
-    by (Some own) is e = let same : id_of t ≡ Some text = is ∙ e in subst P (id_is t text same) (All-head P t ts all)
+    by : (o : Option (List ℕ)) → id_of t ≡ o → or_else o (first_id ts) ≡ Some text → (first_id ts ≡ Some text → P (tests.Id text)) → P (tests.Id text)
+    by None is e rest = rest e
+    by (Some own) is e rest = let same : id_of t ≡ Some text = is ∙ e in subst P (id_is t text same) (All-head P t ts all)
 
 pub asks_class : (P : Test → Type 0) (ts : List Test) (text : List ℕ) → first_class ts ≡ Some text → All P ts → P (tests.Class text)
 asks_class P [] text e all = absurd cc
-asks_class P (t ∷ ts) text e all = by (class_of t) refl e
+asks_class P (t ∷ ts) text e all = by (class_of t) refl e (λ more. asks_class P ts text more (All-tail P t ts all))
   where
-    by : (o : Option (List ℕ)) → class_of t ≡ o → or_else o (first_class ts) ≡ Some text → P (tests.Class text)
-    by None is e = asks_class P ts text e (All-tail P t ts all)
-    by (Some own) is e = let same : class_of t ≡ Some text = is ∙ e in subst P (class_is t text same) (All-head P t ts all)
+    by : (o : Option (List ℕ)) → class_of t ≡ o → or_else o (first_class ts) ≡ Some text → (first_class ts ≡ Some text → P (tests.Class text)) → P (tests.Class text)
+    by None is e rest = rest e
+    by (Some own) is e rest = let same : class_of t ≡ Some text = is ∙ e in subst P (class_is t text same) (All-head P t ts all)
 
 module _ (name : List ℕ) (attributes : List Attribute) where
   from_id : (text : List ℕ) → HasAttribute (codes "id") ops.Equal text attributes → IsKey name attributes (35 ∷ text)
-  from_id text (k, a, within, at, named, value) =
-      inr (inr (k, a, within, at, inl (named, ap (λ v. 35 ∷ v) (sym value))))
+  from_id text (k, a, within, at, both) =
+      inr (inr (k, a, within, at, inl (both.0, ap (λ v. 35 ∷ v) (sym both.1))))
 
   from_class : (text : List ℕ) → HasAttribute (codes "class") ops.Word text attributes → IsKey name attributes (46 ∷ text)
-  from_class text (k, a, within, at, named, word) = inr (inr (k, a, within, at, inr (named, (text, word, refl))))
+  from_class text (k, a, within, at, both) = inr (inr (k, a, within, at, inr (both.0, (text, both.1, refl))))
 
   from_type : (element : Option (List ℕ)) → IfSome element (λ wanted. IsSameName name wanted) → IsKey name attributes (type_key element)
   from_type None h = inl refl

@@ -31,14 +31,14 @@ abbrev pub claim_at : Source → ℕ → Setting → Claim
 claim_at source place setting =
     record {
       precedence =
-        record {
-          origin = origin_of source.built_in setting.important;
-          inline = source.inline;
-          weight = source.weight;
-          sheet = source.sheet;
-          rule = source.rule;
-          place = place;
-        };
+          record {
+            origin = origin_of source.built_in setting.important;
+            inline = source.inline;
+            weight = source.weight;
+            sheet = source.sheet;
+            rule = source.rule;
+            place = place;
+          };
       target = setting.target;
       given = setting.given;
     }
@@ -86,7 +86,7 @@ pub record IsWinner (sheets : List Sheet) (dom : Dom) (n : ℕ) (own : List Sett
   pub applies : Applies sheets dom n own claim
   pub about : claim.target ≡ target
   pub greatest : (other : Claim) → Applies sheets dom n own other → other.target ≡ target
-    → is_above other.precedence claim.precedence ≡ false
+      → is_above other.precedence claim.precedence ≡ false
 
 -- no declaration that applies is about this property
 abbrev pub NoneApplies : List Sheet → Dom → ℕ → List Setting → Target → Type 0

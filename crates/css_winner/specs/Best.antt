@@ -28,7 +28,7 @@ pub record IsGreatest (seen : List Claim) (place : ℕ) (claim : Claim) : Type 0
   pub among : Among seen claim
   pub there : target_place claim.target ≡ place
   pub greatest : (other : Claim) → Among seen other → target_place other.target ≡ place
-    → is_above other.precedence claim.precedence ≡ false
+      → is_above other.precedence claim.precedence ≡ false
 
 abbrev pub NoneAt : List Claim → ℕ → Type 0
 NoneAt seen place = (claim : Claim) → Among seen claim → target_place claim.target ≡ place → ⊥

@@ -3,7 +3,7 @@ use Rattle.std.specs.Prelude.{[], Result, Ok, Err, None}
 use Rattle.mc_base.specs.declared.refusal.Refusal.{Refusal}
 use Rattle.css_data.specs.declared.rule.Sheet.{Sheet}
 use Rattle.css_syntax.specs.Sheets.{sheet_of}
-use Rattle.css_winner.specs.declared.built_in.TheConstants.{BUILT_IN}
+use Rattle.css_winner.specs.declared.sheet_text.TheConstants.{BUILT_IN}
 
 abbrev pub sheet_or_none : Result Sheet Refusal → Sheet
 sheet_or_none (Ok sheet) = sheet

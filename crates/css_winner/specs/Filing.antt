@@ -1,7 +1,7 @@
 -- What is filed under a name.
-use Rattle.std.specs.Prelude.{◌≡◌, ◌<◌, ℕ, List, Option, Some, slice_get, option_and_then, nat_eq, length}
+use Rattle.std.specs.Prelude.{◌≡◌, ◌<◌, ℕ, List, Option, Some, slice_get, option_and_then, nat_eq, length, Vec}
 use Rattle.std.specs.Cmp.Lexicographic.{pointwise}
-use Rattle.std.specs.Vec.{Vec}
+use Rattle.std.specs.declared.alloc.Global.{Global}
 use Rattle.indexmap.specs.IndexMap.{get_by}
 use Rattle.css_winner.specs.declared.filing.Place.{Place}
 use Rattle.css_winner.specs.declared.filing.Filing.{Filing}

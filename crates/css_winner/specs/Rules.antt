@@ -53,4 +53,4 @@ pub record IsReady (sheets : List Sheet) (rules : Rules) : Type 0 where
   pub built : rules.built_in ≡ built_in
   pub settings : rules.settings ≡ all_settings (all_sheets sheets)
   pub filed : (p : Place) (selector : Selector) → selector_at (all_sheets sheets) p ≡ Some selector
-    → IsFiled rules.filing (key_of selector) p
+      → IsFiled rules.filing (key_of selector) p

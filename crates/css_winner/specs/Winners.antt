@@ -27,4 +27,4 @@ claims_at sheets p selector = claims_from (rule_source p.sheet p.rule selector) 
 pub record IsOffered (sheets : List Sheet) (dom : Dom) (n : ℕ) (p : Place) (more : List Claim) : Type 0 where
   pub sound : (claim : Claim) → Among more claim → AppliesByRule sheets dom n claim
   pub all : (selector : Selector) → selector_at sheets p ≡ Some selector → Matches selector dom n → (claim : Claim)
-    → Among (claims_at sheets p selector) claim → Among more claim
+      → Among (claims_at sheets p selector) claim → Among more claim

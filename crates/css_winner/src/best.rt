@@ -79,7 +79,7 @@ fn is_better(offer: &Offer, held: &Option<Offer>) -> bool
 /// Keeps an offer if nothing comes above it.
 fn keep<'a>(best: &mut Vec<Option<Offer<'a>>>, offer: Offer<'a>)
     requires { length best.old.items ≡ 60 }
-    ensures { best.new.items ≡ bests.kept best.old.items offer }
+    ensures { best.new.items ≡ bests.kept best.old.items offer.entry }
 {
     let place = target_place(offer.setting.target);
     if is_better(&offer, &best[place]) {
@@ -90,7 +90,8 @@ fn keep<'a>(best: &mut Vec<Option<Offer<'a>>>, offer: Offer<'a>)
 /// Keeps what a block offers where nothing comes above it.
 pub fn keep_all<'a>(best: &mut Vec<Option<Offer<'a>>>, source: &Source, settings: &'a [Setting])
     requires { length best.old.items ≡ 60 }
-    ensures { (seen : List Claim) → IsBest seen best.old.items
+    ensures size { length best.new.items ≡ 60 }
+    ensures kept { (seen : List Claim) → IsBest seen best.old.items
         → IsBest (seen ++ applying.claims_from source.now 0 settings.now) best.new.items }
 {
     for (place, setting) in settings.iter().enumerate() {

@@ -1,6 +1,6 @@
 //! Selectors filed under names.
 
-ghost use Rattle.std.specs.Prelude.{◌≡◌, ◌<◌, ◌×◌, ℕ, List, Some, IfOk, OnOk, Contains, vec_len};
+ghost use Rattle.std.specs.Prelude.{◌≡◌, ◌<◌, ℕ, List, Some, IfOk, OnOk, Contains, vec_len};
 ghost use Rattle.css_winner.specs.Filing as filing;
 ghost use Rattle.css_winner.specs.Filing.{IsFiled, IsSound};
 ghost use Rattle.css_winner.specs.declared.filing.Place.{Place as APlace};

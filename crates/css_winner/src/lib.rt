@@ -7,8 +7,8 @@
 #![tactic(auto)]
 
 mod best;
-mod built_in;
 mod filing;
+mod finding;
 mod key;
 mod keys;
 mod laws;
@@ -16,16 +16,16 @@ mod own;
 mod precedence;
 mod rules;
 mod setting;
+mod sheet_text;
 #[cfg(test)]
 mod tests;
-mod winners;
 
 pub use best::Offer;
-pub use built_in::built_in;
 pub use filing::Place;
+pub use finding::winners;
 pub use laws::{one_wins, precedences_are_ordered};
 pub use own::own_settings;
 pub use precedence::{Origin, Precedence};
 pub use rules::{Rules, prepare};
 pub use setting::{Given, Setting};
-pub use winners::winners;
+pub use sheet_text::built_in;

@@ -58,6 +58,7 @@ fn numbers(p: &Precedence) -> [u64; 8]
 }
 
 /// Whether the first comes above the second.
+#[tactic(auto, unfolding(crate::specs::Precedences::is_above))]
 pub fn is_above(p: &Precedence, q: &Precedence) -> bool
     ensures { result ≡ precedences.is_above p.now q.now }
 {

@@ -9,10 +9,10 @@ ghost use Rattle.css_winner.specs.Keys as keys;
 ghost use Rattle.css_winner.specs.Filing.{IsFiled, IsSound};
 ghost use Rattle.css_winner.specs.declared.filing.Place.{Place as APlace};
 
-use crate::built_in::built_in;
 use crate::filing::{Filing, Place};
 use crate::key::key_of;
 use crate::setting::{Setting, settings_of};
+use crate::sheet_text::built_in;
 use css_data::{Selector, Sheet, StyleRule};
 use mc_base::{List, NoMemory};
 use std::alloc::{AllocError, Global};
@@ -71,11 +71,7 @@ fn file_sheet(
 }
 
 /// Files the selectors of all sheets, the built-in one first.
-fn file_all(
-    alloc: Global,
-    built_in: &Sheet,
-    sheets: &[Sheet],
-) -> Result<Filing, AllocError>
+fn file_all(alloc: Global, built_in: &Sheet, sheets: &[Sheet]) -> Result<Filing, AllocError>
     ensures { IfOk result (λ filing. (s : ℕ) (sheet : ready.ASheet) → slice_get (built_in.now ∷ sheets.now) s ≡ Some sheet
         → HasFiled filing s sheet.rules) }
 {
