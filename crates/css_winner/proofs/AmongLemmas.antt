@@ -1,5 +1,9 @@
 -- What stands among the items of two lists, one after the other.
-use Rattle.std.proofs.Common.{◌≡◌, ◌⊎◌, inl, inr, List, [], ◌∷◌, ◌++◌, refl}
+use Rattle.std.proofs.Common.{◌≡◌, ◌⊎◌, inl, inr, ℕ, ◌+◌, ◌<◌, List, [], ◌∷◌, ◌++◌, length, get_or, map, Option, Some, refl, sym, ap, ◌∙◌, arith}
+use Rattle.std.specs.Prelude.{slice_get}
+use Rattle.std.specs.Option.{option_map}
+use Rattle.std.proofs.lemmas.Bool.{cases_lt}
+use Rattle.std.proofs.lemmas.Option.{slice_get_read, slice_get-map}
 use Rattle.css_winner.specs.Among.{Among}
 
 pub among_left : {X : Type 0} (xs ys : List X) (x : X) → Among xs x → Among (xs ++ ys) x
@@ -23,3 +27,19 @@ only_one y x (inr h) = absurd h
 -- of a list with one more item
 pub among_more : {X : Type 0} (xs : List X) (y x : X) → Among (xs ++ y ∷ []) x → Among xs x ⊎ (y ≡ x)
 among_more xs y x h = elim (among_split xs (y ∷ []) x h) [ inl a ↦ inl a | inr b ↦ inr (only_one y x b) ]
+
+pub earlier : (k n : ℕ) → k < n + 1 → (k < n) ⊎ (k ≡ n)
+earlier k n h = elim (cases_lt k n) [ inl a ↦ inl a | inr b ↦ inr (omega arith) ]
+
+-- what a loop reads at its index
+pub item_at : {X : Type 0} (xs : List X) (n k : ℕ) (item x : X) → k ≡ n → n < length xs → item ≡ get_or xs n item → slice_get xs k ≡ Some x → x ≡ item
+item_at xs n k item x same below at is =
+    let read : slice_get xs n ≡ Some item = slice_get_read xs (length xs) n item refl below at in
+    let both : Some x ≡ Some item = sym is ∙ (ap (slice_get xs) same ∙ read) in
+    cc
+
+pub mapped_at : {X Y : Type 0} (v : X → Y) (xs : List X) (n k : ℕ) (item : X) (y : Y) → k ≡ n → n < length xs → item ≡ get_or xs n item → slice_get (map v xs) k ≡ Some y → y ≡ v item
+mapped_at v xs n k item y same below at is =
+    let read : slice_get xs n ≡ Some item = slice_get_read xs (length xs) n item refl below at in
+    let both : Some y ≡ Some (v item) = sym is ∙ (ap (slice_get (map v xs)) same ∙ (slice_get-map v xs n ∙ ap (option_map v) read)) in
+    cc

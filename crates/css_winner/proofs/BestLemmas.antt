@@ -1,5 +1,5 @@
 -- One more claim, and the best that was found.
-use Rattle.std.proofs.Common.{◌≡◌, ◌≢◌, ◌⊎◌, inl, inr, ℕ, zero, suc, ◌<◌, Bool, true, false, List, [], ◌∷◌, ◌++◌, length, get_or, set, Option, Some, None, refl, sym, ap, subst, ◌∙◌, arith, get_or-set_same, get_or-set_other}
+use Rattle.std.proofs.Common.{◌≡◌, ◌≢◌, ◌⊎◌, inl, inr, ℕ, zero, suc, ◌<◌, Bool, true, false, List, [], ◌∷◌, ◌++◌, length, get_or, set, Option, Some, None, refl, sym, ap, subst, ◌∙◌, arith, append_assoc, ◌+◌, take, get_or-set_same, get_or-set_other}
 use Rattle.std.specs.Prelude.{slice_get, MatchOption, replicate, map}
 use Rattle.std.specs.Option.{option_map}
 use Rattle.std.proofs.lemmas.Option.{slice_get_within}
@@ -13,9 +13,12 @@ use Rattle.css_values.proofs.KnownPlaces.{places_known}
 use Rattle.css_winner.specs.declared.best.Offer.{Offer}
 use Rattle.css_winner.specs.Among.{Among}
 use Rattle.css_winner.specs.Precedences.{is_above}
-use Rattle.css_winner.specs.Applying.{Claim}
+use Rattle.css_winner.specs.declared.best.Source.{Source}
+use Rattle.css_winner.specs.declared.setting.Setting.{Setting}
+use Rattle.css_winner.specs.Applying.{Claim, claim_at, claims_from}
 use Rattle.css_winner.specs.Best.{claim_of, is_better, place_of, kept, IsGreatest, NoneAt, IsBestAt, found_at, IsBest}
 use Rattle.css_winner.proofs.AmongLemmas.{among_left, among_right, among_more}
+use Rattle.css_winner.proofs.ClaimLemmas.{claims_more}
 use Rattle.css_winner.proofs.OrderLemmas.{not_above_itself, not_above_higher}
 
 pub place_within : (target : Target) → target_place target < 60
@@ -126,3 +129,22 @@ module _ (seen : List Claim) (best : List (Option Offer)) (offer : Offer) (so_fa
       by : (b : Bool) → is_better offer (get_or best p None) ≡ b → IsBest (seen ++ c ∷ []) (kept best offer)
       by true e = rw e (replaced e)
       by false e = rw e (stayed e)
+
+-- the number of places stays
+pub kept_size : (best : List (Option Offer)) (offer : Offer) → length best ≡ 60 → length (kept best offer) ≡ 60
+kept_size best offer h = by (is_better offer (get_or best (place_of offer) None)) refl
+  where
+    by : (b : Bool) → is_better offer (get_or best (place_of offer) None) ≡ b → length (kept best offer) ≡ 60
+    by true e = rw e (length-set best (place_of offer) (Some offer) ∙ h)
+    by false e = rw e h
+
+-- one more setting of a block
+pub keep_step : (source : Source) (settings : List Setting) (i : ℕ) (s : Setting) (seen : List Claim) (best new : List (Option Offer)) (offer : Offer)
+    → i < length settings → s ≡ get_or settings i s → claim_of offer ≡ claim_at source i s → new ≡ kept best offer
+    → IsBest (seen ++ claims_from source 0 (take i settings)) best → IsBest (seen ++ claims_from source 0 (take (i + 1) settings)) new
+keep_step source settings i s seen best new offer within at claims is so_far =
+    let step : IsBest ((seen ++ claims_from source 0 (take i settings)) ++ claim_of offer ∷ []) (kept best offer) = kept_best (seen ++ claims_from source 0 (take i settings)) best offer so_far in
+    let shape : (seen ++ claims_from source 0 (take i settings)) ++ claim_of offer ∷ [] ≡ seen ++ claims_from source 0 (take (i + 1) settings) =
+    append_assoc seen (claims_from source 0 (take i settings)) (claim_of offer ∷ [])
+    ∙ ap (λ l. seen ++ l) (ap (λ x. claims_from source 0 (take i settings) ++ x ∷ []) claims ∙ sym (claims_more source settings i s within at)) in
+    subst (λ l. IsBest l new) shape (subst (IsBest ((seen ++ claims_from source 0 (take i settings)) ++ claim_of offer ∷ [])) (sym is) step)

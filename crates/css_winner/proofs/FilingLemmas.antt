@@ -1,5 +1,5 @@
 -- What is filed stays filed.
-use Rattle.std.proofs.Common.{◌≡◌, ◌≢◌, ◌⊎◌, inl, inr, ℕ, zero, suc, ◌<◌, Bool, true, false, cond, List, [], ◌∷◌, ◌++◌, length, set, Vec, Option, Some, None, refl, sym, ap, subst, ◌∙◌, arith}
+use Rattle.std.proofs.Common.{◌≡◌, ◌≢◌, ◌⊎◌, inl, inr, ℕ, zero, suc, ◌<◌, Bool, true, false, cond, List, [], ◌∷◌, ◌++◌, length, set, Vec, Option, Some, None, ◌+◌, length-append, refl, sym, ap, subst, ◌∙◌, arith}
 use Rattle.std.specs.Prelude.{slice_get, option_and_then, Contains, nat_eq}
 use Rattle.std.specs.Map.{lookup}
 use Rattle.std.specs.Cmp.Lexicographic.{pointwise}
@@ -7,6 +7,7 @@ use Rattle.std.specs.declared.alloc.Global.{Global}
 use Rattle.std.proofs.lemmas.Bool.{cases_eq}
 use Rattle.std.proofs.lemmas.Option.{slice_get_within, get_or_from_slice_get}
 use Rattle.css_winner.specs.declared.filing.Place.{Place}
+use Rattle.indexmap.specs.IndexMap.{insert_entry}
 use Rattle.css_winner.specs.Filing.{place_at}
 
 pub get_kept : {X : Type 0} (xs ys : List X) (k : ℕ) (x : X) → slice_get xs k ≡ Some x → slice_get (xs ++ ys) k ≡ Some x
@@ -35,19 +36,19 @@ contains_from_get xs k x h = (k, slice_get_within xs k x h, get_or_from_slice_ge
 
 pub lookup_kept : {K X : Type 0} (test : K → Bool) (es fs : List (K × X)) (v : X) → lookup test es ≡ Some v → lookup test (es ++ fs) ≡ Some v
 lookup_kept test [] fs v h = absurd cc
-lookup_kept test (e ∷ es) fs v h = by (test e.0) h
+lookup_kept test (e ∷ es) fs v h = by (test e.0) h (lookup_kept test es fs v)
   where
-    by : (b : Bool) → cond b (Some e.1) (lookup test es) ≡ Some v → cond b (Some e.1) (lookup test (es ++ fs)) ≡ Some v
-    by true h = h
-    by false h = lookup_kept test es fs v h
+    by : (b : Bool) → cond b (Some e.1) (lookup test es) ≡ Some v → (lookup test es ≡ Some v → lookup test (es ++ fs) ≡ Some v) → cond b (Some e.1) (lookup test (es ++ fs)) ≡ Some v
+    by true h rest = h
+    by false h rest = rest h
 
 pub lookup_new : {K X : Type 0} (test : K → Bool) (es fs : List (K × X)) → lookup test es ≡ None → lookup test (es ++ fs) ≡ lookup test fs
 lookup_new test [] fs h = refl
-lookup_new test (e ∷ es) fs h = by (test e.0) h
+lookup_new test (e ∷ es) fs h = by (test e.0) h (lookup_new test es fs)
   where
-    by : (b : Bool) → cond b (Some e.1) (lookup test es) ≡ None → cond b (Some e.1) (lookup test (es ++ fs)) ≡ lookup test fs
-    by true h = absurd cc
-    by false h = lookup_new test es fs h
+    by : (b : Bool) → cond b (Some e.1) (lookup test es) ≡ None → (lookup test es ≡ None → lookup test (es ++ fs) ≡ lookup test fs) → cond b (Some e.1) (lookup test (es ++ fs)) ≡ lookup test fs
+    by true h rest = absurd cc
+    by false h rest = rest h
 
 abbrev Lists : Type 0
 Lists = List (Vec Place Global)
@@ -78,3 +79,34 @@ module _ (lists : Lists) (n : ℕ) (list new : Vec Place Global) (q : Place) (th
   place_added =
       ap (option_and_then (items_at (length list.items))) (get_set_same lists n list new there)
       ∙ ap (λ xs. slice_get xs (length list.items)) grown ∙ get_new list.items q
+
+-- the number of a name, in entries
+abbrev pub under : List ℕ → List (Vec ℕ Global × ℕ) → Option ℕ
+under name es = lookup (λ (k : Vec ℕ Global). pointwise nat_eq name k.items) es
+
+abbrev pub same_key : Vec ℕ Global → Vec ℕ Global → Bool
+same_key a b = pointwise nat_eq a.items b.items
+
+-- a name that has none gets its number at the end
+pub entries_new : (es : List (Vec ℕ Global × ℕ)) (key : Vec ℕ Global) (n : ℕ) → under key.items es ≡ None → insert_entry same_key es key n ≡ es ++ (key, n) ∷ []
+entries_new [] key n h = refl
+entries_new (e ∷ es) key n h = by (pointwise nat_eq key.items e.0.items) h (entries_new es key n)
+  where
+    by : (b : Bool) → cond b (Some e.1) (under key.items es) ≡ None → (under key.items es ≡ None → insert_entry same_key es key n ≡ es ++ (key, n) ∷ []) → cond b ((e.0, n) ∷ es) (e ∷ insert_entry same_key es key n) ≡ e ∷ (es ++ (key, n) ∷ [])
+    by true h rest = absurd cc
+    by false h rest = ap (λ l. e ∷ l) (rest h)
+
+one_entry : (b : Bool) (n m : ℕ) → cond b (Some n) None ≡ Some m → m ≡ n
+one_entry true n m h = cc
+one_entry false n m h = absurd cc
+
+-- and each number was there, or is this one
+pub under_more : (es : List (Vec ℕ Global × ℕ)) (key : Vec ℕ Global) (n : ℕ) (q : List ℕ) (m : ℕ) → under q (es ++ (key, n) ∷ []) ≡ Some m → (under q es ≡ Some m) ⊎ (m ≡ n)
+under_more es key n q m h = by (under q es) refl
+  where
+    by : (o : Option ℕ) → under q es ≡ o → (under q es ≡ Some m) ⊎ (m ≡ n)
+    by None e = inr (one_entry (pointwise nat_eq q key.items) n m (sym (lookup_new (λ (k : Vec ℕ Global). pointwise nat_eq q k.items) es ((key, n) ∷ []) e) ∙ h))
+    by (Some v) e = inl (e ∙ (sym (lookup_kept (λ (k : Vec ℕ Global). pointwise nat_eq q k.items) es ((key, n) ∷ []) v e) ∙ h))
+
+pub pushed : {X : Type 0} (xs ys : List X) (x : X) → ys ≡ xs ++ x ∷ [] → length ys ≡ length xs + 1
+pushed xs ys x e = ap length e ∙ length-append xs (x ∷ [])

@@ -6,3 +6,5 @@ pub mod FilingLemmas
 pub mod KeyLemmas
 pub mod RuleLemmas
 pub mod WinnerLemmas
+pub mod LawLemmas
+pub mod OwnLemmas

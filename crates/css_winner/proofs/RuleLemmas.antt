@@ -1,5 +1,5 @@
 -- Where rules and selectors stand.
-use Rattle.std.proofs.Common.{◌≡◌, ℕ, List, map, Option, Some, None, refl, sym, ap, ◌∙◌}
+use Rattle.std.proofs.Common.{◌≡◌, ℕ, suc, ◌+◌, ◌<◌, ◌∷◌, List, length, get_or, map, Option, Some, None, refl, sym, ap, ◌∙◌, add-one, arith}
 use Rattle.std.specs.Prelude.{slice_get, option_and_then}
 use Rattle.std.specs.Option.{option_map}
 use Rattle.std.proofs.lemmas.Option.{slice_get-map}
@@ -8,6 +8,7 @@ use Rattle.css_data.specs.declared.rule.StyleRule.{StyleRule}
 use Rattle.css_data.specs.declared.rule.Sheet.{Sheet}
 use Rattle.css_winner.specs.declared.filing.Place.{Place}
 use Rattle.css_winner.specs.declared.setting.Setting.{Setting}
+use Rattle.css_winner.proofs.AmongLemmas.{item_at}
 use Rattle.css_winner.specs.Settings.{settings_of}
 use Rattle.css_winner.specs.Applying.{rule_at}
 use Rattle.css_winner.specs.Rules.{place, or_none, rules_settings, all_settings, settings_at, selector_in, selector_at}
@@ -45,3 +46,9 @@ settings_stand sheets s r rule h =
     by : (o : Option Sheet) → option_and_then (λ sheet. slice_get sheet.rules r) o ≡ Some rule → or_none (option_and_then (λ rules. slice_get rules r) (option_map (λ (sheet : Sheet). rules_settings sheet.rules) o)) ≡ settings_of rule.declarations
     by None h = absurd cc
     by (Some sheet) h = ap or_none (slice_get-map (λ (x : StyleRule). settings_of x.declarations) sheet.rules r ∙ ap (option_map (λ (x : StyleRule). settings_of x.declarations)) h)
+
+-- the sheet that a loop reads, after the built-in one
+pub sheet_next : (b : Sheet) (sheets : List Sheet) (n s : ℕ) (item sheet : Sheet) → s ≡ n + 1 → n < length sheets → item ≡ get_or sheets n item → slice_get (b ∷ sheets) s ≡ Some sheet → sheet ≡ item
+sheet_next b sheets n s item sheet same below at is =
+    let next : s ≡ suc n = omega arith in
+    item_at sheets n n item sheet refl below at (sym (ap (slice_get (b ∷ sheets)) next) ∙ is)

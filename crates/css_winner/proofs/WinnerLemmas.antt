@@ -1,6 +1,7 @@
 -- What was found wins.
-use Rattle.std.proofs.Common.{◌≡◌, ◌⊎◌, inl, inr, ℕ, ◌+◌, ◌<◌, Bool, true, false, List, [], ◌∷◌, ◌++◌, length, get_or, Option, Some, None, refl, sym, ap, subst, ◌∙◌, arith}
+use Rattle.std.proofs.Common.{◌≡◌, ◌⊎◌, inl, inr, ℕ, ◌+◌, ◌<◌, Bool, true, false, ◌==◌, List, [], ◌∷◌, ◌++◌, length, get_or, Option, Some, None, refl, sym, ap, subst, ◌∙◌, arith}
 use Rattle.std.specs.Prelude.{slice_get, MatchOption, Contains}
+use Rattle.std.proofs.lemmas.Bool.{cases_lt}
 use Rattle.std.proofs.lemmas.Option.{slice_get-get_or}
 use Rattle.html_grammar.specs.declared.dom.Dom.{Dom}
 use Rattle.css_data.specs.declared.selector.Selector.{Selector}
@@ -12,6 +13,9 @@ use Rattle.css_winner.specs.declared.setting.Setting.{Setting}
 use Rattle.css_winner.specs.declared.filing.Place.{Place}
 use Rattle.css_winner.specs.declared.best.Offer.{Offer}
 use Rattle.css_winner.specs.declared.best.Source.{Source}
+use Rattle.css_select.specs.declared.weight.Weight.{Weight}
+use Rattle.css_select.specs.Specificity.{capped, ids_of, classes_of, types_of}
+use Rattle.css_winner.specs.Precedences.{weight_of}
 use Rattle.css_winner.specs.Among.{Among}
 use Rattle.css_winner.specs.Applying.{Claim, claim_at, claims_from, rule_source, own_source, AppliesByRule, AppliesOwn, Applies, IsWinner, Wins}
 use Rattle.css_winner.specs.Best.{IsBest, IsBestAt, found_at}
@@ -21,6 +25,12 @@ use Rattle.css_winner.proofs.AmongLemmas.{among_left, among_right, among_split}
 use Rattle.css_winner.proofs.ClaimLemmas.{claim_among, claimed}
 use Rattle.css_winner.proofs.BestLemmas.{place_within, one_target}
 use Rattle.css_winner.proofs.RuleLemmas.{selector_stands, rule_of, settings_stand}
+
+abbrev pub source_with : ℕ → ℕ → Weight → Source
+source_with sheet rule weight = record { built_in = sheet == 0; inline = false; weight = weight; sheet = sheet; rule = rule }
+
+pub weight_is : (w : Weight) (s : Selector) → w.ids ≡ capped (ids_of s) → w.classes ≡ capped (classes_of s) → w.types ≡ capped (types_of s) → w ≡ weight_of s
+weight_is w s ids classes types = λ i. record { ids = ids i; classes = classes i; types = types i }
 
 module _ (sheets : List Sheet) (dom : Dom) (n : ℕ) where
   -- the rule at a place offers what it claims, if its selector matches
@@ -81,7 +91,7 @@ module _ (sheets : List Sheet) (dom : Dom) (n : ℕ) where
       }
     where
       earlier : (k : ℕ) → k < count + 1 → (k < count) ⊎ (k ≡ count)
-      earlier k h = omega arith
+      earlier k h = elim (cases_lt k count) [ inl a ↦ inl a | inr b ↦ inr (omega arith) ]
 
       one : (p q : Place) → Some p ≡ Some q → p ≡ q
       one p q e = cc

@@ -34,7 +34,11 @@ pub struct Source {
 pub fn nothing<'a>(alloc: Global) -> Result<Vec<Option<Offer<'a>>>, AllocError>
     ensures { IfOk result (λ best. IsBest [] best.items) }
 {
-    vec![in alloc; None; 60]
+    let mut best = Vec::new(alloc);
+    for _place in 0..60 {
+        best.push(None)?;
+    }
+    Ok(best)
 }
 
 fn origin_of(built_in: bool, important: bool) -> Origin

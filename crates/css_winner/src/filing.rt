@@ -1,6 +1,6 @@
 //! Selectors filed under names.
 
-ghost use Rattle.std.specs.Prelude.{◌≡◌, ◌<◌, ℕ, List, Some, IfOk, OnOk, Contains, vec_len};
+ghost use Rattle.std.specs.Prelude.{◌≡◌, ◌<◌, ℕ, List, Some, None, IfOk, OnOk, Contains, length};
 ghost use Rattle.css_winner.specs.Filing as filing;
 ghost use Rattle.css_winner.specs.Filing.{IsFiled, IsSound};
 ghost use Rattle.css_winner.specs.declared.filing.Place.{Place as APlace};
@@ -23,6 +23,12 @@ pub struct Filing {
     lists: Vec<Vec<Place>>,
 }
 
+fn copied(alloc: Global, name: &[u8]) -> Result<Vec<u8>, AllocError>
+    ensures { IfOk result (λ copy. copy.items ≡ name.now) }
+{
+    name.to_vec(alloc)
+}
+
 impl Filing {
     /// Nothing is filed.
     pub fn new(alloc: Global) -> Filing
@@ -34,21 +40,34 @@ impl Filing {
         }
     }
 
+    /// Gives a number to a name that has none.
+    fn add(&mut self, alloc: Global, name: &[u8]) -> Result<usize, AllocError>
+        requires sound { IsSound self.old }
+        requires absent { filing.number_of self.old name.now ≡ None }
+        ensures sound { OnOk result (IsSound self.new) }
+        ensures within { IfOk result (λ n. n < length self.new.lists.items) }
+        ensures kept { OnOk result ((q : List ℕ) (p : APlace) → IsFiled self.old q p → IsFiled self.new q p) }
+        ensures numbered { IfOk result (λ n. filing.number_of self.new name.now ≡ Some n) }
+    {
+        let key = copied(alloc, name)?;
+        let number = self.lists.len();
+        self.lists.push(Vec::new(alloc))?;
+        self.numbers.insert(key, number)?;
+        Ok(number)
+    }
+
     /// The number of a name, which gets one if it has none.
     fn number(&mut self, alloc: Global, name: &[u8]) -> Result<usize, AllocError>
         requires { IsSound self.old }
         ensures sound { OnOk result (IsSound self.new) }
-        ensures within { IfOk result (λ n. n < vec_len self.new.lists) }
+        ensures within { IfOk result (λ n. n < length self.new.lists.items) }
         ensures kept { OnOk result ((q : List ℕ) (p : APlace) → IsFiled self.old q p → IsFiled self.new q p) }
         ensures numbered { IfOk result (λ n. filing.number_of self.new name.now ≡ Some n) }
     {
-        if let Some(number) = self.numbers.get(name) {
-            return Ok(*number);
+        match self.numbers.get(name).copied() {
+            Some(number) => Ok(number),
+            None => self.add(alloc, name),
         }
-        let number = self.lists.len();
-        self.lists.push(Vec::new(alloc))?;
-        self.numbers.insert(name.to_vec(alloc)?, number)?;
-        Ok(number)
     }
 
     /// Files a selector under a name.

@@ -1,6 +1,7 @@
 //! What wins for each property of an element.
 
-ghost use Rattle.std.specs.Prelude.{◌≡◌, ◌++◌, ℕ, List, Some, IfOk, Contains, length};
+ghost use Rattle.std.specs.Prelude.{◌≡◌, ◌++◌, ℕ, List, Some, IfOk, Contains, length, slice_get};
+ghost use Rattle.std.specs.Option.{option_copied};
 ghost use Rattle.html_subset.specs.WellFormed.{IsWellFormed};
 ghost use Rattle.css_data.specs.declared.selector.Selector.{Selector as ASelector};
 ghost use Rattle.css_select.specs.Matching.{Matches};
@@ -19,8 +20,14 @@ use crate::rules::{Rules, selector_at};
 use crate::setting::Setting;
 use css_data::Sheet;
 use css_select::{Weight, matches, specificity};
-use html_grammar::{Dom, NodeId, NodeKind};
+use html_grammar::{Dom, DomNode, NodeId, NodeKind};
 use std::alloc::{AllocError, Global};
+
+fn node_at(dom: &Dom, node: usize) -> Option<&DomNode>
+    ensures { option_copied result ≡ slice_get dom.now.nodes node }
+{
+    dom.nodes.as_slice().get(node)
+}
 
 /// Where the selectors stand that may match an element.
 fn places_for(
@@ -35,17 +42,17 @@ fn places_for(
     ensures { IfOk result (λ places. (p : APlace) (s : ASelector) → ready.selector_at (all_sheets sheets.now) p ≡ Some s
         → Matches s dom.now node → Contains places.items p) }
 {
-    match dom.nodes.as_slice().get(node as usize) {
-        Some(node) => match &node.kind {
-            NodeKind::Element { name, attributes } => filed_for(
-                alloc,
-                &rules.filing,
-                name.as_slice(),
-                attributes.as_slice(),
-            ),
-            NodeKind::Words { text: _ } => Ok(Vec::new(alloc)),
-        },
-        None => Ok(Vec::new(alloc)),
+    let Some(node) = node_at(dom, node as usize) else {
+        return Ok(Vec::new(alloc));
+    };
+    match &node.kind {
+        NodeKind::Element { name, attributes } => {
+            let name = name.as_slice();
+            let attributes = attributes.as_slice();
+            let places = filed_for(alloc, &rules.filing, name, attributes)?;
+            Ok(places)
+        }
+        NodeKind::Words { text: _ } => Ok(Vec::new(alloc)),
     }
 }
 

@@ -1,6 +1,6 @@
 //! Looking up an element.
 
-ghost use Rattle.std.specs.Prelude.{◌≡◌, ◌↔◌, ◌∷◌, ℕ, List, map, IfOk, OnOk, IsTrue, Contains};
+ghost use Rattle.std.specs.Prelude.{◌≡◌, ◌↔◌, ◌∷◌, ℕ, List, map, IfOk, OnOk, IsTrue, Contains, codes};
 ghost use Rattle.std.specs.List.{slice_split};
 ghost use Rattle.html_grammar.specs.Tokens as tokens;
 ghost use Rattle.css_select.specs.Attributes.{IsSameName, IsWordOf};
@@ -38,7 +38,8 @@ fn add_filed(found: &mut Vec<Place>, filing: &Filing, key: &[u8]) -> Result<(), 
     ensures kept { OnOk result ((p : APlace) → Contains found.old.items p → Contains found.new.items p) }
     ensures added { OnOk result ((p : APlace) → IsFiled filing.now key.now p → Contains found.new.items p) }
 {
-    found.extend_from_slice(filing.filed(key))
+    found.extend_from_slice(filing.filed(key))?;
+    Ok(())
 }
 
 /// Adds what is filed under the classes of a text.
@@ -60,6 +61,44 @@ fn add_classes(
     Ok(())
 }
 
+/// Adds what is filed under the id that an attribute gives.
+fn add_id(
+    alloc: Global,
+    found: &mut Vec<Place>,
+    filing: &Filing,
+    attribute: &Attribute,
+) -> Result<(), AllocError>
+    ensures kept { OnOk result ((p : APlace) → Contains found.old.items p → Contains found.new.items p) }
+    ensures added { OnOk result ((p : APlace) → IsSameName attribute.now.name (codes "id")
+        → IsFiled filing.now (35 ∷ attribute.now.value) p → Contains found.new.items p) }
+{
+    if !same_name(attribute.name.as_slice(), b"id") {
+        return Ok(());
+    }
+    let key = signed(alloc, b'#', attribute.value.as_slice())?;
+    add_filed(found, filing, key.as_slice())?;
+    Ok(())
+}
+
+/// Adds what is filed under the classes that an attribute gives.
+fn add_class(
+    alloc: Global,
+    found: &mut Vec<Place>,
+    filing: &Filing,
+    attribute: &Attribute,
+) -> Result<(), AllocError>
+    ensures kept { OnOk result ((p : APlace) → Contains found.old.items p → Contains found.new.items p) }
+    ensures added { OnOk result ((word : List ℕ) (p : APlace) → IsSameName attribute.now.name (codes "class")
+        → IsWordOf word attribute.now.value → IsFiled filing.now (46 ∷ word) p → Contains found.new.items p) }
+{
+    if !same_name(attribute.name.as_slice(), b"class") {
+        return Ok(());
+    }
+    let value = attribute.value.as_slice();
+    add_classes(alloc, found, filing, value)?;
+    Ok(())
+}
+
 /// Adds what is filed under the names that an attribute gives.
 fn add_attribute(
     alloc: Global,
@@ -71,14 +110,8 @@ fn add_attribute(
     ensures added { OnOk result ((key : List ℕ) (p : APlace) → IsAttributeKey key attribute.now → IsFiled filing.now key p
         → Contains found.new.items p) }
 {
-    let name = attribute.name.as_slice();
-    if same_name(name, b"id") {
-        let key = signed(alloc, b'#', attribute.value.as_slice())?;
-        add_filed(found, filing, key.as_slice())?;
-    }
-    if same_name(name, b"class") {
-        add_classes(alloc, found, filing, attribute.value.as_slice())?;
-    }
+    add_id(alloc, found, filing, attribute)?;
+    add_class(alloc, found, filing, attribute)?;
     Ok(())
 }
 

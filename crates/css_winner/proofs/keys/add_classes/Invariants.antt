@@ -7,6 +7,6 @@ use Rattle.css_winner.proofs.keys.add_classes.Given as goal
 abbrev pub invariant-loop-word : goal.invariant-loop-word
 invariant-loop-word l = record {
   kept : (p : Place) → Contains l.initial.found.items p → Contains l.found.items p;
-  added : (k : ℕ) (word : List ℕ) (p : Place) → k < l.word-index → slice_get (map (λ x. x.now) l.words.items) k ≡ Some word
+  added : (k : ℕ) (word : List ℕ) (p : Place) → k < l.word-index → slice_get (map (λ x. x.now) l.word-items) k ≡ Some word
       → IsFiled l.filing (46 ∷ word) p → Contains l.found.items p;
 }
