@@ -3,7 +3,7 @@ use Rattle.std.proofs.Common.{◌≡◌, ◌⊎◌, inl, inr, ℕ, ◌+◌, ◌<
 use Rattle.std.specs.Prelude.{slice_get}
 use Rattle.std.specs.Option.{option_map}
 use Rattle.std.proofs.lemmas.Bool.{cases_lt}
-use Rattle.std.proofs.lemmas.Option.{slice_get_read, slice_get-map}
+use Rattle.std.proofs.lemmas.Option.{slice_get_read, slice_get-get_or, slice_get-map}
 use Rattle.css_winner.specs.Among.{Among}
 
 pub among_left : {X : Type 0} (xs ys : List X) (x : X) → Among xs x → Among (xs ++ ys) x
@@ -38,8 +38,7 @@ item_at xs n k item x same below at is =
     let both : Some x ≡ Some item = sym is ∙ (ap (slice_get xs) same ∙ read) in
     cc
 
-pub mapped_at : {X Y : Type 0} (v : X → Y) (xs : List X) (n k : ℕ) (item : X) (y : Y) → k ≡ n → n < length xs → item ≡ get_or xs n item → slice_get (map v xs) k ≡ Some y → y ≡ v item
-mapped_at v xs n k item y same below at is =
-    let read : slice_get xs n ≡ Some item = slice_get_read xs (length xs) n item refl below at in
-    let both : Some y ≡ Some (v item) = sym is ∙ (ap (slice_get (map v xs)) same ∙ (slice_get-map v xs n ∙ ap (option_map v) read)) in
+pub mapped_at : {X Y : Type 0} (v : X → Y) (xs : List X) (n k : ℕ) (d : X) (y : Y) → k ≡ n → n < length xs → slice_get (map v xs) k ≡ Some y → y ≡ v (get_or xs n d)
+mapped_at v xs n k d y same below is =
+    let both : Some y ≡ Some (v (get_or xs n d)) = sym is ∙ (ap (slice_get (map v xs)) same ∙ (slice_get-map v xs n ∙ ap (option_map v) (slice_get-get_or xs n d below))) in
     cc

@@ -40,6 +40,12 @@ impl Filing {
         }
     }
 
+    fn number_of(&self, name: &[u8]) -> Option<usize>
+        ensures { result ≡ filing.number_of self.now name.now }
+    {
+        self.numbers.get(name).copied()
+    }
+
     /// Gives a number to a name that has none.
     fn add(&mut self, alloc: Global, name: &[u8]) -> Result<usize, AllocError>
         requires sound { IsSound self.old }
@@ -64,7 +70,7 @@ impl Filing {
         ensures kept { OnOk result ((q : List ℕ) (p : APlace) → IsFiled self.old q p → IsFiled self.new q p) }
         ensures numbered { IfOk result (λ n. filing.number_of self.new name.now ≡ Some n) }
     {
-        match self.numbers.get(name).copied() {
+        match self.number_of(name) {
             Some(number) => Ok(number),
             None => self.add(alloc, name),
         }
@@ -86,10 +92,10 @@ impl Filing {
     pub fn filed(&self, name: &[u8]) -> &[Place]
         ensures { (p : APlace) → IsFiled self.now name.now p → Contains result.now p }
     {
-        let Some(number) = self.numbers.get(name) else {
+        let Some(number) = self.number_of(name) else {
             return &[];
         };
-        match self.lists.get(*number) {
+        match self.lists.get(number) {
             Some(list) => list.as_slice(),
             None => &[],
         }

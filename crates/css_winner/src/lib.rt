@@ -17,8 +17,6 @@ mod precedence;
 mod rules;
 mod setting;
 mod sheet_text;
-#[cfg(test)]
-mod tests;
 
 pub use best::Offer;
 pub use filing::Place;
