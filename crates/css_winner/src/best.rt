@@ -35,7 +35,7 @@ pub fn nothing<'a>(alloc: Global) -> Result<Vec<Option<Offer<'a>>>, AllocError>
     ensures { IfOk result (λ best. IsBest [] best.items) }
 {
     let mut best = Vec::new(alloc);
-    for _place in 0..60 {
+    for _place in 0..60usize {
         best.push(None)?;
     }
     Ok(best)
