@@ -1,5 +1,6 @@
 -- What was read of the first style attributes.
-use Rattle.std.proofs.Common.{◌≡◌, ◌<◌, ◌≤◌, ℕ, zero, suc, List, [], ◌∷◌, map, length, take, Option, Some, None, Ok, Err, Result, refl, sym, ap, subst, ◌∙◌, arith}
+use Rattle.std.proofs.Common.{◌≡◌, ◌<◌, ◌≤◌, ℕ, zero, suc, List, [], ◌∷◌, map, length, take, Option, Some, None, Ok, Err, Result}
+use Rattle.std.proofs.Common.{refl, sym, ap, subst, ◌∙◌, arith}
 use Rattle.std.specs.Prelude.{slice_get, IsOk}
 use Rattle.std.specs.Option.{option_map}
 use Rattle.std.proofs.lemmas.List.{length-map}
@@ -41,20 +42,25 @@ all_own_are dom own e =
     record {
       count = sym (length-map own (λ (s : List Setting). Ok {E = Refusal} s)) ∙ (ap length e ∙ length-map dom.nodes own_settings);
       each = λ n settings at. at_node (slice_get dom.nodes n) settings (
-          sym (ap (option_map (λ (s : List Setting). Ok {E = Refusal} s)) at) ∙ (sym (slice_get-map (λ (s : List Setting). Ok {E = Refusal} s) own n) ∙ (ap (λ xs. slice_get xs n) e ∙ slice_get-map own_settings dom.nodes n))
+          sym (ap (option_map (λ (s : List Setting). Ok {E = Refusal} s)) at)
+              ∙ (sym (slice_get-map (λ (s : List Setting). Ok {E = Refusal} s) own n)
+                  ∙ (ap (λ xs. slice_get xs n) e ∙ slice_get-map own_settings dom.nodes n))
       );
     }
   where
     settled : (settings : List Setting) (r : Result (List Setting) Refusal) → Ok settings ≡ r → settings ≡ settings_or_none r
     settled settings r e = ap settings_or_none e
 
-    at_node : (o : Option DomNode) (settings : List Setting) → Some (Ok {E = Refusal} settings) ≡ option_map own_settings o → settings ≡ node_settings o
+    at_node : (o : Option DomNode) (settings : List Setting) → Some (Ok {E = Refusal} settings) ≡ option_map own_settings o
+        → settings ≡ node_settings o
     at_node None settings e = absurd cc
     at_node (Some node) settings e = let is : Ok settings ≡ own_settings node = cc in settled settings (own_settings node) is
 
 -- all is read, and every element has its entry
-pub cascaded_is : (sheets : List Sheet) (dom : Dom) (own : List (List Setting)) → AreRead own dom.nodes → (settings : List (List Setting)) → settings ≡ own
-    → (nodes : List (Option NodeStyle)) → HasEntries sheets dom (length settings) nodes → (styles : List (Option NodeStyle)) → styles ≡ nodes → IsCascaded sheets dom styles
+pub cascaded_is : (sheets : List Sheet) (dom : Dom) (own : List (List Setting)) → AreRead own dom.nodes
+    → (settings : List (List Setting)) → settings ≡ own
+    → (nodes : List (Option NodeStyle)) → HasEntries sheets dom (length settings) nodes → (styles : List (Option NodeStyle))
+    → styles ≡ nodes → IsCascaded sheets dom styles
 cascaded_is sheets dom own read settings same nodes made styles is =
     let count = (all_own_are dom own read).count in
     let long = ap length same ∙ count in
@@ -66,7 +72,8 @@ cascaded_is sheets dom own read settings same nodes made styles is =
     }
 
 -- what is before the fault was read
-pub fault_is_first : (own : List (List Setting)) (nodes : List DomNode) (n : ℕ) (node : DomNode) (refusal : Refusal) → AreRead own (take n nodes) → slice_get nodes n ≡ Some node → own_settings node ≡ Err refusal → IsFirstFault nodes refusal
+pub fault_is_first : (own : List (List Setting)) (nodes : List DomNode) (n : ℕ) (node : DomNode) (refusal : Refusal)
+    → AreRead own (take n nodes) → slice_get nodes n ≡ Some node → own_settings node ≡ Err refusal → IsFirstFault nodes refusal
 fault_is_first own nodes n node refusal read at is =
     record {
       at = n;

@@ -1,5 +1,6 @@
 -- Entries stay as more are made.
-use Rattle.std.proofs.Common.{◌≡◌, ◌<◌, ◌≤◌, ◌+◌, ◌⊎◌, inl, inr, ℕ, zero, suc, Bool, true, false, List, [], ◌∷◌, ◌++◌, length, length-append, Option, Some, None, refl, sym, ap, subst, ◌∙◌, arith, nat_eq}
+use Rattle.std.proofs.Common.{◌≡◌, ◌<◌, ◌≤◌, ◌+◌, ◌⊎◌, inl, inr, ℕ, zero, suc, Bool, true, false, List, [], ◌∷◌, ◌++◌, length}
+use Rattle.std.proofs.Common.{length-append, Option, Some, None, refl, sym, ap, subst, ◌∙◌, arith, nat_eq}
 use Rattle.std.specs.Prelude.{slice_get, IsSome, option_and_then, if◌then◌else◌}
 use Rattle.std.specs.Option.{option_map}
 use Rattle.std.proofs.lemmas.Bool.{cases_lt, eqb-true, eqb-false}
@@ -32,7 +33,8 @@ module _ (xs ys : List (Option NodeStyle)) where
   style_kept : (k : ℕ) → k < length xs → style_at (xs ++ ys) k ≡ style_at xs k
   style_kept k h = ap (option_map (λ (entry : NodeStyle). entry.style)) (entry_kept k h)
 
-  parent_kept : (dom : Dom) (n : ℕ) → ParentsAreEarlier dom → n ≤ length xs → parent_style (xs ++ ys) dom n ≡ parent_style xs dom n
+  parent_kept : (dom : Dom) (n : ℕ) → ParentsAreEarlier dom → n ≤ length xs
+      → parent_style (xs ++ ys) dom n ≡ parent_style xs dom n
   parent_kept dom n earlier h = by (parent_at dom n) refl
     where
       by : (o : Option ℕ) → parent_at dom n ≡ o → option_and_then (style_at (xs ++ ys)) o ≡ option_and_then (style_at xs) o
@@ -45,7 +47,8 @@ module _ (xs ys : List (Option NodeStyle)) where
       abbrev size : Option Style → Option ℕ
       size style = option_map (λ (s : Style). length_or medium s.font_size) style
 
-      by : (b : Bool) → nat_eq n 0 ≡ b → (if b then None else size (style_at (xs ++ ys) 0)) ≡ (if b then None else size (style_at xs 0))
+      by : (b : Bool) → nat_eq n 0 ≡ b
+          → (if b then None else size (style_at (xs ++ ys) 0)) ≡ (if b then None else size (style_at xs 0))
       by true e = refl
       by false e = ap size (style_kept 0 (let some = eqb-false n 0 e in inside n some h))
         where
@@ -53,7 +56,8 @@ module _ (xs ys : List (Option NodeStyle)) where
           inside zero some h = absurd (some refl)
           inside (suc n) some h = omega arith
 
-  pub styled_kept : (sheets : List Sheet) (dom : Dom) (own : List Setting) (n : ℕ) (entry : NodeStyle) → ParentsAreEarlier dom → n ≤ length xs → IsStyled sheets dom own xs n entry → IsStyled sheets dom own (xs ++ ys) n entry
+  pub styled_kept : (sheets : List Sheet) (dom : Dom) (own : List Setting) (n : ℕ) (entry : NodeStyle) → ParentsAreEarlier dom
+      → n ≤ length xs → IsStyled sheets dom own xs n entry → IsStyled sheets dom own (xs ++ ys) n entry
   styled_kept sheets dom own n entry earlier h it =
       record {
         winning = it.winning;
@@ -62,7 +66,8 @@ module _ (xs ys : List (Option NodeStyle)) where
         refused = it.refused;
       }
 
-  has_kept : (sheets : List Sheet) (dom : Dom) (n : ℕ) → ParentsAreEarlier dom → n < length xs → HasEntry sheets dom xs n → HasEntry sheets dom (xs ++ ys) n
+  has_kept : (sheets : List Sheet) (dom : Dom) (n : ℕ) → ParentsAreEarlier dom → n < length xs → HasEntry sheets dom xs n
+      → HasEntry sheets dom (xs ++ ys) n
   has_kept sheets dom n earlier h it =
       record {
         entry = it.entry;
@@ -73,8 +78,10 @@ module _ (xs ys : List (Option NodeStyle)) where
 sooner : (k n : ℕ) → k < n + 1 → (k < n) ⊎ (k ≡ n)
 sooner k n h = elim (cases_lt k n) [ inl a ↦ inl a | inr b ↦ inr (omega arith) ]
 
-module _ (sheets : List Sheet) (dom : Dom) (earlier : ParentsAreEarlier dom) (xs : List (Option NodeStyle)) (n : ℕ) (size : length xs ≡ n) where
-  made : (entry : Option NodeStyle) → IsEntry (all_sheets sheets) dom (own_at dom n) xs n entry → IsElementAt dom n → HasEntry sheets dom (xs ++ entry ∷ []) n
+module _ (sheets : List Sheet) (dom : Dom) (earlier : ParentsAreEarlier dom) (xs : List (Option NodeStyle)) (n : ℕ)
+    (size : length xs ≡ n) where
+  made : (entry : Option NodeStyle) → IsEntry (all_sheets sheets) dom (own_at dom n) xs n entry → IsElementAt dom n
+      → HasEntry sheets dom (xs ++ entry ∷ []) n
   made None none element = absurd (none element)
   made (Some entry) it element =
       record {
@@ -83,18 +90,21 @@ module _ (sheets : List Sheet) (dom : Dom) (earlier : ParentsAreEarlier dom) (xs
         styled = styled_kept xs (Some entry ∷ []) (all_sheets sheets) dom (own_at dom n) n entry earlier (omega arith) it;
       }
 
-  pub entries_more : ((k : ℕ) → k < n → IsElementAt dom k → HasEntry sheets dom xs k) → (entry : Option NodeStyle) → IsEntry (all_sheets sheets) dom (own_at dom n) xs n entry → HasEntries sheets dom (n + 1) (xs ++ entry ∷ [])
+  pub entries_more : ((k : ℕ) → k < n → IsElementAt dom k → HasEntry sheets dom xs k) → (entry : Option NodeStyle)
+      → IsEntry (all_sheets sheets) dom (own_at dom n) xs n entry → HasEntries sheets dom (n + 1) (xs ++ entry ∷ [])
   entries_more so_far entry it =
       record {
         size = length-append xs (entry ∷ []) ∙ ap (λ k. k + 1) size;
         each = λ k below element. elim (sooner k n below) [
           | inl before ↦ has_kept xs (entry ∷ []) sheets dom k earlier (omega arith) (so_far k before element)
-          | inr now ↦ subst (HasEntry sheets dom (xs ++ entry ∷ [])) (sym now) (made entry it (subst (IsElementAt dom) now element))
+          | inr now ↦ subst (HasEntry sheets dom (xs ++ entry ∷ [])) (sym now)
+              (made entry it (subst (IsElementAt dom) now element))
         ];
       }
 
 -- each element has its entry
-pub element_has_entry : (sheets : List Sheet) (dom : Dom) (styles : List (Option NodeStyle)) (n : ℕ) → IsCascaded sheets dom styles → IsElementAt dom n → IsSome (entry_at styles n)
+pub element_has_entry : (sheets : List Sheet) (dom : Dom) (styles : List (Option NodeStyle)) (n : ℕ)
+    → IsCascaded sheets dom styles → IsElementAt dom n → IsSome (entry_at styles n)
 element_has_entry sheets dom styles n cascaded element =
     let it = cascaded.each n element in
     subst IsSome (sym it.stands) tt
@@ -104,10 +114,13 @@ pub no_entries : (sheets : List Sheet) (dom : Dom) (xs : List (Option NodeStyle)
 no_entries sheets dom xs e = record { size = ap length e; each = λ n below element. absurd (omega arith) }
 
 -- one more node has
-pub entries_step : (sheets : List Sheet) (dom : Dom) → ParentsAreEarlier dom → (xs : List (Option NodeStyle)) (n : ℕ) → HasEntries sheets dom n xs
+pub entries_step : (sheets : List Sheet) (dom : Dom) → ParentsAreEarlier dom → (xs : List (Option NodeStyle)) (n : ℕ)
+    → HasEntries sheets dom n xs
     → (before : List (Option NodeStyle)) → before ≡ xs → (own : List Setting) → own ≡ own_at dom n
     → (entry : Option NodeStyle) → IsEntry (all_sheets sheets) dom own before n entry
     → (new : List (Option NodeStyle)) → new ≡ xs ++ entry ∷ [] → HasEntries sheets dom (n + 1) new
 entries_step sheets dom earlier xs n so_far before same own sets entry it new is =
-    let here : IsEntry (all_sheets sheets) dom (own_at dom n) xs n entry = subst (λ o. IsEntry (all_sheets sheets) dom o xs n entry) sets (subst (λ b. IsEntry (all_sheets sheets) dom own b n entry) same it) in
+    let here : IsEntry (all_sheets sheets) dom (own_at dom n) xs n entry =
+        subst (λ o. IsEntry (all_sheets sheets) dom o xs n entry) sets
+        (subst (λ b. IsEntry (all_sheets sheets) dom own b n entry) same it) in
     subst (HasEntries sheets dom (n + 1)) (sym is) (entries_more sheets dom earlier xs n so_far.size so_far.each entry here)

@@ -1,5 +1,6 @@
 -- The places of properties in the tables.
-use Rattle.std.proofs.Common.{◌≡◌, ◌<◌, ◌+◌, ℕ, zero, suc, List, [], ◌∷◌, ◌++◌, map, length, take, Option, Some, None, refl, sym, ap, ◌∙◌, lit<, inl, inr, arith}
+use Rattle.std.proofs.Common.{◌≡◌, ◌<◌, ◌+◌, ℕ, zero, suc, List, [], ◌∷◌, ◌++◌, map, length, take, Option, Some, None, refl, sym}
+use Rattle.std.proofs.Common.{ap, ◌∙◌, lit<, inl, inr, arith}
 use Rattle.std.specs.Prelude.{slice_get}
 use Rattle.std.specs.Option.{option_map}
 use Rattle.std.proofs.lemmas.Option.{slice_get-map, slice_get_cases}
@@ -78,7 +79,8 @@ pub record Placed (i : ℕ) : Type 0 where
 pub placed : (i : ℕ) → i < 60 → Placed i
 placed i small = elim (slice_get_cases all i).1 [
   | inl (target, below, at, _) ↦
-      let number : slice_get (count_from 0 60) i ≡ Some (target_place target) = ap (λ xs. slice_get xs i) (sym places) ∙ (slice_get-map target_place all i ∙ ap (option_map target_place) at) in
+      let number : slice_get (count_from 0 60) i ≡ Some (target_place target) = ap (λ xs. slice_get xs i) (sym places)
+          ∙ (slice_get-map target_place all i ∙ ap (option_map target_place) at) in
       let same = counted 0 60 i (target_place target) number in
       record { target = target; place = omega (arith, same) }
   | inr (past, _) ↦ let long : length all ≡ 60 = refl in absurd (omega (arith, past, small, long))

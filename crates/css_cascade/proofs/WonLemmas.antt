@@ -1,5 +1,6 @@
 -- What the winning declarations give.
-use Rattle.std.proofs.Common.{◌≡◌, ◌<◌, ◌≤◌, ◌+◌, ℕ, zero, suc, List, [], ◌∷◌, map, length, take, get_or, Option, Some, None, refl, sym, ap, subst, ◌∙◌, arith}
+use Rattle.std.proofs.Common.{◌≡◌, ◌<◌, ◌≤◌, ◌+◌, ℕ, zero, suc, List, [], ◌∷◌, map, length, take, get_or, Option, Some, None}
+use Rattle.std.proofs.Common.{refl, sym, ap, subst, ◌∙◌, arith}
 use Rattle.std.specs.Prelude.{slice_get, MatchOption}
 use Rattle.std.specs.Option.{option_map}
 use Rattle.std.proofs.lemmas.Option.{slice_get-map, slice_get-get_or}
@@ -37,13 +38,15 @@ get_front (x ∷ xs) (suc n) zero h = refl
 get_front (x ∷ xs) (suc n) (suc k) h = get_front xs n k (omega arith)
 
 -- the value of a property is what its winning claim gives
-pub winner_is : (found : List (Option Offer)) → length found ≡ 60 → (property : Property) → winner (values_of found) property ≡ won_value (found_at found (property_place property))
+pub winner_is : (found : List (Option Offer)) → length found ≡ 60 → (property : Property)
+    → winner (values_of found) property ≡ won_value (found_at found (property_place property))
 winner_is found size property =
     let small = property_within property in
     let below : property_place property < length found = omega (arith, small, size) in
     ap joined (
       slice_get-map value_of (take 40 found) (property_place property)
-      ∙ ap (option_map value_of) (get_front found 40 (property_place property) small ∙ slice_get-get_or found (property_place property) None below)
+      ∙ ap (option_map value_of) (get_front found 40 (property_place property) small
+              ∙ slice_get-get_or found (property_place property) None below)
     )
 
 refused_is : (g : Given) (name : ConstructName) → given_refusal g ≡ Some name → g ≡ given.Refused name
@@ -62,7 +65,8 @@ first_is : (found : List (Option Offer)) (name : ConstructName) → first_refusa
 first_is [] name h = absurd cc
 first_is (offer ∷ rest) name h = by (refusal_of offer) refl h (first_is rest name)
   where
-    by : (o : Option ConstructName) → refusal_of offer ≡ o → or_else o (first_refusal rest) ≡ Some name → (first_refusal rest ≡ Some name → First rest name) → First (offer ∷ rest) name
+    by : (o : Option ConstructName) → refusal_of offer ≡ o → or_else o (first_refusal rest) ≡ Some name
+        → (first_refusal rest ≡ Some name → First rest name) → First (offer ∷ rest) name
     by None e h more =
         let f = more h in
         record { at = suc f.at; below = let b = f.below in omega (arith, b); refused = f.refused; first = before f }
@@ -76,32 +80,40 @@ none_is : (found : List (Option Offer)) → first_refusal found ≡ None → (k 
 none_is [] h k = refl
 none_is (offer ∷ rest) h k = by (refusal_of offer) refl h k (none_is rest)
   where
-    by : (o : Option ConstructName) → refusal_of offer ≡ o → or_else o (first_refusal rest) ≡ None → (k : ℕ) → (first_refusal rest ≡ None → (k : ℕ) → refusal_of (get_or rest k None) ≡ None) → refusal_of (get_or (offer ∷ rest) k None) ≡ None
+    by : (o : Option ConstructName) → refusal_of offer ≡ o → or_else o (first_refusal rest) ≡ None → (k : ℕ)
+        → (first_refusal rest ≡ None → (k : ℕ) → refusal_of (get_or rest k None) ≡ None)
+        → refusal_of (get_or (offer ∷ rest) k None) ≡ None
     by None e h zero more = e
     by None e h (suc k) more = more h k
     by (Some other) e h k more = absurd cc
 
-module _ (sheets : List Sheet) (dom : Dom) (n : ℕ) (own : List Setting) (found : List (Option Offer)) (has : HasWinners sheets dom n own found) where
+module _ (sheets : List Sheet) (dom : Dom) (n : ℕ) (own : List Setting) (found : List (Option Offer))
+    (has : HasWinners sheets dom n own found) where
   pub won_values : (property : Property) → IsWonValue sheets dom n own property (winner (values_of found) property)
   won_values property =
-      record { claim = found_at found (property_place property); wins = has.wins (Laid property); gives = winner_is found has.size property }
+      record { claim = found_at found (property_place property); wins = has.wins (Laid property);
+              gives = winner_is found has.size property }
 
   -- what is refused is what was found
-  refuses_is : (target : Target) (name : ConstructName) → Refuses sheets dom n own target name → won_refusal (found_at found (target_place target)) ≡ Some name
+  refuses_is : (target : Target) (name : ConstructName) → Refuses sheets dom n own target name
+      → won_refusal (found_at found (target_place target)) ≡ Some name
   refuses_is target name r = by (found_at found (target_place target)) (has.wins target)
     where
       by : (o : Option Claim) → Wins sheets dom n own target o → won_refusal o ≡ Some name
       by None none = absurd (none r.claim r.wins.applies r.wins.about)
-      by (Some claim) wins = ap (λ c. given_refusal c.given) (one_winner sheets dom n own target claim r.claim wins r.wins) ∙ ap given_refusal r.refused
+      by (Some claim) wins = ap (λ c. given_refusal c.given) (one_winner sheets dom n own target claim r.claim wins r.wins)
+          ∙ ap given_refusal r.refused
 
-  is_refused : (target : Target) (name : ConstructName) → won_refusal (found_at found (target_place target)) ≡ Some name → Refuses sheets dom n own target name
+  is_refused : (target : Target) (name : ConstructName) → won_refusal (found_at found (target_place target)) ≡ Some name
+      → Refuses sheets dom n own target name
   is_refused target name h = by (found_at found (target_place target)) (has.wins target) h
     where
       by : (o : Option Claim) → Wins sheets dom n own target o → won_refusal o ≡ Some name → Refuses sheets dom n own target name
       by None none h = absurd cc
       by (Some claim) wins h = record { claim = claim; wins = wins; refused = refused_is claim.given name h }
 
-  pub refused_first : (o : Option ConstructName) → o ≡ first_refusal found → MatchOption o (NoneRefused sheets dom n own) (λ name. IsFirstRefused sheets dom n own name)
+  pub refused_first : (o : Option ConstructName) → o ≡ first_refusal found
+      → MatchOption o (NoneRefused sheets dom n own) (λ name. IsFirstRefused sheets dom n own name)
   refused_first None e = λ target name r.
       let is = refuses_is target name r in
       let none = none_is found (sym e) (target_place target) in
@@ -128,7 +140,8 @@ module _ (sheets : List Sheet) (dom : Dom) (n : ℕ) (own : List Setting) (found
 
   -- the style of the element
   pub styled_is : (list : List (Option Offer)) → list ≡ found → (winning : List (Option Value)) → winning ≡ values_of list
-      → (refused : Option ConstructName) → refused ≡ first_refusal list → (styles : List (Option NodeStyle)) (parent : Option Style) → parent ≡ parent_style styles dom n
+      → (refused : Option ConstructName) → refused ≡ first_refusal list
+      → (styles : List (Option NodeStyle)) (parent : Option Style) → parent ≡ parent_style styles dom n
       → (root : Option ℕ) → root ≡ root_size styles n → (style : Style) → style ≡ style_by (computed_value winning parent root)
       → IsStyled sheets dom own styles n (record { style = style; refused = refused })
   styled_is list same winning values refused first styles parent of root size style is =

@@ -1,5 +1,6 @@
 -- The style of each element (CSS Cascade 4, sections 4 and 6), and the first construct at it that isn't laid out.
-use Rattle.std.specs.Prelude.{◌≡◌, ◌<◌, ◌==◌, ℕ, List, Option, Some, None, if◌then◌else◌, MatchOption, option_and_then, slice_get, length}
+use Rattle.std.specs.Prelude.{◌≡◌, ◌<◌, ◌==◌, ℕ, List, Option, Some, None, if◌then◌else◌, MatchOption, option_and_then, slice_get}
+use Rattle.std.specs.Prelude.{length}
 use Rattle.std.specs.Option.{option_map}
 use Rattle.mc_base.specs.declared.refusal.ConstructName.{ConstructName}
 use Rattle.html_grammar.specs.declared.dom.Dom.{Dom}
@@ -24,13 +25,15 @@ use Rattle.css_cascade.specs.Won.{won_value}
 use Rattle.css_cascade.specs.Attributes.{AllAreRead, own_at}
 
 -- this is the value that the winning declaration of the property gives, if a declaration that applies is about it
-pub record IsWonValue (sheets : List Sheet) (dom : Dom) (n : ℕ) (own : List Setting) (property : Property) (value : Option Value) : Type 0 where
+pub record IsWonValue (sheets : List Sheet) (dom : Dom) (n : ℕ) (own : List Setting) (property : Property)
+    (value : Option Value) : Type 0 where
   pub claim : Option Claim
   pub wins : Wins sheets dom n own (Laid property) claim
   pub gives : value ≡ won_value claim
 
 -- the winning declaration of the property is refused as this construct
-pub record Refuses (sheets : List Sheet) (dom : Dom) (n : ℕ) (own : List Setting) (target : Target) (name : ConstructName) : Type 0 where
+pub record Refuses (sheets : List Sheet) (dom : Dom) (n : ℕ) (own : List Setting) (target : Target) (name : ConstructName) :
+    Type 0 where
   pub claim : Claim
   pub wins : IsWinner sheets dom n own target claim
   pub refused : claim.given ≡ Refused name
@@ -54,7 +57,8 @@ abbrev pub root_size : List (Option NodeStyle) → ℕ → Option ℕ
 root_size styles n = if n == 0 then None else option_map (λ style. length_or medium style.font_size) (style_at styles 0)
 
 -- an element has the style that is computed from what wins for its properties, its parent's style and the root's font size
-pub record IsStyled (sheets : List Sheet) (dom : Dom) (own : List Setting) (styles : List (Option NodeStyle)) (n : ℕ) (entry : NodeStyle) : Type 0 where
+pub record IsStyled (sheets : List Sheet) (dom : Dom) (own : List Setting) (styles : List (Option NodeStyle)) (n : ℕ)
+    (entry : NodeStyle) : Type 0 where
   pub winning : List (Option Value)
   pub won : (property : Property) → IsWonValue sheets dom n own property (winner winning property)
   pub style : entry.style ≡ style_by (computed_value winning (parent_style styles dom n) (root_size styles n))

@@ -1,5 +1,6 @@
 -- What stands among the items of two lists, one after the other.
-use Rattle.std.proofs.Common.{◌≡◌, ◌⊎◌, inl, inr, ℕ, ◌+◌, ◌<◌, List, [], ◌∷◌, ◌++◌, length, get_or, map, Option, Some, refl, sym, ap, ◌∙◌, arith}
+use Rattle.std.proofs.Common.{◌≡◌, ◌⊎◌, inl, inr, ℕ, ◌+◌, ◌<◌, List, [], ◌∷◌, ◌++◌, length, get_or, map, Option, Some, refl, sym}
+use Rattle.std.proofs.Common.{ap, ◌∙◌, arith}
 use Rattle.std.specs.Prelude.{slice_get}
 use Rattle.std.specs.Option.{option_map}
 use Rattle.std.proofs.lemmas.Bool.{cases_lt}
@@ -32,13 +33,16 @@ pub earlier : (k n : ℕ) → k < n + 1 → (k < n) ⊎ (k ≡ n)
 earlier k n h = elim (cases_lt k n) [ inl a ↦ inl a | inr b ↦ inr (omega arith) ]
 
 -- what a loop reads at its index
-pub item_at : {X : Type 0} (xs : List X) (n k : ℕ) (item x : X) → k ≡ n → n < length xs → item ≡ get_or xs n item → slice_get xs k ≡ Some x → x ≡ item
+pub item_at : {X : Type 0} (xs : List X) (n k : ℕ) (item x : X) → k ≡ n → n < length xs → item ≡ get_or xs n item
+    → slice_get xs k ≡ Some x → x ≡ item
 item_at xs n k item x same below at is =
     let read : slice_get xs n ≡ Some item = slice_get_read xs (length xs) n item refl below at in
     let both : Some x ≡ Some item = sym is ∙ (ap (slice_get xs) same ∙ read) in
     cc
 
-pub mapped_at : {X Y : Type 0} (v : X → Y) (xs : List X) (n k : ℕ) (d : X) (y : Y) → k ≡ n → n < length xs → slice_get (map v xs) k ≡ Some y → y ≡ v (get_or xs n d)
+pub mapped_at : {X Y : Type 0} (v : X → Y) (xs : List X) (n k : ℕ) (d : X) (y : Y) → k ≡ n → n < length xs
+    → slice_get (map v xs) k ≡ Some y → y ≡ v (get_or xs n d)
 mapped_at v xs n k d y same below is =
-    let both : Some y ≡ Some (v (get_or xs n d)) = sym is ∙ (ap (slice_get (map v xs)) same ∙ (slice_get-map v xs n ∙ ap (option_map v) (slice_get-get_or xs n d below))) in
+    let both : Some y ≡ Some (v (get_or xs n d)) = sym is
+        ∙ (ap (slice_get (map v xs)) same ∙ (slice_get-map v xs n ∙ ap (option_map v) (slice_get-get_or xs n d below))) in
     cc

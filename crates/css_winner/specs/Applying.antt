@@ -1,5 +1,7 @@
--- Which declarations apply to an element, and which one wins for a property (CSS Cascade 4, section 6.1). Sheet 0 is the built-in one.
-use Rattle.std.specs.Prelude.{◌≡◌, ◌⊎◌, ℕ, zero, suc, ◌+◌, ◌==◌, Bool, true, false, List, [], ◌∷◌, Option, Some, None, MatchOption, slice_get, option_and_then}
+-- Which declarations apply to an element, and which one wins for a property (CSS Cascade 4, section 6.1). Sheet 0 is the built-in
+-- one.
+use Rattle.std.specs.Prelude.{◌≡◌, ◌⊎◌, ℕ, zero, suc, ◌+◌, ◌==◌, Bool, true, false, List, [], ◌∷◌, Option, Some, None}
+use Rattle.std.specs.Prelude.{MatchOption, slice_get, option_and_then}
 use Rattle.html_grammar.specs.declared.dom.Dom.{Dom}
 use Rattle.css_data.specs.declared.selector.Selector.{Selector}
 use Rattle.css_data.specs.declared.rule.StyleRule.{StyleRule}
@@ -82,7 +84,8 @@ abbrev pub Applies : List Sheet → Dom → ℕ → List Setting → Claim → T
 Applies sheets dom n own claim = AppliesByRule sheets dom n claim ⊎ AppliesOwn own claim
 
 -- a declaration that applies and is about this property, such that no other one comes above it
-pub record IsWinner (sheets : List Sheet) (dom : Dom) (n : ℕ) (own : List Setting) (target : Target) (claim : Claim) : Type 0 where
+pub record IsWinner (sheets : List Sheet) (dom : Dom) (n : ℕ) (own : List Setting) (target : Target) (claim : Claim) :
+    Type 0 where
   pub applies : Applies sheets dom n own claim
   pub about : claim.target ≡ target
   pub greatest : (other : Claim) → Applies sheets dom n own other → other.target ≡ target

@@ -1,5 +1,6 @@
 -- The best that was found for each property, by its place in the two tables.
-use Rattle.std.specs.Prelude.{◌≡◌, ◌<◌, ℕ, Bool, true, false, if◌then◌else◌, List, Option, Some, None, MatchOption, slice_index_or, slice_set, length}
+use Rattle.std.specs.Prelude.{◌≡◌, ◌<◌, ℕ, Bool, true, false, if◌then◌else◌, List, Option, Some, None, MatchOption}
+use Rattle.std.specs.Prelude.{slice_index_or, slice_set, length}
 use Rattle.std.specs.Option.{option_map}
 use Rattle.css_values.specs.Targets.{target_place}
 use Rattle.css_winner.specs.declared.best.Offer.{Offer}

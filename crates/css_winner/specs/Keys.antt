@@ -1,5 +1,5 @@
--- The name that a selector is filed under, and the names that an element is looked up by. An id has a `#` before it, a class a `.`,
--- a type is in lower case, and what has none of these has the empty name.
+-- The name that a selector is filed under, and the names that an element is looked up by. An id has a `#` before it, a class a
+-- `.`, a type is in lower case, and what has none of these has the empty name.
 use Rattle.std.specs.Prelude.{◌≡◌, ◌⊎◌, ◌-◌, ℕ, List, [], ◌∷◌, map, length, codes, Any, Option, Some, None, slice_get}
 use Rattle.std.specs.Char.{to_ascii_lowercase}
 use Rattle.html_grammar.specs.declared.dom.Attribute.{Attribute}

@@ -1,5 +1,5 @@
--- What the declarations of a block set (CSS Cascade 4, sections 3.1 and 6): each property that a declaration is about, in order, with
--- what is given to it. A shorthand stands for the properties that it sets. An ignored declaration sets nothing.
+-- What the declarations of a block set (CSS Cascade 4, sections 3.1 and 6): each property that a declaration is about, in order,
+-- with what is given to it. A shorthand stands for the properties that it sets. An ignored declaration sets nothing.
 use Rattle.std.specs.Prelude.{ℕ, Bool, true, false, List, [], ◌∷◌, ◌++◌, map, filter}
 use Rattle.mc_base.specs.declared.refusal.ConstructName.{ConstructName}
 use Rattle.css_data.specs.declared.rule.RawDeclaration.{RawDeclaration}

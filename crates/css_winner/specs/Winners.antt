@@ -21,7 +21,8 @@ pub record HasWinners (sheets : List Sheet) (dom : Dom) (n : ℕ) (own : List Se
 
 -- what the rule at a place claims by a selector
 abbrev pub claims_at : List Sheet → Place → Selector → List Claim
-claims_at sheets p selector = claims_from (rule_source p.sheet p.rule selector) 0 (settings_at (all_settings sheets) p.sheet p.rule)
+claims_at sheets p selector =
+    claims_from (rule_source p.sheet p.rule selector) 0 (settings_at (all_settings sheets) p.sheet p.rule)
 
 -- what the selector at a place claims for the element
 pub record IsOffered (sheets : List Sheet) (dom : Dom) (n : ℕ) (p : Place) (more : List Claim) : Type 0 where
