@@ -1,6 +1,6 @@
 -- What a walk keeps that has come to an item, and what it decides there.
-use Rattle.std.proofs.Common.{Result, Ok, Err, IfOk, ◌≡◌, ℕ, ◌+◌, ◌-◌, ◌<◌, ◌≤◌, Bool, true, false, cond, List, [], ◌∷◌, ◌++◌}
-use Rattle.std.proofs.Common.{map, length, Option, Some, None, refl, sym, subst, ◌∙◌, ap, arith}
+use Rattle.std.proofs.Common.{◌≡◌, ℕ, ◌+◌, ◌-◌, ◌<◌, ◌≤◌, Bool, true, false, cond, List, [], ◌∷◌, ◌++◌}
+use Rattle.std.proofs.Common.{length, Option, Some, None, sym, subst, ◌∙◌, ap, arith}
 use Rattle.std.specs.Prelude.{IfSome, is_none, nat_lt, ◌||◌, ◌==◌}
 use Rattle.flow_data.specs.declared.data.Flow.{Flow}
 use Rattle.flow_data.specs.declared.data.FlowsData.{FlowsData}
@@ -24,8 +24,8 @@ use Rattle.column_walk.specs.Deciding.{IsDecision, IsStopped, IsUnstopped, fille
 use Rattle.column_walk.specs.Endings.{considered, place_of, place_opt, step_of}
 use Rattle.column_walk.specs.Stopping.{chosen, stop_of}
 use Rattle.column_walk.proofs.Chain.{uses-both, uses-none}
-use Rattle.column_walk.proofs.Parting.{IsWalked, chosen-is, considered-is, end-column, end-cut, end-ends, end-looks, goes-on}
-use Rattle.column_walk.proofs.Parting.{looks-more, rows-more, stop-column, stop-cut, stop-ends, stop-fills, stop-looks}
+use Rattle.column_walk.proofs.Parting.{IsWalked, chosen-is, considered-is, end-column, end-cut, end-ends, goes-on}
+use Rattle.column_walk.proofs.Parting.{looks-more, rows-more, stop-column, stop-cut, stop-ends, stop-fills}
 use Rattle.column_walk.proofs.Parting.{walk-start}
 
 -- The walk has come to item k, and these are the uses in the book when it began and now.

@@ -2,7 +2,7 @@
 use Rattle.std.specs.Prelude.{◌≡◌, ℕ, ◌-◌, ◌==◌, Bool, true, false, cond, not, ◌&&◌, List, [], ◌∷◌, map, Option, Some, None}
 use Rattle.flow_data.specs.declared.data.Flow.{Flow}
 use Rattle.flow_data.specs.declared.data.FlowsData.{FlowsData}
-use Rattle.flow_list.specs.Column.{Column, ColumnLine, Filled, Inner, Place, Step, bounds_at, column, cut, deeper, inner_lines}
+use Rattle.flow_list.specs.Column.{ColumnLine, Filled, Inner, Place, Step, bounds_at, column, cut, deeper, inner_lines}
 use Rattle.flow_list.specs.Column.{is_cut, room, steps_from}
 use Rattle.flow_list.specs.Folds.{shortage}
 use Rattle.flow_list.specs.Fragments.{fills_item}
