@@ -1,41 +1,16 @@
--- Forced seams from a place on, one at a time; and the heights of atoms stay small.
-use Rattle.std.proofs.Common.{◌≡◌, ℕ, ◌+◌, ◌-◌, ◌^◌, ◌<◌, ◌≤◌, min, Bool, List, [], ◌∷◌, length, drop, take, sum_by}
-use Rattle.std.proofs.Common.{refl, sym, ◌∙◌, ap, subst, arith, ◌⊎◌, inl, inr}
-use Rattle.std.specs.Prelude.{count_by}
-use Rattle.std.proofs.lemmas.Bool.{cases_lt}
-use Rattle.std.proofs.lemmas.List.{drop_all}
+-- The heights of a row's atoms together stay small.
+use Rattle.std.proofs.Common.{◌≡◌, ℕ, ◌^◌, ◌<◌, ◌≤◌, List, [], ◌∷◌, length, drop, sum_by}
+use Rattle.std.proofs.Common.{refl, sym, subst, arith}
 use Rattle.std.proofs.lemmas.List.Sums.{sum_by-cons}
 use Rattle.flow_data.specs.declared.data.FlowsData.{FlowsData}
 use Rattle.flow_data.specs.declared.data.RowInfo.{RowInfo}
-use Rattle.flow_data.specs.Flows.{atom_height, boxes_in, flow_in, flow_of, no_row, row_of}
+use Rattle.flow_data.specs.Flows.{atom_height, flow_in, flow_of, no_row, row_of}
 use Rattle.flow_data.specs.Soundness.{IsSound}
-use Rattle.flow_list.specs.Column.{Inner, height_of, is_forced}
-use Rattle.flow_list.specs.Data.{Flow, Item, Atom, Row, Seam}
-use Rattle.flow_list.specs.Ranges.{atoms_height}
-use Rattle.flow_list.specs.Rows.{all_rows, forced_above, heights_from, most_columns, reach}
+use Rattle.flow_list.specs.Column.{Inner, height_of}
+use Rattle.flow_list.specs.Data.{Item, Atom, Row}
+use Rattle.flow_list.specs.Rows.{all_rows, heights_from, reach}
 use Rattle.flow_list.specs.Tokens.{Token, item_number, row_start, within}
 use Rattle.column_laws.specs.AnyFlow.{FlowIsSound}
-
--- no seam is forced above the last item
-none-above : (f : Flow) (i : ℕ) → length f.items ≤ i + 1 → forced_above f i ≡ 0
-none-above f i past =
-    let n : length f.items - i - 1 ≡ 0 = omega arith in
-    ap (λ m. count_by (λ (s : Seam). is_forced s.level) (take m (drop (i + 1) f.seams))) n
-
--- an item after the last one counts as the last one
-pub forced-first : (f : Flow) (i last : ℕ) → last ≡ length f.items - 1 → forced_above f (min i last) ≡ forced_above f i
-forced-first f i last is = go (cases_lt i last)
-  where
-    go : (i < last) ⊎ (last ≤ i) → forced_above f (min i last) ≡ forced_above f i
-    go (inl lt) = ap (forced_above f) (omega arith)
-    go (inr le) =
-        let e : min i last ≡ last = omega arith in
-        ap (forced_above f) e ∙ none-above f last (omega arith) ∙ sym (none-above f i (omega arith))
-
-pub forced-last : (f : Flow) (k last : ℕ) → last ≡ length f.items - 1 → last ≤ k → forced_above f k ≡ 0
-forced-last f k last is le = none-above f k (omega arith)
-
--- ---- heights
 
 atoms-within : (inner : Inner) (q : Token) (items : List Item) → sum_by atom_height items ≤ heights_from inner q items
 atoms-within inner q [] = omega arith

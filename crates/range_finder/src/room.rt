@@ -53,7 +53,8 @@ fn height_of_atom(item: Item) -> Units
 pub fn atoms_height<C: Tally>(flows: &Flows, row: u32, from: &Token, tally: &mut C) -> Units
     requires { row < length flows.now.rows }
     ensures sum { result ≡ atoms_from (flow_in flows.now row) from.now }
-    ensures reads { C.read_count tally.new ≤ C.read_count tally.old + (length (flow_in flows.now row).items - item_number from.now) }
+    ensures reads { C.read_count tally.new ≤ C.read_count tally.old
+        + (length (flow_in flows.now row).items - item_number from.now) }
     ensures below { C.below_count tally.new ≡ C.below_count tally.old }
     ensures folds { C.fold_count tally.new ≡ C.fold_count tally.old }
 {

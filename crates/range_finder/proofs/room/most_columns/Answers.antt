@@ -1,4 +1,4 @@
-use Rattle.std.proofs.Common.{◌≡◌, ◌+◌, ◌<◌, length, ◌∙◌, ap, sym, arith}
+use Rattle.std.proofs.Common.{◌+◌, ◌<◌, length, ◌∙◌, ap, sym, arith}
 use Rattle.flow_data.specs.Flows.{flow_of}
 use Rattle.flow_list.specs.Column.{is_forced}
 use Rattle.flow_list.specs.Data.{Seam}
