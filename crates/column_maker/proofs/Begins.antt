@@ -1,19 +1,18 @@
 -- What stands at the beginning of a column.
-use Rattle.std.proofs.Common.{◌≡◌, ℕ, ◌+◌, ◌<◌, ◌≤◌, ◌^◌, Bool, cond, List, [], ◌∷◌, ◌++◌, length, get_or, map, refl, sym, ◌∙◌}
+use Rattle.std.proofs.Common.{◌≡◌, ℕ, ◌+◌, ◌<◌, ◌^◌, Bool, cond, List, [], ◌++◌, length, get_or, sym, ◌∙◌}
 use Rattle.std.proofs.Common.{ap, arith}
-use Rattle.std.proofs.Common.{All, sum_by, subst}
+use Rattle.std.proofs.Common.{All, sum_by}
 use Rattle.std.specs.Prelude.{◌==◌}
 use Rattle.flow_list.specs.Data.{Edge, Flow, FlowsData}
-use Rattle.flow_data.specs.Flows.{amount, box_of, boxes_in, flow_of, no_flow, open_at, seam_of}
+use Rattle.flow_data.specs.Flows.{amount, box_of, flow_of, no_flow, open_at, seam_of}
 use Rattle.flow_data.specs.Soundness.{IsSound, IsSoundFlow}
 use Rattle.flow_data.proofs.BoxSums.{open_at-le}
 use Rattle.flow_data.proofs.OpenBoxes.{has-count, in-range}
 use Rattle.flow_list.specs.ClonedEdges.{open_across, tops}
-use Rattle.flow_list.specs.Fragments.{continued_from, continuing, laid_start, places_in}
+use Rattle.flow_list.specs.Fragments.{continued_from}
 use Rattle.flow_list.specs.Placing.{Laid, Placed, laid_edges, places_from}
-use Rattle.flow_list.specs.Rows.{all_rows}
 use Rattle.flow_list.specs.Strip.{Strip, lay_all, strip_at}
-use Rattle.flow_list.specs.Tokens.{Token, row_start}
+use Rattle.flow_list.specs.Tokens.{row_start}
 use Rattle.flow_list.proofs.Fitting.{amounts-drop, first-amounts, open_across-le}
 use Rattle.flow_list.proofs.OpenAcross.{across-known}
 use Rattle.column_laws.proofs.Bounds.{reach-small}
@@ -62,8 +61,16 @@ module _ (d : FlowsData) (n : ℕ) (sound : IsSound d) (in_flows : n < length d.
         let s = ap (λ (s : Strip). s.y + s.pending) at in
         let t = ap (tops d) is in
         let u = ap (sum_by amount) whole in
-        omega (arith, s, t, u, reach-small d sound n in_flows row_start, open_across-le (λ b. (box_of d b).top) f k,
-            first-amounts f.seams k, amounts-drop f.seams k)
+        omega (
+          arith,
+          s,
+          t,
+          u,
+          reach-small d sound n in_flows row_start,
+          open_across-le (λ b. (box_of d b).top) f k,
+          first-amounts f.seams k,
+          amounts-drop f.seams k,
+        )
 
     pub head-places : (b : Placing) → Leads a (laid_edges (strip_of a) head) (lay_all (strip_of a) head) b →
         ((more : List Laid) → with_more a more ≡ continued_from d 0 boxes ++ places_from (length more + 1) (tops d boxes) more) →

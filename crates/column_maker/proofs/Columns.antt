@@ -1,6 +1,6 @@
 -- A column from its beginning to its last item, as it is placed.
-use Rattle.std.proofs.Common.{◌≡◌, ℕ, zero, suc, ◌+◌, ◌-◌, ◌<◌, ◌≤◌, ◌^◌, List, [], ◌∷◌, ◌++◌, length, Option, Some, None}
-use Rattle.std.proofs.Common.{refl, sym}
+use Rattle.std.proofs.Common.{◌≡◌, ℕ, suc, ◌+◌, ◌-◌, ◌<◌, ◌≤◌, List, ◌++◌, length, Option, Some, None}
+use Rattle.std.proofs.Common.{sym}
 use Rattle.std.proofs.Common.{subst, ◌∙◌, ap, arith, All}
 use Rattle.std.specs.Option.{option_map}
 use Rattle.std.specs.Prelude.{IfSome}
@@ -27,7 +27,7 @@ use Rattle.column_maker.proofs.Walks.{walk-last, walk-next}
 
 module _ (d : FlowsData) (n : ℕ) (sound : IsSound d) (in_flows : n < length d.flows) (t : Token)
     (place : IsPlaceBefore d (flow_of d n) t) (some : All (λ r. 0 < length (flow_in d r).items) (rows_in (flow_of d n)))
-        (p : Nodes)
+    (p : Nodes)
     (h : ℕ) (end : Token) (cut : Option Cut) (is : end ≡ (column (all_rows d) d (flow_of d n) t h).end)
     (told : IsEnding d p (flow_of d n) t h end cut) (last : ℕ) (last_is : last ≡ last_item end) where
   abbrev f : Flow

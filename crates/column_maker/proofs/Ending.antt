@@ -10,7 +10,7 @@ use Rattle.mc_base.specs.PlainTree.{PlainTree, plain_trees, row_piece}
 use Rattle.flow_list.specs.Data.{Flow, FlowsData, Item, Atom, Row}
 use Rattle.flow_data.specs.Flows.{flow_in, item_of, row_of, rows_in, seam_of}
 use Rattle.flow_data.specs.Soundness.{IsSound, IsSoundFlow}
-use Rattle.flow_list.specs.Column.{Inner, Step, cut, column, height_of, room, start_strip, step_at, steps_from}
+use Rattle.flow_list.specs.Column.{Inner, Step, column, height_of, room, start_strip, step_at, steps_from}
 use Rattle.flow_list.specs.Fragments.{column_fragment, fragments_from}
 use Rattle.flow_list.specs.Fragments.{fills_item, filled_row, laid_before, laid_filled, laid_to, stop_of, strip_filled}
 use Rattle.flow_list.specs.Placing.{Laid, laid_edges, row}
@@ -18,7 +18,6 @@ use Rattle.flow_list.specs.Rows.{all_rows, columns}
 use Rattle.flow_list.specs.Strip.{Strip, begins, strip_at}
 use Rattle.flow_list.specs.Tokens.{Token, IsPlace, IsPlaceBefore, item_number, row_start, within}
 use Rattle.flow_list.proofs.ColumnParts.{EachFrom, OfStop, cut-stop, steps-each}
-use Rattle.flow_laws.specs.Progress.{ColumnsAdvance}
 use Rattle.flow_laws.proofs.HoldingEnds.{EndsAtSeam, EndsFor, EndsInRow, column-ends, taken, taken_at}
 use Rattle.flow_laws.proofs.RowsAdvance.{columns-advance}
 use Rattle.flow_laws.proofs.SoundRows.{rows-in-range}
@@ -129,7 +128,7 @@ module _ (d : FlowsData) (f : Flow) (t : Token) where
         pub filled : ends_filled d f t h u ≡ true
         pub laid : laid_to x d f t (Some h) (Some s) u
             ≡ laid_before x f (start_strip d f t) i (within t) (s.item - i) ++ (laid_filled (Some h) (Some s) ++ tail_laid
-                (ends_at_seam u))
+            (ends_at_seam u))
 
       abbrev front : ℕ → List Laid
       front n = laid_before x f (start_strip d f t) i (within t) n
@@ -227,15 +226,17 @@ module _ (d : FlowsData) (f : Flow) (t : Token) where
       pub known : last_item end < length f.items
       pub laid : laid_to x d f t (Some h) (stop_of x d f t (Some h)) end
           ≡ walk_laid x f (last_laid d f (last_item end) room (ends_at_seam end)) (start_strip d f t) i (within t)
-              (last_item end - i)
+          (last_item end - i)
 
     seam-goes : (h : ℕ) (stop : Option Step) (end : Token) → stop_of x d f t (Some h) ≡ stop →
         EndsAtSeam x f t (Some h) stop end →
         Goes h end None × (ends_filled d f t h end ≡ false)
     seam-goes h stop end is e =
         let P : Token → Type 0 = λ u. Goes h u None × (ends_filled d f t h u ≡ false) in
-        subst P (sym e.is) (record { later = omega (arith, e.later); known = omega (arith, e.later, e.known); laid = laid },
-            unfilled)
+        subst P (sym e.is) (
+          record { later = omega (arith, e.later); known = omega (arith, e.later, e.known); laid = laid },
+          unfilled,
+        )
       where
         test : (fills_item (Some h) (stop_of x d f t (Some h)) (e.seam - 1) && not (e.seam == 0)) ≡ false
         test = ap (λ b. b && not (e.seam == 0)) (ap (λ o. fills_item (Some h) o (e.seam - 1)) is ∙ e.unfilled)
@@ -253,7 +254,7 @@ module _ (d : FlowsData) (f : Flow) (t : Token) where
             let at : i + n ≡ e.seam - 1 = omega (arith, e.later) in
             rw test (rw count (items-are x f (start_strip d f t) i (within t) n))
             ∙ ap (λ m. laid_before x f (start_strip d f t) i (within t) n
-                ++ item_laid x f (strip_to x f (start_strip d f t) i (within t) n) m (taken_at n (within t))) at
+            ++ item_laid x f (strip_to x f (start_strip d f t) i (within t) n) m (taken_at n (within t))) at
             ∙ sym (walk-is x f (last_laid d f (e.seam - 1) None true) (start_strip d f t) i (within t) n)
 
     -- in or after a row that is filled in the room that its stop has
@@ -268,23 +269,25 @@ module _ (d : FlowsData) (f : Flow) (t : Token) where
     row-goes : (h : ℕ) (s : Step) (end : Token) → stop_of x d f t (Some h) ≡ Some s → IsWalked s → EndsInRow x f t h s end →
         Fills h end s × (ends_filled d f t h end ≡ true)
     row-goes h s end is walked e =
-        let w = there h s end e (λ b. leaves-place s.item e.row (room s h) e.later e.item e.from e.taken_from) is in
-        (record {
-              stop = is;
-              goes = λ a at. record {
-                    later = rw w.last e.later;
-                    known = rw w.last e.known;
-                    laid = rw (is, w.last) (w.laid
-                        ∙ ap (λ xs. laid_before x f (start_strip d f t) i (within t) (s.item - i) ++ xs)
-                        (cut-is h s end e walked a at (ends_at_seam end))
-                        ∙ sym (walk-is x f (last_laid d f s.item (Some a) (ends_at_seam end)) (start_strip d f t) i (within t)
-                            (s.item - i)));
-                  };
-              low = rw w.last (lower e.low (ap (λ (s : Step). s.height) walked));
-              row = e.row;
-              item = rw w.last e.item;
-              step_row = rw w.last (e.step_row ∙ ap (λ q. Some (e.row, q)) e.taken_from);
-            }, w.filled)
+        let w = there h s end e (λ b. leaves-place s.item e.row (room s h) e.later e.item e.from e.taken_from) is in (
+          record {
+            stop = is;
+            goes = λ a at. record {
+              later = rw w.last e.later;
+              known = rw w.last e.known;
+              laid = rw (is, w.last) (w.laid
+                  ∙ ap (λ xs. laid_before x f (start_strip d f t) i (within t) (s.item - i) ++ xs)
+                  (cut-is h s end e walked a at (ends_at_seam end))
+                  ∙ sym (walk-is x f (last_laid d f s.item (Some a) (ends_at_seam end)) (start_strip d f t) i (within t)
+                  (s.item - i)));
+            };
+            low = rw w.last (lower e.low (ap (λ (s : Step). s.height) walked));
+            row = e.row;
+            item = rw w.last e.item;
+            step_row = rw w.last (e.step_row ∙ ap (λ q. Some (e.row, q)) e.taken_from);
+          },
+          w.filled,
+        )
 
     -- how a column ends
     pub ends : (h : ℕ) (end : Token) → end ≡ (column x d f t h).end →
@@ -351,11 +354,26 @@ module _ (d : FlowsData) (f : Flow) (t : Token) where
             s.1.step_row cut_at.1 in
             let here : StandsFor p c.made (fill_tree d r (taken_of k) c.room) =
             subst (λ (a : ℕ). StandsFor p c.made (fill_tree d r (taken_of k) a)) (sym cut_at.0) made in
-            let own : HasColumns d p (record { row = r; from = taken_of k; height = c.room; made_at = Some c.room; filled =
-                true; made = c.made }) =
+            let own : HasColumns d p (record {
+              row = r;
+              from = taken_of k;
+              height = c.room;
+              made_at = Some c.room;
+              filled =
+                  true;
+              made = c.made;
+            }) =
             subst (λ (ts : List PlainTree). StandsFor p c.made (row_piece r (taken_of k) 0 None (plain_trees ts)))
-            (sym (filled-columns r (row-known k r s.1.item) (taken_of k) c.room)) here in
-            (let e = cut_at.0 in omega arith,
-                subst (λ (it : Item). HasColumns d p (record { row = row_number it; from = taken_of k; height =
-                    c.room; made_at = Some c.room; filled = true; made = c.made }))
-                (sym s.1.item) own)
+            (sym (filled-columns r (row-known k r s.1.item) (taken_of k) c.room)) here in (
+              let e = cut_at.0 in omega arith,
+              subst (λ (it : Item). HasColumns d p (record {
+                row = row_number it;
+                from = taken_of k;
+                height =
+                    c.room;
+                made_at = Some c.room;
+                filled = true;
+                made = c.made;
+              }))
+                  (sym s.1.item) own,
+            )

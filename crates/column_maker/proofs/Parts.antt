@@ -1,8 +1,7 @@
 -- A row that stands whole has the columns of its fills, one after another.
-use Rattle.std.proofs.Common.{◌≡◌, ℕ, zero, suc, ◌+◌, ◌<◌, ◌≤◌, Bool, true, false, List, [], ◌∷◌, ◌++◌, length, Option, Some}
+use Rattle.std.proofs.Common.{◌≡◌, ℕ, zero, suc, ◌<◌, true, false, List, [], ◌++◌, length, Option, Some}
 use Rattle.std.proofs.Common.{None}
-use Rattle.std.proofs.Common.{refl, sym, subst, ◌∙◌, ap, arith, append_assoc, ◌⊎◌, inl, inr, All}
-use Rattle.std.specs.List.{flat_map}
+use Rattle.std.proofs.Common.{refl, sym, subst, ◌∙◌, ap, arith, append_assoc, inl, inr}
 use Rattle.std.proofs.lemmas.List.{append-nil}
 use Rattle.mc_base.specs.PlainTree.{PlainTree, PlainTrees, plain_trees, row_piece, column as column_tree}
 use Rattle.mc_base.specs.declared.fragment.FragId.{FragId}
@@ -13,7 +12,6 @@ use Rattle.flow_data.specs.Flows.{flow_in, row_of}
 use Rattle.flow_data.specs.Soundness.{IsSound}
 use Rattle.flow_list.specs.Data.{FlowsData}
 use Rattle.flow_list.specs.Column.{Column}
-use Rattle.flow_list.specs.Folds.{Folded, fill_told}
 use Rattle.flow_list.specs.Fragments.{column_fragment, fragments_from}
 use Rattle.flow_list.specs.Rows.{all_rows, columns, end_of, fill_in, left_in}
 use Rattle.flow_list.specs.Tokens.{Token, IsPlace, IsPlaceBefore, is_end}
@@ -30,8 +28,6 @@ use Rattle.frag_pool.specs.Standing.{AllStandFor, StandsFor}
 use Rattle.frag_pool.proofs.Stays.{all-along, keeps-growing}
 use Rattle.frag_pool.proofs.Trees.{they-append, they-none}
 use Rattle.frag_maker.proofs.Growing.{grows-trial, trial-node}
-use Rattle.inner_rows.specs.Filling.{IsFilled, fill_tree}
-use Rattle.inner_rows.specs.declared.inner.Filled.{Filled}
 use Rattle.column_maker.specs.Making.{columns_in, whole_at}
 use Rattle.column_maker.specs.Wholes.{IsPart}
 
@@ -48,9 +44,11 @@ pub piece-made : (p q : Nodes) (r : ℕ) (from start : Token) (ids : List FragId
     q ≡ trial_more p (RowNode r start 0 None ids) → AllStandFor p ids trees →
     StandsFor q (Trial (length p.trial)) (row_piece r from 0 None trees)
 unfolding StandsFor
-piece-made p q r from start ids trees is more stand =
-    (ids, trial-node p q _ more ∙ ap (λ t. Some (RowNode r t 0 None ids)) is,
-        all-along p q (keeps-growing p q (grows-trial p q _ more)) ids trees stand)
+piece-made p q r from start ids trees is more stand = (
+  ids,
+  trial-node p q _ more ∙ ap (λ t. Some (RowNode r t 0 None ids)) is,
+  all-along p q (keeps-growing p q (grows-trial p q _ more)) ids trees stand,
+)
 
 module _ (d : FlowsData) (sound : IsSound d) (r : ℕ) (known : r < length d.rows) (from : Token) (h : ℕ) where
   abbrev piece : Token → PlainTree
@@ -95,7 +93,7 @@ module _ (d : FlowsData) (sound : IsSound d) (r : ℕ) (known : r < length d.row
         IsPlaceBefore d (flow_in d r) end
     next-place end is inner =
         go (subst (λ (u : Token). IsPlace d (flow_in d r) u) (fill-end ∙ sym is)
-            ((columns-advance d sound r known).fill_advances at h place).place)
+        ((columns-advance d sound r known).fill_advances at h place).place)
       where
         go : IsPlace d (flow_in d r) end → IsPlaceBefore d (flow_in d r) end
         go (inl e) = let all = at-end (flow_in d r) end e in absurd (cc)
@@ -131,7 +129,9 @@ pub column-made : (p q : Nodes) (flow : ℕ) (from start end stop : Token) (exte
     start ≡ from → stop ≡ end → far ≡ extent → q ≡ trial_more p (ColumnNode flow start stop far ids) → AllStandFor p ids trees →
     StandsFor q (Trial (length p.trial)) (column_tree flow from end extent trees)
 unfolding StandsFor
-column-made p q flow from start end stop extent far ids trees is at reach more stand =
-    (ids, trial-node p q _ more ∙ ap (λ t. Some (ColumnNode flow t stop far ids)) is
-        ∙ ap (λ t. Some (ColumnNode flow from t far ids)) at ∙ ap (λ n. Some (ColumnNode flow from end n ids)) reach,
-        all-along p q (keeps-growing p q (grows-trial p q _ more)) ids trees stand)
+column-made p q flow from start end stop extent far ids trees is at reach more stand = (
+  ids,
+  trial-node p q _ more ∙ ap (λ t. Some (ColumnNode flow t stop far ids)) is
+      ∙ ap (λ t. Some (ColumnNode flow from t far ids)) at ∙ ap (λ n. Some (ColumnNode flow from end n ids)) reach,
+  all-along p q (keeps-growing p q (grows-trial p q _ more)) ids trees stand,
+)

@@ -1,21 +1,21 @@
 -- What stands in a column stays below 2^63.
-use Rattle.std.proofs.Common.{◌≡◌, ℕ, ◌+◌, ◌<◌, ◌≤◌, ◌^◌, List, [], ◌∷◌, Some, true, false, drop, sum_by, ap, arith, length, refl}
+use Rattle.std.proofs.Common.{◌≡◌, ℕ, ◌+◌, ◌<◌, ◌≤◌, ◌^◌, List, [], ◌∷◌, false, sum_by, ap, arith, length, refl}
 use Rattle.flow_list.specs.Data.{Edge, Flow, FlowsData}
 use Rattle.flow_data.specs.Flows.{amount, box_of, flow_of, item_of, seam_of}
-use Rattle.flow_data.specs.Soundness.{IsSound, IsSoundFlow}
+use Rattle.flow_data.specs.Soundness.{IsSound}
 use Rattle.flow_data.proofs.BoxSums.{open_at-le}
-use Rattle.flow_list.specs.ClonedEdges.{open_across, tops, bottoms}
+use Rattle.flow_list.specs.ClonedEdges.{open_across, tops}
 use Rattle.std.specs.Prelude.{◌==◌, ◌||◌, not}
 use Rattle.flow_list.specs.Column.{height_of, is_forced, start_strip, strip_behind}
 use Rattle.flow_list.specs.Placing.{Laid, RowLaid, laid_edges, row}
-use Rattle.flow_list.specs.Rows.{all_rows, amounts_in, heights_from, reach}
+use Rattle.flow_list.specs.Rows.{all_rows, reach}
 use Rattle.flow_list.specs.Strip.{Strip, begins, lay_all, put, strip_at}
 use Rattle.flow_list.specs.Tokens.{Token, item_number, row_start, within}
 use Rattle.flow_list.proofs.Fitting.{amounts-drop, first-amounts, first-height, open_across-le}
 use Rattle.flow_list.proofs.StripBounds.{lay_all_le, put_le}
 use Rattle.column_laws.proofs.Bounds.{reach-small}
 use Rattle.column_places.specs.declared.placing.Placing.{Placing}
-use Rattle.column_places.specs.Placing.{Leads, row_put, strip_of}
+use Rattle.column_places.specs.Placing.{Leads, strip_of}
 use Rattle.column_maker.specs.Walking.{HasRoom, strip_next}
 
 module _ (d : FlowsData) (f : Flow) (k : ℕ) (q : Token) (a : Placing) (room : HasRoom d f k q (strip_of a)) where
@@ -31,8 +31,14 @@ module _ (d : FlowsData) (f : Flow) (k : ℕ) (q : Token) (a : Placing) (room : 
     tail-room =
         let s = ap (λ (s : Strip). s.y + s.pending) led.strip in
         let t = ap (sum_by amount) whole in
-        omega (arith, s, t, put_le (strip_of a) (height_of (all_rows d) (item_of f k) q), first-height (all_rows d) q f.items k,
-            first-amounts f.seams (k + 1))
+        omega (
+          arith,
+          s,
+          t,
+          put_le (strip_of a) (height_of (all_rows d) (item_of f k) q),
+          first-height (all_rows d) q f.items k,
+          first-amounts f.seams (k + 1),
+        )
 
   -- after a row that is filled in no more than its height, the tail
   module _ (low_at : ℕ) (low : low_at ≤ height_of (all_rows d) (item_of f k) q) (b : Placing) (r : RowLaid)
@@ -62,8 +68,15 @@ module _ (d : FlowsData) (f : Flow) (k : ℕ) (q : Token) (a : Placing) (room : 
       let h = height_of (all_rows d) (item_of f k) q in
       let s = ap (λ (s : Strip). s.y + s.pending) led.strip in
       let t = ap (sum_by amount) whole in
-      omega (arith, s, t, put_le (strip_of a) h, lay_all_le (put (strip_of a) h) (seam_of f (k + 1)).tail,
-          first-height (all_rows d) q f.items k, first-amounts f.seams (k + 1))
+      omega (
+        arith,
+        s,
+        t,
+        put_le (strip_of a) h,
+        lay_all_le (put (strip_of a) h) (seam_of f (k + 1)).tail,
+        first-height (all_rows d) q f.items k,
+        first-amounts f.seams (k + 1),
+      )
 
   pub behind-room : b.y + b.margin < 2 ^ 63
   behind-room = let r = next-head-room (seam_of f (k + 1)).head refl in omega arith
@@ -74,16 +87,26 @@ pub next-room : (d : FlowsData) (f : Flow) (k : ℕ) (q : Token) (s : Strip) →
     HasRoom d f (k + 1) row_start (strip_next (all_rows d) f s k q)
 next-room d f k q s room =
     let h = height_of (all_rows d) (item_of f k) q in
-    omega (arith, put_le s h, lay_all_le (put s h) (seam_of f (k + 1)).tail,
-        lay_all_le (lay_all (put s h) (seam_of f (k + 1)).tail) (seam_of f (k + 1)).head, first-height (all_rows d) q f.items k,
-        first-amounts f.seams (k + 1))
+    omega (
+      arith,
+      put_le s h,
+      lay_all_le (put s h) (seam_of f (k + 1)).tail,
+      lay_all_le (lay_all (put s h) (seam_of f (k + 1)).tail) (seam_of f (k + 1)).head,
+      first-height (all_rows d) q f.items k,
+      first-amounts f.seams (k + 1),
+    )
 
 start-room : (d : FlowsData) (f : Flow) (t : Token) (small : reach (all_rows d) d f t < 2 ^ 60) →
     HasRoom d f (item_number t) (within t) (start_strip d f t)
 start-room d f [] small = omega (arith, amounts-drop f.seams (0 + 1))
 start-room d f (i ∷ []) small =
-    omega (arith, first-amounts f.seams i, amounts-drop f.seams i, open_across-le (λ b. (box_of d b).top) f i,
-        lay_all_le (strip_at (tops d (open_across f i)) (not (i == 0 || is_forced (seam_of f i).level))) (seam_of f i).head)
+    omega (
+      arith,
+      first-amounts f.seams i,
+      amounts-drop f.seams i,
+      open_across-le (λ b. (box_of d b).top) f i,
+      lay_all_le (strip_at (tops d (open_across f i)) (not (i == 0 || is_forced (seam_of f i).level))) (seam_of f i).head,
+    )
 start-room d f (i ∷ (j ∷ rest)) small =
     omega (arith, amounts-drop f.seams (i + 1), open_at-le (λ b. (box_of d b).top) f i)
 

@@ -1,10 +1,10 @@
 -- The rows in a column that is being placed, and the items that lead on.
-use Rattle.std.proofs.Common.{◌≡◌, ℕ, ◌+◌, List, [], ◌∷◌, ◌++◌, refl, sym, subst, ◌∙◌, ap, All}
+use Rattle.std.proofs.Common.{◌≡◌, ℕ, ◌+◌, List, [], ◌∷◌, ◌++◌, sym, subst, All}
 use Rattle.std.proofs.lemmas.List.Elements.{All-cons, All-head, All-nil, All-push, All-tail, All-weaker}
 use Rattle.flow_list.specs.Data.{Edge, Flow, FlowsData, Item, Atom, Row}
 use Rattle.flow_data.specs.Flows.{item_of, row_in, rows_in, seam_of}
 use Rattle.flow_list.specs.Column.{strip_behind}
-use Rattle.flow_list.specs.Placing.{Laid, laid_edges}
+use Rattle.flow_list.specs.Placing.{laid_edges}
 use Rattle.flow_list.specs.Rows.{all_rows}
 use Rattle.flow_list.specs.Strip.{Strip, lay_all}
 use Rattle.flow_list.specs.Tokens.{Token}
@@ -70,6 +70,6 @@ passed-leads d f k q a b c first head whole after =
     let s = strip_behind (all_rows d) f (strip_of a) k q in
     let P : Strip → List Edge → Type 0 = λ t es. Leads b (laid_edges t es) (lay_all t es) c in
     let there : P s (seam_of f (k + 1)).head = subst (λ t. P t (seam_of f (k + 1)).head) first.strip
-        (subst (P (strip_of b)) whole after) in
+    (subst (P (strip_of b)) whole after) in
     leads-both a b c (item_laid (all_rows d) f (strip_of a) k q) (laid_edges s (seam_of f (k + 1)).head) s
     (lay_all s (seam_of f (k + 1)).head) first there

@@ -1,12 +1,12 @@
 -- What is laid in a column, item by item, is what the definitions lay there.
-use Rattle.std.proofs.Common.{◌≡◌, ℕ, zero, suc, ◌+◌, ◌-◌, ◌<◌, ◌≤◌, List, [], ◌∷◌, ◌++◌, refl, sym, ◌∙◌, ap, arith, append_assoc}
+use Rattle.std.proofs.Common.{◌≡◌, ℕ, zero, suc, ◌+◌, List, ◌++◌, refl, sym, ◌∙◌, ap, arith, append_assoc}
 use Rattle.std.proofs.lemmas.List.{append-nil}
 use Rattle.flow_list.specs.Data.{Flow}
-use Rattle.flow_data.specs.Flows.{item_of, seam_of}
-use Rattle.flow_list.specs.Column.{Inner, height_of, strip_behind}
-use Rattle.flow_list.specs.Fragments.{laid_before, laid_item, laid_items, strip_after}
+use Rattle.flow_data.specs.Flows.{seam_of}
+use Rattle.flow_list.specs.Column.{Inner, strip_behind}
+use Rattle.flow_list.specs.Fragments.{laid_before, laid_items, strip_after}
 use Rattle.flow_list.specs.Placing.{Laid, laid_edges}
-use Rattle.flow_list.specs.Strip.{Strip, put, lay_all}
+use Rattle.flow_list.specs.Strip.{Strip}
 use Rattle.flow_list.specs.Tokens.{Token, row_start}
 use Rattle.flow_laws.proofs.HoldingEnds.{taken_at, taken-start}
 use Rattle.column_maker.specs.Walking.{item_laid, item_passed, strip_next, strip_to, walk_laid}
@@ -39,10 +39,10 @@ module _ (x : Inner) (f : Flow) where
       let next = strip_next x f s k q in
       ap (λ xs. item_passed x f s k q ++ xs) (walk-is last next (k + 1) row_start n)
       ∙ ap (λ t. item_passed x f s k q ++ (laid_before x f next (k + 1) row_start n ++ last
-          (strip_to x f next (k + 1) row_start n) t))
+      (strip_to x f next (k + 1) row_start n) t))
       (taken-start n)
       ∙ sym (append_assoc (item_passed x f s k q) (laid_before x f next (k + 1) row_start n)
-          (last (strip_to x f next (k + 1) row_start n) row_start))
+      (last (strip_to x f next (k + 1) row_start n) row_start))
       ∙ ap (λ xs. xs ++ last (strip_to x f next (k + 1) row_start n) row_start) (sym (before-more s k q n))
 
   -- n + 1 items that stand whole

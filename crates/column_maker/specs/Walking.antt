@@ -1,5 +1,5 @@
 -- What is laid in a column, item by item: each with the tail after it and the head before the next one.
-use Rattle.std.specs.Prelude.{ℕ, zero, suc, ◌+◌, ◌<◌, ◌^◌, List, [], ◌∷◌, ◌++◌, drop}
+use Rattle.std.specs.Prelude.{ℕ, zero, suc, ◌+◌, ◌<◌, ◌^◌, List, ◌∷◌, ◌++◌, drop}
 use Rattle.flow_list.specs.Data.{Flow, FlowsData}
 use Rattle.flow_data.specs.Flows.{boxes_in, item_of, seam_of}
 use Rattle.flow_list.specs.ClonedEdges.{bottoms}

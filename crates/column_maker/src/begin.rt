@@ -90,7 +90,12 @@ fn begin_at(alloc: Global, flows: &Flows, flow: u32, i: u32) -> Result<Placing, 
 }
 
 /// A column that begins at a place before the flow's end.
-pub fn begin_column(alloc: Global, flows: &Flows, flow: u32, from: &Token) -> Result<Placing, NoMemory>
+pub fn begin_column(
+    alloc: Global,
+    flows: &Flows,
+    flow: u32,
+    from: &Token,
+) -> Result<Placing, NoMemory>
     requires flow { flow < length flows.now.flows }
     requires place { IsPlaceBefore flows.now (flow_of flows.now flow) from.now }
     ensures places { IfOk result (λ p. (more : List Laid) → with_more p more ≡ places_in flows.now (flow_of flows.now flow)

@@ -117,8 +117,24 @@ pub fn stand_item<I: InnerRows, C: Tally>(
         below: 0,
         folds: 0,
     };
-    let stood = stand_one(alloc, inner, flows, k, item, from, at, book, pool, &mut counts);
-    tally.below(counts.reads.saturating_add(counts.below).saturating_add(counts.folds));
+    let stood = stand_one(
+        alloc,
+        inner,
+        flows,
+        k,
+        item,
+        from,
+        at,
+        book,
+        pool,
+        &mut counts,
+    );
+    tally.below(
+        counts
+            .reads
+            .saturating_add(counts.below)
+            .saturating_add(counts.folds),
+    );
     stood?;
     at.lay_all(alloc, seam_at(flows, flow, k + 1).tail.as_slice())?;
     Ok(())

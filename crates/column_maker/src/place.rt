@@ -146,7 +146,7 @@ fn stand_last<I: InnerRows, C: Tally>(
     requires made { AllHaveColumns flows.now pool.old (rows_of at.old) }
     ensures places { OnOk result ((more : List Laid) →
         with_more at.old (last_laid flows.now (flow_of flows.now flow) k (option_map cut_room cut) reached (strip_of at.old)
-            from.now
+        from.now
         ++ more) ≡ with_more at.new more) }
     ensures margin { OnOk result (HasMargin at.new) }
     ensures room { OnOk result (at.new.y + at.new.margin < 2 ^ 63) }
@@ -211,7 +211,9 @@ pub fn place_column<I: InnerRows, C: Tally>(
     let last = last_of(end);
     let mut taken = taken_first(alloc, from);
     for k in from.item()..last {
-        pass_item(alloc, inner, flows, flow, k, &taken, &mut at, book, pool, tally)?;
+        pass_item(
+            alloc, inner, flows, flow, k, &taken, &mut at, book, pool, tally,
+        )?;
         taken = Token::start(alloc, 0);
     }
     let reached = is_at_seam(end);

@@ -99,7 +99,17 @@ pub fn whole_row<I: InnerRows>(
     let _counts = flow_counts(flows);
     let mut columns = List::new(alloc);
     let mut at = from.copy();
-    while let Some(next) = add_fill(inner, flows, row, &at, height, &mut columns, book, pool, tally)? {
+    while let Some(next) = add_fill(
+        inner,
+        flows,
+        row,
+        &at,
+        height,
+        &mut columns,
+        book,
+        pool,
+        tally,
+    )? {
         at = next;
     }
     let id = add_node(

@@ -12,7 +12,7 @@ pub returns-in_ok-stand_row-in-Row-clause-made : goal.returns-in_ok-stand_row-in
 returns-in_ok-stand_row-in-Row-clause-made g c =
     rw c.in_ok-stand_row-in-Row.ensures.rows
     (one-more-made c.args.flows.now c.args.pool.now c.whole_row.new.pool
-        (grows-trans c.args.pool.now c.size.new.pool c.whole_row.new.pool
-            (grows-same-trial c.args.pool.now c.size.new.pool c.in_ok-height-in-Row.ensures.pool)
-            c.in_ok-made-in-Row.ensures.grown)
-        _ _ c.requires.made (rw c.copy.ensures c.in_ok-made-in-Row.ensures.frag))
+    (grows-trans c.args.pool.now c.size.new.pool c.whole_row.new.pool
+    (grows-same-trial c.args.pool.now c.size.new.pool c.in_ok-height-in-Row.ensures.pool)
+    c.in_ok-made-in-Row.ensures.grown)
+    _ _ c.requires.made (rw c.copy.ensures c.in_ok-made-in-Row.ensures.frag))

@@ -33,8 +33,8 @@ returns-in_err-id-clause-engine g c =
     g.met.I.InnerRows.stays c.place_column.new.inner c.args.flows.now c.place_column.new.book c.place_column.new.book
     c.place_column.new.pool c.add_node.new.pool c.in_ok-placed.ensures.engine (extends-refl c.place_column.new.book)
     (kept-grows-grows c.place_column.new.pool c.add_node.new.pool
-        (grows-trans c.place_column.new.pool c.build_all.new.pool c.add_node.new.pool c.in_ok-kids.ensures.grown
-            (grows-same c.build_all.new.pool c.add_node.new.pool c.in_err-id.ensures.err)))
+    (grows-trans c.place_column.new.pool c.build_all.new.pool c.add_node.new.pool c.in_ok-kids.ensures.grown
+    (grows-same c.build_all.new.pool c.add_node.new.pool c.in_err-id.ensures.err)))
 
 pub returns-clause-frag : goal.returns-clause-frag
 returns-clause-frag g c =
@@ -53,18 +53,18 @@ returns-clause-frag g c =
     (c.in_ok-kids.ensures.trees (columns_in d) rows) in
     rw c.in_ok-id.ensures.id
     (column-made pool c.add_node.new.pool c.args.flow t c.copy.result _ c.copy-2.result _ c.args.decided.now.extent
-        c.in_ok-kids.kids _ c.copy.ensures (c.copy-2.ensures ∙ c.requires.end) c.requires.extent c.in_ok-id.ensures.ok stand)
+    c.in_ok-kids.kids _ c.copy.ensures (c.copy-2.ensures ∙ c.requires.end) c.requires.extent c.in_ok-id.ensures.ok stand)
 
 pub returns-clause-engine : goal.returns-clause-engine
 returns-clause-engine g c =
     g.met.I.InnerRows.stays c.place_column.new.inner c.args.flows.now c.place_column.new.book c.place_column.new.book
     c.place_column.new.pool c.add_node.new.pool c.in_ok-placed.ensures.engine (extends-refl c.place_column.new.book)
     (kept-grows-grows c.place_column.new.pool c.add_node.new.pool
-        (grows-trans c.place_column.new.pool c.build_all.new.pool c.add_node.new.pool c.in_ok-kids.ensures.grown
-            (grows-trial c.build_all.new.pool c.add_node.new.pool _ c.in_ok-id.ensures.ok)))
+    (grows-trans c.place_column.new.pool c.build_all.new.pool c.add_node.new.pool c.in_ok-kids.ensures.grown
+    (grows-trial c.build_all.new.pool c.add_node.new.pool _ c.in_ok-id.ensures.ok)))
 
 pub returns-clause-grown : goal.returns-clause-grown
 returns-clause-grown g c =
     grows-trans c.args.pool.now c.place_column.new.pool c.add_node.new.pool c.in_ok-placed.ensures.grown
     (grows-trans c.place_column.new.pool c.build_all.new.pool c.add_node.new.pool c.in_ok-kids.ensures.grown
-        (grows-trial c.build_all.new.pool c.add_node.new.pool _ c.in_ok-id.ensures.ok))
+    (grows-trial c.build_all.new.pool c.add_node.new.pool _ c.in_ok-id.ensures.ok))

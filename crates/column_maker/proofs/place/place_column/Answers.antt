@@ -32,8 +32,8 @@ loop-k-init g c =
       taken = rw c.item-k.ensures (c.taken_first-taken.ensures ∙ first-taken d f t);
       places = rw c.item-k.ensures
           (starts d c.args.flow c.flow_counts-counts.ensures.sound c.requires.flow t c.requires.place c.requires.some
-              c.args.pool.now c.args.height c.args.end.now c.args.cut c.requires.end c.requires.cut c.last_of-last.result
-              c.last_of-last.ensures c.in_ok-at.at b.strip b.places c.taken_first-taken.result c.taken_first-taken.ensures);
+          c.args.pool.now c.args.height c.args.end.now c.args.cut c.requires.end c.requires.cut c.last_of-last.result
+          c.last_of-last.ensures c.in_ok-at.at b.strip b.places c.taken_first-taken.result c.taken_first-taken.ensures);
       margin = b.margin;
       room = room-same d f c.item-k.result _ c.taken_first-taken.result _ (strip_of c.in_ok-at.at) _ c.item-k.ensures
           c.taken_first-taken.ensures b.strip (first-room d c.args.flow c.flow_counts-counts.ensures.sound c.requires.flow t);

@@ -19,7 +19,7 @@ invariant-loop-k g l =
       later : item_number l.from ≤ l.k;
       taken : l.taken ≡ taken_of d f l.from l.k;
       places : with_more l.at (walk_laid (all_rows d) f (last_laid d f l.last (option_map cut_room l.cut) (ends_at_seam l.end))
-              (strip_of l.at) l.k l.taken (l.last - l.k)) ≡ placed_to d f l.from l.height l.end;
+          (strip_of l.at) l.k l.taken (l.last - l.k)) ≡ placed_to d f l.from l.height l.end;
       margin : HasMargin l.at;
       room : HasRoom d f l.k l.taken (strip_of l.at);
       made : AllHaveColumns d l.pool (rows_of l.at);

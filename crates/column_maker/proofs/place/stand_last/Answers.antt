@@ -14,7 +14,7 @@ pub returns-in_ok-stand_cut-in-Some-clause-made : goal.returns-in_ok-stand_cut-i
 returns-in_ok-stand_cut-in-Some-clause-made g c =
     rw c.in_ok-stand_cut-in-Some.ensures.rows
     (one-more-made c.args.flows.now c.args.pool.now c.args.pool.now (grows-refl c.args.pool.now) _ _ c.requires.made
-        (rw c.in-Some.is at c.requires.cut).1)
+    (rw c.in-Some.is at c.requires.cut).1)
 
 pub returns-in_ok-stand_item-in-None-clause-room : goal.returns-in_ok-stand_item-in-None-clause-room
 returns-in_ok-stand_item-in-None-clause-room g c =

@@ -20,9 +20,9 @@ returns-then-filled-clause-columns g c = λ from part.
     let kids = in-piece pool out.frag c.args.row c.args.at.now 0 None _ node c.in_ok-filled.ensures.frag c.get.ensures.node in
     rw (c.in_ok-push_all.ensures, c.ids_in.ensures)
     (part-all d sound c.args.row c.requires.row from c.args.height pool (c.args.columns.now ++ ids_of node) out.end
-        (ap (is_end (flow_in d c.args.row)) told.end ∙ sym told.at_end ∙ c.if-filled.true)
-        (part-more d sound c.args.row c.requires.row from c.args.height c.args.at.now c.requires.place c.args.pool.now pool
-            c.args.columns.now (ids_of node) out.end c.in_ok-filled.ensures.grown told.end kids part))
+    (ap (is_end (flow_in d c.args.row)) told.end ∙ sym told.at_end ∙ c.if-filled.true)
+    (part-more d sound c.args.row c.requires.row from c.args.height c.args.at.now c.requires.place c.args.pool.now pool
+    c.args.columns.now (ids_of node) out.end c.in_ok-filled.ensures.grown told.end kids part))
 
 pub returns-else-filled-clause-columns : goal.returns-else-filled-clause-columns
 returns-else-filled-clause-columns g c = λ from part.
@@ -35,7 +35,7 @@ returns-else-filled-clause-columns g c = λ from part.
     let kids = in-piece pool out.frag c.args.row c.args.at.now 0 None _ node c.in_ok-filled.ensures.frag c.get.ensures.node in
     rw (c.in_ok-push_all.ensures, c.ids_in.ensures)
     (part-more d sound c.args.row c.requires.row from c.args.height c.args.at.now c.requires.place c.args.pool.now pool
-        c.args.columns.now (ids_of node) out.end c.in_ok-filled.ensures.grown told.end kids part)
+    c.args.columns.now (ids_of node) out.end c.in_ok-filled.ensures.grown told.end kids part)
 
 pub returns-else-filled-clause-place : goal.returns-else-filled-clause-place
 returns-else-filled-clause-place g c =

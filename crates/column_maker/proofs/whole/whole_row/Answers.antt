@@ -10,7 +10,7 @@ loop-at-init g c = record {
   place = rw c.copy-at.ensures c.requires.place;
   part = rw (c.new-columns.ensures, c.copy-at.ensures)
       (part-first c.args.flows.now c.flow_counts-counts.ensures.sound c.args.row c.requires.row c.args.from.now c.args.height
-          c.args.pool.now c.requires.place);
+      c.args.pool.now c.requires.place);
   depth = refl;
   engine = c.requires.engine;
   book = book-refl c.args.flows.now c.args.book.now c.requires.book;
@@ -38,15 +38,15 @@ add_node-requires g c =
 pub returns-clause-frag : goal.returns-clause-frag
 returns-clause-frag g c = rw c.in_ok-id.ensures.id
     (piece-made c.add_fill.new.pool c.add_node.new.pool c.args.row c.args.from.now c.copy.result c.add_fill.new.columns _
-        c.copy.ensures c.in_ok-id.ensures.ok
-        (rw c.in_default.is at (c.in_ok-next.ensures.columns c.args.from.now c.loop-at.invariant.part)))
+    c.copy.ensures c.in_ok-id.ensures.ok
+    (rw c.in_default.is at (c.in_ok-next.ensures.columns c.args.from.now c.loop-at.invariant.part)))
 
 pub returns-clause-engine : goal.returns-clause-engine
 returns-clause-engine g c =
     g.met.I.InnerRows.stays c.add_fill.new.inner c.args.flows.now c.add_fill.new.book c.add_fill.new.book c.add_fill.new.pool
     c.add_node.new.pool c.in_ok-next.ensures.engine (extends-refl c.add_fill.new.book)
     (kept-grows-grows c.add_fill.new.pool c.add_node.new.pool
-        (grows-trial c.add_fill.new.pool c.add_node.new.pool _ c.in_ok-id.ensures.ok))
+    (grows-trial c.add_fill.new.pool c.add_node.new.pool _ c.in_ok-id.ensures.ok))
 
 pub returns-clause-grown : goal.returns-clause-grown
 returns-clause-grown g c =
