@@ -1,7 +1,6 @@
 -- A column being placed: what waits in its gap, and what ends that.
 use Rattle.std.proofs.Common.{◌≡◌, ℕ, zero, suc, ◌+◌, ◌<◌, ◌≤◌, max, Bool, true, false, cond, not, List, [], ◌∷◌, ◌++◌, length}
 use Rattle.std.proofs.Common.{map, get_or, take, drop, refl, sym, subst, ◌∙◌, ap, arith, add-one, add-zero, append_assoc}
-use Rattle.std.proofs.Common.{Option}
 use Rattle.std.proofs.lemmas.List.{append-nil, drop_more, take_more, map-append}
 use Rattle.std.specs.Prelude.{◌==◌, ◌||◌}
 use Rattle.std.proofs.lemmas.Bool.Decides.{nat_tests}

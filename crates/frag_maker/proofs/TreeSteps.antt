@@ -1,7 +1,7 @@
 -- The trees of what is placed, from one thing that stands there to the next, without a count.
-use Rattle.std.proofs.Common.{◌≡◌, ℕ, zero, suc, ◌+◌, ◌<◌, ◌≤◌, ◌==◌, Bool, true, false, cond, List, [], ◌∷◌, ◌++◌, length}
-use Rattle.std.proofs.Common.{Option, Some, None, refl, sym, ◌∙◌, ap, arith}
-use Rattle.mc_base.specs.PlainTree.{PlainTree, PlainTrees, plain_trees, piece, row_piece, atom as atom_tree}
+use Rattle.std.proofs.Common.{◌≡◌, ℕ, zero, suc, ◌≤◌, Bool, true, false, cond, List, [], ◌∷◌, length}
+use Rattle.std.proofs.Common.{Some, None, refl, ◌∙◌, ap, arith}
+use Rattle.mc_base.specs.PlainTree.{PlainTree, plain_trees, piece, row_piece, atom as atom_tree}
 use Rattle.flow_list.specs.Placing.{RowLaid, Placed, opens_at, closes_at, atom_at, row_at}
 use Rattle.flow_list.specs.Fragments.{closes_here, inside_box, behind_box, bottom_of, trees_of, all_trees}
 

@@ -1,4 +1,4 @@
-use Rattle.std.proofs.Common.{◌≡◌, ◌≤◌, ◌+◌, ◌++◌, List, [], ◌∷◌, length, refl, sym, ◌∙◌, ap, arith, All, drop}
+use Rattle.std.proofs.Common.{refl, arith}
 use Rattle.std.proofs.lemmas.List.Elements.{All-nil, All-push, All-weaker}
 use Rattle.frag_pool.specs.Nodes.{IsLive}
 use Rattle.frag_maker.proofs.Built.{built-first, built-last, built-closes, built-atom, built-row, built-opens, live-row, within-more}
