@@ -1,7 +1,6 @@
 -- What walks tell, one after another, and what a search among earlier siblings or ancestors tells.
-use Rattle.std.proofs.Common.{◌≡◌, ℕ, zero, suc, ◌+◌, ◌<◌, ◌≤◌, ◌⊎◌, inl, inr, Bool, true, false, Option, Some, None, length, refl, sym, subst, ◌∙◌, arith}
+use Rattle.std.proofs.Common.{◌≡◌, ℕ, zero, suc, ◌+◌, ◌<◌, ◌⊎◌, inl, inr, Bool, true, false, Option, Some, None, length, refl, sym, subst, arith}
 use Rattle.std.specs.Prelude.{slice_get, IfSome, IsSomeAnd, MatchOption}
-use Rattle.std.proofs.lemmas.Option.{same_Some}
 use Rattle.html_grammar.specs.declared.dom.Dom.{Dom}
 use Rattle.css_data.specs.declared.selector.Join.{Join}
 use Rattle.css_data.specs.declared.selector.Join.TheVariants.{Descendant, Child, Next, Later}
@@ -12,7 +11,7 @@ use Rattle.css_select.specs.Matching.{Stands}
 use Rattle.css_select.specs.Walking.{any_join, is_near, is_level, IsNearest, IsOn, IsStopped, JoinedBy, MeetsAt, Comes, StopsAt, Tells, UpTo}
 use Rattle.css_select.proofs.Ancestors.{ancestor_of_ancestor}
 use Rattle.css_select.proofs.Nearest.{stands_on}
-use Rattle.css_select.proofs.Ways.{also_at, any_by, comes_by, comes_on, near_ends, level_ends, up_beside, up_from, up_under}
+use Rattle.css_select.proofs.Ways.{comes_by, comes_on, near_ends, level_ends, up_beside, up_from, up_under}
 
 -- what is still to be tried
 abbrev pub Remains : Dom → Join → Option ℕ → ℕ → Type 0

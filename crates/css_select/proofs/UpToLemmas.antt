@@ -1,5 +1,5 @@
 -- The part of a selector up to its last compound is the selector.
-use Rattle.std.proofs.Common.{◌≡◌, ℕ, zero, suc, ◌+◌, ◌<◌, ◌≤◌, true, List, [], ◌∷◌, length, drop, Option, Some, None, refl, sym, ap, subst, ◌∙◌, arith}
+use Rattle.std.proofs.Common.{◌≡◌, ℕ, zero, suc, ◌+◌, ◌<◌, ◌≤◌, true, List, [], ◌∷◌, length, drop, Option, Some, refl, sym, ap, subst, arith}
 use Rattle.std.specs.Prelude.{slice_get, IsSomeAnd}
 use Rattle.std.proofs.lemmas.Option.{slice_get_within}
 use Rattle.html_grammar.specs.declared.dom.Dom.{Dom}
@@ -8,7 +8,7 @@ use Rattle.css_data.specs.declared.selector.Join.{Join}
 use Rattle.css_data.specs.declared.selector.Selector.{Selector}
 use Rattle.css_select.specs.Matching.{Stands, Leads, LeadsFromFirst}
 use Rattle.css_select.specs.Tests.{Meets}
-use Rattle.css_select.specs.Walking.{any_join, JoinedBy, MeetsAt, UpTo}
+use Rattle.css_select.specs.Walking.{any_join, MeetsAt, UpTo}
 
 -- an element and what stands behind it
 split_at : {X : Type 0} (xs : List X) (i : ℕ) (P : X → Type 0) → IsSomeAnd (slice_get xs i) P → (x : X) × (drop i xs ≡ x ∷ drop (suc i) xs) × P x

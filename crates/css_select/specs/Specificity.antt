@@ -1,6 +1,5 @@
 -- The specificity of a selector (Selectors 3, section 9).
 use Rattle.std.specs.Prelude.{◌+◌, ◌-◌, ◌^◌, List, ℕ, Bool, false, true, Option, None, Some, count_by, min, sum_by}
-use Rattle.css_data.specs.declared.selector.Compound.{Compound}
 use Rattle.css_data.specs.declared.selector.Selector.{Selector}
 use Rattle.css_data.specs.declared.selector.Test.{Test}
 use Rattle.css_data.specs.declared.selector.Test.TheVariants as tests

@@ -1,5 +1,5 @@
 -- A selector read from the right: what is left of it, and what a walk to the left tells.
-use Rattle.std.specs.Prelude.{◌≡◌, ◌⊎◌, ◌<◌, ◌+◌, ℕ, zero, suc, Bool, true, false, length, IsTrue, IsSomeAnd, Option, None, Some, slice_get}
+use Rattle.std.specs.Prelude.{◌≡◌, ◌⊎◌, ◌<◌, ◌+◌, ℕ, zero, suc, Bool, true, false, length, IsSomeAnd, slice_get}
 use Rattle.html_grammar.specs.declared.dom.Dom.{Dom}
 use Rattle.css_data.specs.declared.selector.Join.{Join}
 use Rattle.css_data.specs.declared.selector.Join.TheVariants as joins
@@ -7,13 +7,14 @@ use Rattle.css_data.specs.declared.selector.Selector.{Selector}
 use Rattle.css_select.specs.declared.walk.Walk.{Walk}
 use Rattle.css_select.specs.declared.walk.Walk.TheVariants as walks
 use Rattle.css_select.specs.Matching.{Stands}
-use Rattle.css_select.specs.Places.{ParentsAreEarlier}
+use Rattle.css_select.specs.Places.{ElementsEnd, ParentsAreEarlier}
 use Rattle.css_select.specs.Tests.{Meets}
 
--- there is one join less than compounds, and parents are earlier
+-- there is one join less than compounds, parents are earlier, and elements end
 pub record IsReady (selector : Selector) (dom : Dom) : Type 0 where
   pub joined : length selector.joins + 1 ≡ length selector.compounds
   pub parents : ParentsAreEarlier dom
+  pub ends : ElementsEnd dom
 
 -- joins to whose left one element at most can stand
 abbrev pub is_near : Join → Bool

@@ -1,4 +1,4 @@
-use Rattle.std.proofs.Common.{◌≡◌, true, false, get_or, length, nat_eq, ◌∙◌}
+use Rattle.std.proofs.Common.{◌≡◌, true, get_or, length, nat_eq, ◌∙◌}
 use Rattle.std.proofs.lemmas.Bool.{eqb-true, both_ways, le-ltb}
 use Rattle.css_select.proofs.AttributeLemmas.{dashed_from, front_of_dashed}
 use Rattle.css_select.proofs.attributes.begins_dashed.Goals as goal

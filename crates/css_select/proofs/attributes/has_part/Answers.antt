@@ -1,6 +1,6 @@
-use Rattle.std.proofs.Common.{◌≡◌, true, false, refl, length, below_more, sym, ◌∙◌}
+use Rattle.std.proofs.Common.{refl, length, below_more, sym, ◌∙◌}
 use Rattle.std.proofs.lemmas.Bool.{eqb-true, eq-eqb, iff_false}
-use Rattle.css_select.proofs.AttributeLemmas.{part_at, none_inside, empty_part, none_before_end}
+use Rattle.css_select.proofs.AttributeLemmas.{part_at, empty_part, none_before_end}
 use Rattle.css_select.proofs.attributes.has_part.Goals as goal
 
 pub returns-then-begins_at : goal.returns-then-begins_at

@@ -1,4 +1,4 @@
-use Rattle.std.proofs.Common.{◌≡◌, true, false, length, sym, ◌∙◌}
+use Rattle.std.proofs.Common.{◌≡◌, false, length, sym, ◌∙◌}
 use Rattle.std.proofs.lemmas.Bool.{eqb-false}
 use Rattle.css_select.proofs.AttributeLemmas.{word_from, from_word, some_word}
 use Rattle.css_select.proofs.attributes.has_word.Goals as goal

@@ -1,4 +1,4 @@
-use Rattle.std.proofs.Common.{◌≡◌, subst}
+use Rattle.std.proofs.Common.{subst}
 use Rattle.css_select.specs.declared.walk.Walk.{Walk}
 use Rattle.css_select.specs.Walking.{any_join, is_level, Tells}
 use Rattle.css_select.proofs.Searches.{tells_any, tells_on}

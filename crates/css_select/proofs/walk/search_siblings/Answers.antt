@@ -1,9 +1,9 @@
-use Rattle.std.proofs.Common.{◌≡◌, ℕ, suc, ◌-◌, true, false, Option, None, Some, refl, subst, sym, arith}
+use Rattle.std.proofs.Common.{◌≡◌, ℕ, suc, ◌-◌, false, Option, refl, subst, sym, arith}
 use Rattle.std.proofs.lemmas.Bool.{iff_false}
 use Rattle.css_data.specs.declared.selector.Join.TheVariants.{Later}
 use Rattle.css_select.specs.declared.walk.Walk.{Walk}
 use Rattle.css_select.specs.declared.walk.Walk.TheVariants as walks
-use Rattle.css_select.specs.Walking.{any_join, is_near, is_level, MeetsAt, Tells, UpTo}
+use Rattle.css_select.specs.Walking.{is_near, is_level, MeetsAt, Tells, UpTo}
 use Rattle.css_select.proofs.Searches.{found_sibling, search_begins, search_goes_on, search_ends, stops_above, IsSearching}
 use Rattle.css_select.proofs.walk.search_siblings.Goals as goal
 

@@ -1,4 +1,4 @@
-use Rattle.std.proofs.Common.{◌≡◌, ℕ, ap, subst, arith}
+use Rattle.std.proofs.Common.{ap, subst, arith}
 use Rattle.css_select.specs.declared.walk.Walk.{Walk}
 use Rattle.css_select.specs.Walking.{is_near, is_level, Tells, place_of}
 use Rattle.css_select.proofs.Searches.{tells_level, tells_on}

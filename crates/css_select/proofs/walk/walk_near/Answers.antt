@@ -1,4 +1,4 @@
-use Rattle.std.proofs.Common.{◌≡◌, ℕ, zero, suc, ◌-◌, true, false, subst, sym, arith}
+use Rattle.std.proofs.Common.{◌≡◌, ℕ, zero, suc, ◌-◌, true, false, subst, arith}
 use Rattle.std.proofs.lemmas.Bool.{iff_false}
 use Rattle.css_select.specs.Walking.{is_near, IsOn, MeetsAt}
 use Rattle.css_select.proofs.Searches.{on_lost, on_edge, on_left, on_matched}
