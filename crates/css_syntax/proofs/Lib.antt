@@ -1,3 +1,10 @@
 pub mod RuleLoop
 pub mod PieceLoop
 pub mod DigitsRead
+pub mod Folding
+pub mod BlockFaults
+pub mod Trimming
+pub mod DeclaredForms
+pub mod Pieces
+pub mod StyleTexts
+pub mod Answered

@@ -3,6 +3,11 @@
 ghost use Rattle.std.specs.Prelude.{◌≡◌, ◌<◌, ◌≤◌, ◌^◌, length};
 ghost use Rattle.css_tokens.specs.Gives.{Gives};
 ghost use Rattle.css_syntax.specs.Sheets as sheets;
+ghost use Rattle.css_syntax.specs.Styling.{IsStyle, IsStyleFault, IsStyleRefusal};
+ghost use Rattle.css_data.specs.declared.rule.RawDeclaration.{RawDeclaration as Declaration};
+ghost use Rattle.css_tokens.specs.declared.lexeme.Fault.{Fault as AFault};
+ghost use Rattle.mc_base.specs.declared.refusal.Refusal.TheVariants.{NoMemory};
+ghost use Rattle.std.specs.Prelude.{List as AList, Ok, Err, IfOk, IfErr, ◌⊎◌};
 ghost use Rattle.css_syntax.specs.Answers.{IsUnlessMemory};
 
 use crate::blocks::declarations;
@@ -109,18 +114,37 @@ pub fn parse_sheet(alloc: Global, text: &[u8]) -> Result<Sheet, Refusal>
     }
 }
 
-/// The declarations of a style attribute, a text of at most 2^28 bytes, in order.
-///
-/// Pieces that are no declaration, and those with a backslash, are left out. `Refusal::Grammar` is the first fault, `s1` to
-/// `s4` as in a sheet. Out of memory may be answered for every text.
+/// What the function on lists says of a style attribute.
 #[tactic(auto, unfolding(crate::specs::Sheets::declarations_in))]
-pub fn parse_declarations(alloc: Global, text: &[u8]) -> Result<List<RawDeclaration>, Refusal>
+fn declarations_in(alloc: Global, text: &[u8]) -> Result<List<RawDeclaration>, Refusal>
     requires { length text.now ≤ 2 ^ 28 }
-    ensures exact { IsUnlessMemory result (sheets.declarations_in text.now) }
+    ensures { IsUnlessMemory result (sheets.declarations_in text.now) }
 {
     match lexemes(alloc, text) {
         Ok(lexemes) => declarations_from(alloc, lexemes.as_slice()),
         Err(ReadError::Memory) => Err(Refusal::NoMemory),
         Err(ReadError::Fault(fault)) => Err(grammar_refusal(fault)),
     }
+}
+
+/// The declarations of a style attribute, a text of at most 2^28 bytes, in order (CSS Syntax 3, section 5.4.5).
+///
+/// Pieces that are no declaration, and those with a backslash, are left out. `Refusal::Grammar` is the first fault, `s1` to
+/// `s4` as in a sheet. Out of memory may be answered for every text.
+pub fn parse_declarations(alloc: Global, text: &[u8]) -> Result<List<RawDeclaration>, Refusal>
+    requires { length text.now ≤ 2 ^ 28 }
+    // What is answered are the declarations that the text says.
+    ensures found { IfOk result (λ all. IsStyle text.now all) }
+    // What the text says is answered, and nothing else, unless memory runs out.
+    ensures only { (all : AList Declaration) → IsStyle text.now all → IsUnlessMemory result (Ok all) }
+    // The text says no others.
+    ensures one { IfOk result (λ all. (other : AList Declaration) → IsStyle text.now other → other ≡ all) }
+    // A refusal has its reason, the first fault, unless memory ran out.
+    ensures refused { IfErr result (λ e. (e ≡ NoMemory) ⊎ IsStyleRefusal text.now e) }
+    // A text with a first fault is refused by it, unless memory runs out.
+    ensures told { (f : AFault) → IsStyleFault text.now f → IsUnlessMemory result (Err (sheets.grammar_refusal f)) }
+    // Which answer it is.
+    ensures exact { IsUnlessMemory result (sheets.declarations_in text.now) }
+{
+    declarations_in(alloc, text)
 }
