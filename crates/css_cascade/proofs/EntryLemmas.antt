@@ -26,6 +26,13 @@ get_last : {X : Type 0} (xs : List X) (x : X) → slice_get (xs ++ x ∷ []) (le
 get_last [] x = refl
 get_last (y ∷ xs) x = get_last xs x
 
+abbrev size : Option Style → Option ℕ
+size style = option_map (λ (s : Style). length_or medium s.font_size) style
+
+inside : (n m : ℕ) → (n ≡ 0 → ⊥) → n ≤ m → 0 < m
+inside zero m some h = absurd (some refl)
+inside (suc n) m some h = omega arith
+
 module _ (xs ys : List (Option NodeStyle)) where
   entry_kept : (k : ℕ) → k < length xs → entry_at (xs ++ ys) k ≡ entry_at xs k
   entry_kept k h = ap (option_and_then itself) (get_front xs ys k h)
@@ -44,25 +51,20 @@ module _ (xs ys : List (Option NodeStyle)) where
   root_kept : (n : ℕ) → n ≤ length xs → root_size (xs ++ ys) n ≡ root_size xs n
   root_kept n h = by (nat_eq n 0) refl
     where
-      abbrev size : Option Style → Option ℕ
-      size style = option_map (λ (s : Style). length_or medium s.font_size) style
-
       by : (b : Bool) → nat_eq n 0 ≡ b
           → (if b then None else size (style_at (xs ++ ys) 0)) ≡ (if b then None else size (style_at xs 0))
       by true e = refl
-      by false e = ap size (style_kept 0 (let some = eqb-false n 0 e in inside n some h))
-        where
-          inside : (n : ℕ) → (n ≡ 0 → ⊥) → n ≤ length xs → 0 < length xs
-          inside zero some h = absurd (some refl)
-          inside (suc n) some h = omega arith
+      by false e = ap size (style_kept 0 (inside n (length xs) (eqb-false n 0 e) h))
 
   pub styled_kept : (sheets : List Sheet) (dom : Dom) (own : List Setting) (n : ℕ) (entry : NodeStyle) → ParentsAreEarlier dom
       → n ≤ length xs → IsStyled sheets dom own xs n entry → IsStyled sheets dom own (xs ++ ys) n entry
   styled_kept sheets dom own n entry earlier h it =
+      let parent = sym (parent_kept dom n earlier h) in
+      let root = sym (root_kept n h) in
       record {
         winning = it.winning;
         won = it.won;
-        style = it.style ∙ (λ i. style_by (computed_value it.winning (parent_kept dom n earlier h (~ i)) (root_kept n h (~ i))));
+        style = it.style ∙ (λ i. style_by (computed_value it.winning (parent i) (root i)));
         refused = it.refused;
       }
 
@@ -79,14 +81,14 @@ sooner : (k n : ℕ) → k < n + 1 → (k < n) ⊎ (k ≡ n)
 sooner k n h = elim (cases_lt k n) [ inl a ↦ inl a | inr b ↦ inr (omega arith) ]
 
 module _ (sheets : List Sheet) (dom : Dom) (earlier : ParentsAreEarlier dom) (xs : List (Option NodeStyle)) (n : ℕ)
-    (size : length xs ≡ n) where
+    (long : length xs ≡ n) where
   made : (entry : Option NodeStyle) → IsEntry (all_sheets sheets) dom (own_at dom n) xs n entry → IsElementAt dom n
       → HasEntry sheets dom (xs ++ entry ∷ []) n
   made None none element = absurd (none element)
   made (Some entry) it element =
       record {
         entry = entry;
-        stands = ap (option_and_then itself) (ap (slice_get (xs ++ Some entry ∷ [])) (sym size) ∙ get_last xs (Some entry));
+        stands = ap (option_and_then itself) (ap (slice_get (xs ++ Some entry ∷ [])) (sym long) ∙ get_last xs (Some entry));
         styled = styled_kept xs (Some entry ∷ []) (all_sheets sheets) dom (own_at dom n) n entry earlier (omega arith) it;
       }
 
@@ -94,7 +96,7 @@ module _ (sheets : List Sheet) (dom : Dom) (earlier : ParentsAreEarlier dom) (xs
       → IsEntry (all_sheets sheets) dom (own_at dom n) xs n entry → HasEntries sheets dom (n + 1) (xs ++ entry ∷ [])
   entries_more so_far entry it =
       record {
-        size = length-append xs (entry ∷ []) ∙ ap (λ k. k + 1) size;
+        size = length-append xs (entry ∷ []) ∙ ap (λ k. k + 1) long;
         each = λ k below element. elim (sooner k n below) [
           | inl before ↦ has_kept xs (entry ∷ []) sheets dom k earlier (omega arith) (so_far k before element)
           | inr now ↦ subst (HasEntry sheets dom (xs ++ entry ∷ [])) (sym now)
@@ -107,7 +109,7 @@ pub element_has_entry : (sheets : List Sheet) (dom : Dom) (styles : List (Option
     → IsCascaded sheets dom styles → IsElementAt dom n → IsSome (entry_at styles n)
 element_has_entry sheets dom styles n cascaded element =
     let it = cascaded.each n element in
-    subst IsSome (sym it.stands) tt
+    subst IsSome (sym it.stands) refl
 
 -- no node has its entry yet
 pub no_entries : (sheets : List Sheet) (dom : Dom) (xs : List (Option NodeStyle)) → xs ≡ [] → HasEntries sheets dom 0 xs
@@ -121,6 +123,6 @@ pub entries_step : (sheets : List Sheet) (dom : Dom) → ParentsAreEarlier dom �
     → (new : List (Option NodeStyle)) → new ≡ xs ++ entry ∷ [] → HasEntries sheets dom (n + 1) new
 entries_step sheets dom earlier xs n so_far before same own sets entry it new is =
     let here : IsEntry (all_sheets sheets) dom (own_at dom n) xs n entry =
-        subst (λ o. IsEntry (all_sheets sheets) dom o xs n entry) sets
-        (subst (λ b. IsEntry (all_sheets sheets) dom own b n entry) same it) in
+    subst (λ o. IsEntry (all_sheets sheets) dom o xs n entry) sets
+    (subst (λ b. IsEntry (all_sheets sheets) dom own b n entry) same it) in
     subst (HasEntries sheets dom (n + 1)) (sym is) (entries_more sheets dom earlier xs n so_far.size so_far.each entry here)

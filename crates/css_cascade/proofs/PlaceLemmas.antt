@@ -80,7 +80,7 @@ pub placed : (i : ℕ) → i < 60 → Placed i
 placed i small = elim (slice_get_cases all i).1 [
   | inl (target, below, at, _) ↦
       let number : slice_get (count_from 0 60) i ≡ Some (target_place target) = ap (λ xs. slice_get xs i) (sym places)
-          ∙ (slice_get-map target_place all i ∙ ap (option_map target_place) at) in
+      ∙ (slice_get-map target_place all i ∙ ap (option_map target_place) at) in
       let same = counted 0 60 i (target_place target) number in
       record { target = target; place = omega (arith, same) }
   | inr (past, _) ↦ let long : length all ≡ 60 = refl in absurd (omega (arith, past, small, long))

@@ -44,9 +44,9 @@ winner_is found size property =
     let small = property_within property in
     let below : property_place property < length found = omega (arith, small, size) in
     ap joined (
-      slice_get-map value_of (take 40 found) (property_place property)
-      ∙ ap (option_map value_of) (get_front found 40 (property_place property) small
-              ∙ slice_get-get_or found (property_place property) None below)
+    slice_get-map value_of (take 40 found) (property_place property)
+    ∙ ap (option_map value_of) (get_front found 40 (property_place property) small
+    ∙ slice_get-get_or found (property_place property) None below)
     )
 
 refused_is : (g : Given) (name : ConstructName) → given_refusal g ≡ Some name → g ≡ given.Refused name
@@ -61,20 +61,27 @@ pub record First (found : List (Option Offer)) (name : ConstructName) : Type 0 w
   pub refused : refusal_of (get_or found at None) ≡ Some name
   pub first : (k : ℕ) → k < at → refusal_of (get_or found k None) ≡ None
 
+before_more : (offer : Option Offer) (rest : List (Option Offer)) (at : ℕ) → refusal_of offer ≡ None
+    → ((k : ℕ) → k < at → refusal_of (get_or rest k None) ≡ None) → (k : ℕ) → k < suc at
+    → refusal_of (get_or (offer ∷ rest) k None) ≡ None
+before_more offer rest at e first zero h = e
+before_more offer rest at e first (suc k) h = first k (omega arith)
+
+first_more : (offer : Option Offer) (rest : List (Option Offer)) (name : ConstructName) → refusal_of offer ≡ None → First rest name
+    → First (offer ∷ rest) name
+first_more offer rest name e f =
+    let b = f.below in
+    record { at = suc f.at; below = omega (arith, b); refused = f.refused; first = before_more offer rest f.at e f.first }
+
 first_is : (found : List (Option Offer)) (name : ConstructName) → first_refusal found ≡ Some name → First found name
 first_is [] name h = absurd cc
 first_is (offer ∷ rest) name h = by (refusal_of offer) refl h (first_is rest name)
   where
     by : (o : Option ConstructName) → refusal_of offer ≡ o → or_else o (first_refusal rest) ≡ Some name
         → (first_refusal rest ≡ Some name → First rest name) → First (offer ∷ rest) name
-    by None e h more =
-        let f = more h in
-        record { at = suc f.at; below = let b = f.below in omega (arith, b); refused = f.refused; first = before f }
-      where
-        before : First rest name → (k : ℕ) → k < suc f.at → refusal_of (get_or (offer ∷ rest) k None) ≡ None
-        before f zero h = e
-        before f (suc k) h = f.first k (omega arith)
-    by (Some other) e h more = record { at = 0; below = omega arith; refused = e ∙ h; first = λ k h. absurd (omega arith) }
+    by None e h more = first_more offer rest name e (more h)
+    by (Some other) e h more =
+        record { at = 0; below = omega arith; refused = e ∙ h; first = λ k h. absurd (omega arith) }
 
 none_is : (found : List (Option Offer)) → first_refusal found ≡ None → (k : ℕ) → refusal_of (get_or found k None) ≡ None
 none_is [] h k = refl
@@ -91,8 +98,11 @@ module _ (sheets : List Sheet) (dom : Dom) (n : ℕ) (own : List Setting) (found
     (has : HasWinners sheets dom n own found) where
   pub won_values : (property : Property) → IsWonValue sheets dom n own property (winner (values_of found) property)
   won_values property =
-      record { claim = found_at found (property_place property); wins = has.wins (Laid property);
-              gives = winner_is found has.size property }
+      record {
+        claim = found_at found (property_place property);
+        wins = has.wins (Laid property);
+        gives = winner_is found has.size property;
+      }
 
   -- what is refused is what was found
   refuses_is : (target : Target) (name : ConstructName) → Refuses sheets dom n own target name
@@ -129,10 +139,10 @@ module _ (sheets : List Sheet) (dom : Dom) (n : ℕ) (own : List Setting) (found
       record {
         target = p.target;
         refuses = is_refused p.target name (ap (λ k. refusal_of (get_or found k None)) p.place ∙ f.refused);
-        first = λ other else below r.
-            let is = refuses_is other else r in
+        first = λ other what below r.
+            let is = refuses_is other what r in
             let none = f.first (target_place other) (let q = p.place in omega (arith, q, below)) in
-            absurd (clash else (sym none ∙ is));
+            absurd (clash what (sym none ∙ is));
       }
     where
       clash : (name : ConstructName) → None ≡ Some name → ⊥

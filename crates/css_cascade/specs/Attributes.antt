@@ -18,6 +18,10 @@ pub record IsFirstFault (nodes : List DomNode) (refusal : Refusal) : Type 0 wher
 abbrev pub AllAreRead : List DomNode → Type 0
 AllAreRead nodes = (n : ℕ) (node : DomNode) → slice_get nodes n ≡ Some node → IsOk (own_settings node)
 
+-- what was read
+abbrev pub read_as : List Setting → Result (List Setting) Refusal
+read_as settings = Ok settings
+
 abbrev pub settings_or_none : Result (List Setting) Refusal → List Setting
 settings_or_none (Ok settings) = settings
 settings_or_none (Err refusal) = []

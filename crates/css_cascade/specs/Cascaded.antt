@@ -42,8 +42,8 @@ pub record Refuses (sheets : List Sheet) (dom : Dom) (n : ℕ) (own : List Setti
 pub record IsFirstRefused (sheets : List Sheet) (dom : Dom) (n : ℕ) (own : List Setting) (name : ConstructName) : Type 0 where
   pub target : Target
   pub refuses : Refuses sheets dom n own target name
-  pub first : (other : Target) (else : ConstructName) → target_place other < target_place target
-    → Refuses sheets dom n own other else → ⊥
+  pub first : (other : Target) (what : ConstructName) → target_place other < target_place target
+      → Refuses sheets dom n own other what → ⊥
 
 abbrev pub NoneRefused : List Sheet → Dom → ℕ → List Setting → Type 0
 NoneRefused sheets dom n own = (target : Target) (name : ConstructName) → Refuses sheets dom n own target name → ⊥

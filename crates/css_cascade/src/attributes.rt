@@ -1,9 +1,10 @@
 //! The style attributes of a document.
 
-ghost use Rattle.std.specs.Prelude.{◌≡◌, ◌⊎◌, map, Ok, IfOk, IfErr};
+ghost use Rattle.std.specs.Prelude.{◌≡◌, ◌⊎◌, map, IfOk, IfErr};
 ghost use Rattle.mc_base.specs.declared.refusal.Refusal.TheVariants as refusals;
 ghost use Rattle.html_subset.specs.WellFormed.{IsWellFormed};
 ghost use Rattle.css_winner.specs.Own as own;
+ghost use Rattle.css_cascade.specs.Attributes as attributes;
 ghost use Rattle.css_cascade.specs.Attributes.{IsFirstFault};
 
 use css_winner::{Setting, own_settings};
@@ -14,7 +15,7 @@ use std::alloc::Global;
 /// What the style attribute of each node sets.
 pub fn all_own(alloc: Global, dom: &Dom) -> Result<List<List<Setting>>, Refusal>
     requires { IsWellFormed dom.now }
-    ensures read { IfOk result (λ found. map Ok found ≡ map own.own_settings dom.now.nodes) }
+    ensures read { IfOk result (λ found. map attributes.read_as found ≡ map own.own_settings dom.now.nodes) }
     ensures refused { IfErr result (λ refusal. (refusal ≡ refusals.NoMemory) ⊎ IsFirstFault dom.now.nodes refusal) }
 {
     let mut found = List::new(alloc);

@@ -8,6 +8,8 @@ ghost use Rattle.css_select.specs.Places as places;
 ghost use Rattle.css_select.specs.Places.{IsElementAt};
 ghost use Rattle.css_winner.specs.Rules.{IsReady, all_sheets};
 ghost use Rattle.css_cascade.specs.Attributes.{IsFirstFault, own_at};
+ghost use Rattle.css_computed.specs.Computing as computing;
+ghost use Rattle.css_cascade.specs.Entries as entries;
 ghost use Rattle.css_cascade.specs.Cascaded as cascaded;
 ghost use Rattle.css_cascade.specs.Cascaded.{IsCascaded, IsStyled};
 
@@ -17,6 +19,7 @@ use crate::won::{first_refusal, values_of};
 use css_computed::{Computed, Style, style_of};
 use css_data::Sheet;
 use css_select::is_element_at;
+use css_values::Value;
 use css_winner::{Rules, Setting, prepare, winners};
 use html_grammar::{Dom, NodeId};
 use mc_base::{List, NoMemory, Refusal, Units};
@@ -32,7 +35,7 @@ fn parent_of(dom: &Dom, node: usize) -> Option<usize>
 }
 
 fn style_at(nodes: &[Option<NodeStyle>], node: usize) -> Option<&Style>
-    ensures { option_copied result ≡ cascaded.style_at nodes.now node }
+    ensures { option_copied result ≡ entries.style_at nodes.now node }
 {
     match entry_at(nodes, node) {
         Some(entry) => Some(&entry.style),
@@ -51,7 +54,7 @@ fn parent_style<'a>(nodes: &'a [Option<NodeStyle>], dom: &Dom, node: usize) -> O
 }
 
 fn font_size(style: &Style) -> Units
-    ensures { result ≡ cascaded.length_or cascaded.medium style.now.font_size }
+    ensures { result ≡ computing.length_or computing.medium style.now.font_size }
 {
     match &style.font_size {
         Computed::Length { units } => *units,
@@ -89,7 +92,8 @@ fn styled(
 {
     let all = winners(alloc, rules, sheets, dom, node, own)?;
     let found = all.as_slice();
-    let winning = values_of(alloc, found)?;
+    let initial = Value::Initial;
+    let winning = values_of(alloc, found, &initial)?;
     let refused = first_refusal(found);
     let number = node as usize;
     let parent = parent_style(nodes, dom, number);
