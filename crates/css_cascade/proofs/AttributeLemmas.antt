@@ -84,7 +84,7 @@ fault_is_first own nodes n node refusal read at is =
       first = λ k other below there. all_read own (take n nodes) read k other (get_front nodes n k below ∙ there);
     }
 
--- an answer that is no want of memory is what is read
+-- an answer that is no out of memory is what is read
 pub was_read : (settings : List Setting) (r : Result (List Setting) Refusal) → IsUnlessMemory (Ok settings) r → r ≡ Ok settings
 was_read settings r (inl e) = absurd cc
 was_read settings r (inr e) = sym e

@@ -67,7 +67,8 @@ before_more : (offer : Option Offer) (rest : List (Option Offer)) (at : ℕ) →
 before_more offer rest at e first zero h = e
 before_more offer rest at e first (suc k) h = first k (omega arith)
 
-first_more : (offer : Option Offer) (rest : List (Option Offer)) (name : ConstructName) → refusal_of offer ≡ None → First rest name
+first_more : (offer : Option Offer) (rest : List (Option Offer)) (name : ConstructName) → refusal_of offer ≡ None
+    → First rest name
     → First (offer ∷ rest) name
 first_more offer rest name e f =
     let b = f.below in

@@ -49,14 +49,14 @@ pub settings_stand : (sheets : List Sheet) (s r : ℕ) (rule : StyleRule) → ru
     → settings_at (all_settings sheets) s r ≡ settings_of rule.declarations
 settings_stand sheets s r rule h =
     ap (λ o. or_none (option_and_then (λ rules. slice_get rules r) o))
-        (slice_get-map (λ (sheet : Sheet). rules_settings sheet.rules) sheets s) ∙ by (slice_get sheets s) h
+    (slice_get-map (λ (sheet : Sheet). rules_settings sheet.rules) sheets s) ∙ by (slice_get sheets s) h
   where
     by : (o : Option Sheet) → option_and_then (λ sheet. slice_get sheet.rules r) o ≡ Some rule
         → or_none (option_and_then (λ rules. slice_get rules r) (option_map (λ (sheet : Sheet). rules_settings sheet.rules) o))
         ≡ settings_of rule.declarations
     by None h = absurd cc
     by (Some sheet) h = ap or_none (slice_get-map (λ (x : StyleRule). settings_of x.declarations) sheet.rules r
-            ∙ ap (option_map (λ (x : StyleRule). settings_of x.declarations)) h)
+        ∙ ap (option_map (λ (x : StyleRule). settings_of x.declarations)) h)
 
 -- the sheet that a loop reads, after the built-in one
 pub sheet_next : (b : Sheet) (sheets : List Sheet) (n s : ℕ) (item sheet : Sheet) → s ≡ n + 1 → n < length sheets
