@@ -25,5 +25,8 @@ none-before (x ∷ xs) u rest e = cc
 pub empty-true : (d : FlowsData) → AreTrue d []
 empty-true d = record {
   each = All-nil (IsTrueEntry d);
-  order = record { once = λ first u rest e. absurd (none-before first u rest e); after_its_uses = λ first u rest e. absurd (none-before first u rest e) };
+  order = record {
+    once = λ first u rest e. absurd (none-before first u rest e);
+    after_its_uses = λ first u rest e. absurd (none-before first u rest e);
+  };
 }

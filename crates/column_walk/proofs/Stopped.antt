@@ -260,7 +260,7 @@ pub inner-stopped : (b : Option Place) (avoids : Bool) (s : Step) (h : ℕ) (mad
     begins ≡ nat_le (s.y + s.bottoms) h → good ≡ (begins && not filled.overflow)
     → spot_place inside ≡ inside_place avoids s (room s h) made → taken ≡ takes_inside b good (spot_place inside) →
     row ≡ row_at taken s.row s.item (room s h) → spot_place spot ≡ chosen_of b good (spot_place inside)
-        → is_forced spot.level ≡ false →
+    → is_forced spot.level ≡ false →
     Some short ≡ shortage h (bounds_at s h (Some made)) → lines ≡ cond begins filled.lines []
     → IsTold spot (Some s.item) (Some short) lines row out → IsStopped b avoids s h (Some made) out
 inner-stopped b avoids s h made filled seam some fills over end same_lines any begins good taken inside spot short lines row out
