@@ -180,7 +180,7 @@ module _ (d : FlowsData) (f : Flow) (t : Token) (h k : ℕ) (q : Token) (s : Str
         ∙ ap (λ i. made 0 i ending.extent ending.overflow) (number ∙ ap (λ n. n + 1) is_here)
         ∙ ap (λ x. made 0 (k + 1) x ending.overflow) (extent ∙ need-is) ∙ ap (λ o. made 0 (k + 1) st.need o) over
 
-    -- and the column ends behind it
+    -- and the column ends after it
     module _ (ends : (is_forced (seam_of f (k + 1)).level || (k + 1 == length f.items)) ≡ true) where
       whole-is : column (all_rows d) d f t h ≡ unstopped (come.passed ++ st ∷ [])
       whole-is = end-column d f t h k q s (place_opt best) (place_opt last) come.passed come.walked lt fits_st ends

@@ -22,7 +22,7 @@ use Rattle.flow_list.proofs.Walk.{behind, column_over-walk, consider, stop_place
 use Rattle.column_walk.specs.Endings.{considered}
 use Rattle.column_walk.specs.Stopping.{chosen}
 
--- what a cut is behind items that were passed
+-- what a cut is after items that were passed
 abbrev after_passed : List Step → Cut → Cut
 after_passed passed c = record { before = passed ++ c.before; stop = c.stop }
 
@@ -126,7 +126,7 @@ module _ (d : FlowsData) (f : Flow) (t : Token) (h k : ℕ) (q : Token) (s : Str
         (Some (behind st)) more
     fit-ends = one ∙ rw (le-ltb h st.need fits) refl
 
-    -- and the column ends behind it
+    -- and the column ends after it
     module _ (ends : (is_forced (seam_of f (k + 1)).level || (k + 1 == length f.items)) ≡ true) where
       no-more : more ≡ []
       unfolding steps

@@ -17,7 +17,7 @@ use Rattle.column_walk.specs.declared.endings.Spot.{Spot}
 use Rattle.column_walk.specs.Stopping.{chosen}
 
 -- Whether a column of height h with this stop, which ends at a place, fills the row that the stop is: it ends within it, or
--- behind it though there is too little room for it.
+-- after it though there is too little room for it.
 abbrev pub fills_to : ℕ → Option Step → Token → Bool
 fills_to h stop [] = false
 fills_to h stop (e ∷ []) = fills_item (Some h) stop (e - 1) && not (e == 0)

@@ -41,7 +41,7 @@ step_of here row tail = record {
   bottoms_after = here.bottoms_after;
 }
 
--- the place behind an item that is placed whole though it overflows
+-- the place after an item that is placed whole though it overflows
 abbrev pub whole_of : Here → Place
 whole_of here = record { level = rank here.next; end = (here.item + 1) ∷ []; extent = here.need; overflow = true }
 

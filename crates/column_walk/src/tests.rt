@@ -34,8 +34,8 @@ fn holds_atoms(flows: &Flows, flow: u32) -> bool
     true
 }
 
-/// What is told of a column: the item before which it ends, the level, whether it overflows, how far it reaches, how far
-/// above its height it may change, and how many items were read for it.
+/// What is told of a column: the item before which it ends, the level, whether it overflows, how far it reaches, how far above
+/// its height it may change, and how many items were read for it.
 #[derive(Clone, Copy, Debug, PartialEq)]
 struct Told(u32, Level, bool, Units, Option<Units>, u64);
 
@@ -81,8 +81,8 @@ const SIX: &[u8] =
 
 /// Two boxes, one inside the other, each with its edges again at a break.
 const CLONED: &[u8] =
-    b"flow 1\nrow 2 100 110 - balance\n( 0 0 100 auto 5 10\ns 5\n( 1 2 90 auto 2 3\ns 2\na 20\n| 0\n\
-a 20\ns 3\n) 1\ns 10\n) 0\nend\n";
+    b"flow 1\nrow 2 100 110 - balance\n( 0 0 100 auto 5 10\ns 5\n( 1 2 90 auto 2 3\ns 2\na 20\n| 0\na 20\ns 3\n\
+      ) 1\ns 10\n) 0\nend\n";
 
 const LEVELS: &[u8] =
     b"flow 1\nrow 2 100 110 - balance\na 20\n| 0\na 20\n| 1\na 20\n| 2\na 20\n| 2\na 20\nend\n";

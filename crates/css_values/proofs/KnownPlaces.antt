@@ -9,7 +9,8 @@ use Rattle.css_values.specs.declared.target.Target.TheVariants.{Laid, Unlaid}
 use Rattle.css_values.specs.Names.{properties, barred_properties}
 use Rattle.css_values.specs.Targets.{PlacesAreKnown, property_place, barred_place, target_place}
 
-property_stands : (property : Property) → slice_get (map Laid properties ++ map Unlaid barred_properties) (property_place property) ≡ Some (Laid property)
+property_stands : (property : Property)
+    → slice_get (map Laid properties ++ map Unlaid barred_properties) (property_place property) ≡ Some (Laid property)
 unfolding property_place
 property_stands own.Display = refl
 property_stands own.FontSize = refl
@@ -52,7 +53,8 @@ property_stands own.BreakAfter = refl
 property_stands own.BreakInside = refl
 property_stands own.BoxDecorationBreak = refl
 
-barred_stands : (other : Barred) → slice_get (map Laid properties ++ map Unlaid barred_properties) (target_place (Unlaid other)) ≡ Some (Unlaid other)
+barred_stands : (other : Barred) → slice_get (map Laid properties ++ map Unlaid barred_properties) (target_place (Unlaid other))
+    ≡ Some (Unlaid other)
 unfolding barred_place
 barred_stands barred.Float = refl
 barred_stands barred.Position = refl

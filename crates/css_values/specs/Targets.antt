@@ -95,4 +95,5 @@ target_place (Unlaid other) = 40 + barred_place other
 
 -- each property stands at its place
 abbrev pub PlacesAreKnown : Type 0
-PlacesAreKnown = (target : Target) → slice_get (map Laid properties ++ map Unlaid barred_properties) (target_place target) ≡ Some target
+PlacesAreKnown = (target : Target) → slice_get (map Laid properties ++ map Unlaid barred_properties) (target_place target)
+    ≡ Some target
