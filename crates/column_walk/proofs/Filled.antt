@@ -2,7 +2,7 @@
 use Rattle.std.proofs.Common.{Result, Ok, Err, IfOk, OnOk, ◌≡◌, ℕ, zero, suc, ◌+◌, ◌<◌, ◌≤◌, ◌^◌, Bool, true, false, cond, List}
 use Rattle.std.proofs.Common.{[], ◌∷◌, ◌++◌, map, length, Option, Some, None, refl, sym, ◌∙◌, ap, subst, arith, All, ◌⊎◌}
 use Rattle.std.proofs.Common.{inl, inr}
-use Rattle.std.specs.Prelude.{flat_map}
+use Rattle.std.specs.Prelude.{flat_map, IfSome}
 use Rattle.std.specs.List.{AllByRecursion as Each}
 use Rattle.std.proofs.lemmas.List.Elements.{All-from_recursion}
 use Rattle.flow_data.specs.declared.data.Flow.{Flow}
@@ -12,7 +12,7 @@ use Rattle.flow_data.specs.declared.data.Item.TheVariants.{Atom, Row}
 use Rattle.flow_data.specs.Flows.{flow_of, flow_in, item_of, row_of, rows_in}
 use Rattle.flow_data.specs.Soundness.{IsSound, NestsAtMost}
 use Rattle.flow_list.specs.Column.{Column, ColumnLine, Filled, Inner, Step, avoids_at, column, column_up_to, cut, deeper}
-use Rattle.flow_list.specs.Column.{fill_in_room, inner_lines, is_cut, room, steps_from}
+use Rattle.flow_list.specs.Column.{fill_in_room, inner_lines, is_cut, room, row_from, steps_from}
 use Rattle.flow_list.specs.Folds.{fill_told}
 use Rattle.flow_list.specs.Rows.{all_rows, columns, columns_by, fill_in, rows_to, up_to}
 use Rattle.flow_list.specs.Tokens.{Token, IsPlaceBefore, is_end, item_number, row_start, within}
@@ -24,6 +24,7 @@ use Rattle.column_laws.proofs.Depths.{rows-are-told}
 use Rattle.column_laws.proofs.Uses.{rows-at}
 use Rattle.inner_rows.specs.Filling.{IsFilled}
 use Rattle.inner_rows.specs.declared.inner.Filled.{Filled as Made}
+use Rattle.column_walk.specs.Deciding.{IsRowBefore, filled_row}
 use Rattle.column_walk.specs.Stopping.{AreShallow, IsMade, IsPlaceOf, place_of_item}
 
 -- what is told of a row's columns is what the definition makes of the row
@@ -162,6 +163,18 @@ row-at P f k item r at is all = rows-at P f.items all k r (sym at ∙ is)
 pub row-known : (d : FlowsData) → IsSound d → (f : ℕ) → f < length d.flows → (k : ℕ) (item : Item) (r : ℕ)
     → item ≡ item_of (flow_of d f) k → item ≡ Row r → r < length d.rows
 row-known d sound f lt k item r at is = row-at (λ r. r < length d.rows) (flow_of d f) k item r at is (rows-of-data d sound f lt)
+
+-- the row that is filled, where one is, is a row of the flow
+pub row-before : (d : FlowsData) → IsSound d → (n f : ℕ) → f < length d.flows → (k : ℕ) (item : Item) (q : Token) →
+    item ≡ item_of (flow_of d f) k → IsPlaceOf d (flow_of d f) k q → All (NestsAtMost d n) (rows_in (flow_of d f)) →
+    (b : Bool) (i a : ℕ) → IfSome (cond b (filled_row (row_from item q) i a) None) (IsRowBefore d n)
+row-before d sound n f lt k (Atom height kind) q is place nests true i a = tt
+row-before d sound n f lt k (Row r) q is place nests true i a = record {
+  known = row-known d sound f lt k (Row r) r is refl;
+  place = let back : item_of (flow_of d f) k ≡ Row r = sym is in rw back at place;
+  nests = row-at (NestsAtMost d n) (flow_of d f) k (Row r) r is refl nests;
+}
+row-before d sound n f lt k item q is place nests false i a = tt
 
 -- a place of each item: within the first one, else its start, where each row has an item
 start-place : (d : FlowsData) (f : Flow) (k : ℕ) (item : Item) → item_of f k ≡ item

@@ -15,7 +15,7 @@ use Rattle.column_walk.specs.declared.deciding.FilledRow.{FilledRow}
 use Rattle.column_walk.specs.declared.endings.Ending.{Ending}
 use Rattle.column_walk.specs.declared.endings.Here.{Here}
 use Rattle.column_walk.specs.declared.endings.Spot.{Spot}
-use Rattle.column_walk.specs.Deciding.{IsStopped, IsTold, fills_to, filled_at, first_line}
+use Rattle.column_walk.specs.Deciding.{IsStopped, IsTold, fills_to, filled_at, filled_row, first_line}
 use Rattle.column_walk.specs.Endings.{considered, place_opt, spot_place, step_of, whole_of}
 use Rattle.column_walk.specs.Stopping.{chosen, chosen_of, takes_inside}
 
@@ -155,8 +155,8 @@ taken-fills h s (Some b) true p (e, le, at) inside = go (nat_le p.level b.level)
     go false = rw at (at-seam h s e le)
 taken-fills h s (Some b) false p (e, le, at) inside = rw at (at-seam h s e le)
 
-abbrev pub row_at : Bool → ℕ → ℕ → Option FilledRow
-row_at taken item height = cond taken (Some (record { item = item; height = height })) None
+abbrev pub row_at : Bool → Option (ℕ × Token) → ℕ → ℕ → Option FilledRow
+row_at taken row item height = cond taken (filled_row row item height) None
 
 -- ---- the best place so far is a seam before the item
 
@@ -259,7 +259,8 @@ pub inner-stopped : (b : Option Place) (avoids : Bool) (s : Step) (h : ℕ) (mad
     (out : Decision) →
     begins ≡ nat_le (s.y + s.bottoms) h → good ≡ (begins && not filled.overflow)
     → spot_place inside ≡ inside_place avoids s (room s h) made → taken ≡ takes_inside b good (spot_place inside) →
-    row ≡ row_at taken s.item (room s h) → spot_place spot ≡ chosen_of b good (spot_place inside) → is_forced spot.level ≡ false →
+    row ≡ row_at taken s.row s.item (room s h) → spot_place spot ≡ chosen_of b good (spot_place inside)
+    → is_forced spot.level ≡ false →
     Some short ≡ shortage h (bounds_at s h (Some made)) → lines ≡ cond begins filled.lines []
     → IsTold spot (Some s.item) (Some short) lines row out → IsStopped b avoids s h (Some made) out
 inner-stopped b avoids s h made filled seam some fills over end same_lines any begins good taken inside spot short lines row out
@@ -279,7 +280,7 @@ inner-stopped b avoids s h made filled seam some fills over end same_lines any b
     stopped-of b avoids s h (Some made) spot short lines row out place unforced shorts
     (ap (map deeper) (lines_are ∙ ap (λ t. cond t filled.lines []) (begins_is ∙ sym (cut-begins b s h fills))
     ∙ ap (λ ls. cond (is_cut s h) ls []) same_lines) ∙ deeper-cut (is_cut s h))
-    (row_is ∙ ap (λ t. row_at t s.item (room s h)) (sym f)) told
+    (row_is ∙ ap (λ t. row_at t s.row s.item (room s h)) (sym f)) told
   where
     deeper-cut : (c : Bool) → map deeper (cond c made.lines []) ≡ cond c (map deeper made.lines) []
     deeper-cut true = refl

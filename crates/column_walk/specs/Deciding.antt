@@ -1,12 +1,15 @@
 -- What is decided of a column: all that its definition says, and which row it fills.
-use Rattle.std.specs.Prelude.{◌≡◌, ℕ, ◌-◌, ◌==◌, Bool, true, false, cond, not, ◌&&◌, List, [], ◌∷◌, map, Option, Some, None}
+use Rattle.std.specs.Prelude.{◌≡◌, ℕ, ◌-◌, ◌<◌, ◌==◌, Bool, true, false, cond, not, ◌&&◌, List, [], ◌∷◌, length, map, Option}
+use Rattle.std.specs.Prelude.{Some, None}
 use Rattle.flow_data.specs.declared.data.Flow.{Flow}
 use Rattle.flow_data.specs.declared.data.FlowsData.{FlowsData}
+use Rattle.flow_data.specs.Flows.{flow_in}
+use Rattle.flow_data.specs.Soundness.{NestsAtMost}
 use Rattle.flow_list.specs.Column.{ColumnLine, Filled, Inner, Place, Step, bounds_at, column, cut, deeper, inner_lines}
 use Rattle.flow_list.specs.Column.{is_cut, room, steps_from}
 use Rattle.flow_list.specs.Folds.{shortage}
 use Rattle.flow_list.specs.Fragments.{fills_item}
-use Rattle.flow_list.specs.Tokens.{Token}
+use Rattle.flow_list.specs.Tokens.{IsPlaceBefore, Token}
 use Rattle.inner_rows.specs.Filling.{IsLevel}
 use Rattle.column_walk.specs.declared.deciding.Decision.{Decision}
 use Rattle.column_walk.specs.declared.deciding.FilledRow.{FilledRow}
@@ -20,10 +23,21 @@ fills_to h stop [] = false
 fills_to h stop (e ∷ []) = fills_item (Some h) stop (e - 1) && not (e == 0)
 fills_to h stop (e ∷ (j ∷ rest)) = true
 
--- that row's item, and the height at which it is filled
+-- a row that may be asked of an engine of this depth, from a place before its end on
+pub record IsRowBefore (d : FlowsData) (depth : ℕ) (r : FilledRow) : Type 0 where
+  pub known : r.row < length d.rows
+  pub place : IsPlaceBefore d (flow_in d r.row) r.from
+  pub nests : NestsAtMost d depth r.row
+
+-- the row of an item that is filled at a height
+abbrev pub filled_row : Option (ℕ × Token) → (item height : ℕ) → Option FilledRow
+filled_row None item height = None
+filled_row (Some r) item height = Some (record { item = item; row = r.0; from = r.1; height = height })
+
+-- the row that such a column fills, in the room that is left
 abbrev pub filled_at : ℕ → Option Step → Token → Option FilledRow
 filled_at h None end = None
-filled_at h (Some s) end = cond (fills_to h (Some s) end) (Some (record { item = s.item; height = room s h })) None
+filled_at h (Some s) end = cond (fills_to h (Some s) end) (filled_row s.row s.item (room s h)) None
 
 -- the column of height h from place t of a flow on
 pub record IsDecision (inner : Inner) (d : FlowsData) (f : Flow) (t : Token) (h : ℕ) (out : Decision) : Type 0 where

@@ -14,7 +14,7 @@ ghost use Rattle.flow_list.specs.Tokens.{IsPlaceBefore, Token as Place, within};
 ghost use Rattle.frag_pool.specs.Nodes.{SameTrial};
 ghost use Rattle.flow_list.specs.Entries.{uses_in};
 ghost use Rattle.inner_rows.specs.TrueBook.{AreTrue, BookAfter};
-ghost use Rattle.column_walk.specs.Deciding.{IsDecision, IsStopped, IsUnstopped};
+ghost use Rattle.column_walk.specs.Deciding.{IsDecision, IsRowBefore, IsStopped, IsUnstopped};
 ghost use Rattle.column_walk.specs.Endings.{IsSmall, place_of, place_opt, step_of};
 ghost use Rattle.column_walk.specs.Stopping.{AreShallow, IsMade, IsPlaceOf, stop_of};
 
@@ -48,19 +48,26 @@ pub struct Decision {
     pub filled: Option<FilledRow>,
 }
 
-/// The item whose row a column fills, and the height of that in units.
-#[derive(Clone, Copy)]
+/// The row that a column fills: its item and its number, the place from which it is taken, and its height in units.
+#[derive(Drop)]
 pub struct FilledRow {
     pub item: u32,
+    pub row: u32,
+    pub from: Token,
     pub height: Units,
 }
 
 /// The row that is filled, where its place is taken.
-fn row_if(taken: bool, item: u32, height: Units) -> Option<FilledRow>
-    ensures { result ≡ cond taken (Some (record { item = item; height = height })) None }
+fn row_if(taken: bool, item: u32, row: u32, from: &Token, height: Units) -> Option<FilledRow>
+    ensures { result ≡ cond taken (Some (record { item = item; row = row; from = from.now; height = height })) None }
 {
     if taken {
-        Some(FilledRow { item, height })
+        Some(FilledRow {
+            item,
+            row,
+            from: from.copy(),
+            height,
+        })
     } else {
         None
     }
@@ -126,6 +133,8 @@ fn stop_in_row(
     here: Here,
     height: Units,
     best: Option<Ending>,
+    row: u32,
+    from: &Token,
     filled: &Filled,
 ) -> Result<Decision, NoMemory>
     requires flow { flow < length flows.now.flows }
@@ -138,11 +147,9 @@ fn stop_in_row(
     requires some { 0 < length filled.now.end }
     requires end { length filled.now.end ≤ 2 }
     requires shallow { AreShallow filled.now.lines }
-    ensures { IfOk result (λ out. (made : AnyFilled) (r : ℕ × Place) →
-        IsMade made (room (step_of here None []) height) filled.now →
-        IsStopped (place_opt best) here.avoids (step_of here (Some r) (seam_of (flow_of flows.now flow) (here.item + 1)).tail)
-        height
-        (Some made) out) }
+    ensures { IfOk result (λ out. (made : AnyFilled) → IsMade made (room (step_of here None []) height) filled.now →
+        IsStopped (place_opt best) here.avoids
+        (step_of here (Some (row, from.now)) (seam_of (flow_of flows.now flow) (here.item + 1)).tail) height (Some made) out) }
 {
     // Sealed flows are sound.
     let _counts = flow_counts(flows);
@@ -151,7 +158,7 @@ fn stop_in_row(
     let good = is_good(begins, filled.overflow);
     let tail = seam_at(flows, flow, here.item + 1).tail.as_slice();
     let inside = inside_spot(alloc, here, room, tail, filled);
-    let taken = row_if(takes_it(best, &inside, good), here.item, room);
+    let taken = row_if(takes_it(best, &inside, good), here.item, row, from, room);
     let spot = chosen_spot(alloc, best, inside, good);
     let short = row_short(here, height, begins, filled.short);
     decided(
@@ -215,7 +222,7 @@ fn stop<I: InnerRows, C: Tally>(
                 return stop_at_row(alloc, here, height, best);
             }
             let filled = fill_row(inner, flows, row, from, room, book, pool, tally)?;
-            stop_in_row(alloc, flows, flow, here, height, best, &filled)
+            stop_in_row(alloc, flows, flow, here, height, best, row, from, &filled)
         }
     }
 }
@@ -273,6 +280,7 @@ pub fn decide<I: InnerRows, C: Tally>(
     requires engine { I.is_true inner.old flows.now book.old pool.old }
     requires book { AreTrue flows.now book.old }
     ensures decided { IfOk result (IsDecision (all_rows flows.now) flows.now (flow_of flows.now flow) from.now height) }
+    ensures row { IfOk result (λ out. IfSome out.filled (IsRowBefore flows.now (I.depth inner.old))) }
     ensures depth { I.depth inner.new ≡ I.depth inner.old }
     ensures engine { I.is_true inner.new flows.now book.new pool.new }
     ensures book { BookAfter flows.now book.old book.new }

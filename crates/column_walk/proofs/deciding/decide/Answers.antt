@@ -10,7 +10,7 @@ use Rattle.column_strip.specs.Strips.{strip_of}
 use Rattle.column_walk.specs.Endings.{considered, place_opt}
 use Rattle.column_walk.proofs.Chain.{book-both, book-same, pool-both, pool-same}
 use Rattle.column_walk.proofs.Coming.{come-first, looks-of, come-next, end-decision, end-uses, stop-decision, stop-uses}
-use Rattle.column_walk.proofs.Filled.{if-ok, on-ok, on-if, place-first, place-next}
+use Rattle.column_walk.proofs.Filled.{if-ok, on-ok, on-if, place-first, place-next, row-before}
 use Rattle.column_walk.proofs.Stopped.{best-before, best-later}
 use Rattle.column_walk.proofs.deciding.decide.Goals as goal
 
@@ -183,3 +183,14 @@ stop-requires-clause-before g c =
     rw c.here_at-here.ensures.item
     (best-before c.loop-k.k c.loop-k.best c.loop-k.last c.with_last-best.result c.loop-k.before.level c.with_last-best.ensures
     c.loop-k.invariant.best c.loop-k.invariant.last)
+
+pub returns-then-here-height-clause-row : goal.returns-then-here-height-clause-row
+returns-then-here-height-clause-row g c =
+    if-ok c.stop.result _ _ (λ out told. rw told.fills
+    (row-before c.args.flows.now c.flow_counts-counts.ensures.sound (g.I.InnerRows.depth c.args.inner.now) c.args.flow
+    c.requires.flow c.loop-k.k c.item_at-item.result c.loop-k.at c.item_at-item.ensures.same c.loop-k.invariant.place
+    c.requires.nests _ _ _)) c.stop.ensures.stopped
+
+pub returns-then-ends_after-clause-row : goal.returns-then-ends_after-clause-row
+returns-then-ends_after-clause-row g c =
+    if-ok c.unstopped.result _ _ (λ out told. rw told.fills tt) c.unstopped.ensures

@@ -39,16 +39,19 @@ decided-requires c = rw c.cut_lines.ensures (cut-shallow c.begins_in-begins.resu
 pub returns : goal.returns
 returns c =
     let tail_is = c.as_slice-tail.ensures ∙ ap (λ (s : Seam). s.tail) c.seam_at.ensures.same in
-    if-ok c.decided.result _ _ (λ out told. λ made r is_made.
+    if-ok c.decided.result _ _ (λ out told. λ made is_made.
     inner-stopped (place_opt c.args.best) c.args.here.avoids
-    (step_of c.args.here (Some r) (seam_of (flow_of c.args.flows.now c.args.flow) (c.args.here.item + 1)).tail)
+    (step_of c.args.here (Some (c.args.row, c.args.from.now))
+    (seam_of (flow_of c.args.flows.now c.args.flow) (c.args.here.item + 1)).tail)
     c.args.height made c.args.filled.now
     (seam-to c.args.here.item c.args.best c.requires.before) refl c.requires.fills is_made.overflow is_made.end is_made.lines
     c.requires.some
     c.begins_in-begins.result c.is_good-good.result c.takes_it.result c.inside_spot-inside.result c.chosen_spot-spot.result
     c.row_short-short.result _ c.row_if-taken.result out
     c.begins_in-begins.ensures c.is_good-good.ensures
-    (rw (tail_is, c.room_in-room.ensures) at (c.inside_spot-inside.ensures made (Some r) (rw c.room_in-room.ensures is_made)))
-    c.takes_it.ensures (c.row_if-taken.ensures ∙ ap (λ n. row_at c.takes_it.result c.args.here.item n) c.room_in-room.ensures)
+    (rw (tail_is, c.room_in-room.ensures) at
+    (c.inside_spot-inside.ensures made (Some (c.args.row, c.args.from.now)) (rw c.room_in-room.ensures is_made)))
+    c.takes_it.ensures (c.row_if-taken.ensures
+    ∙ ap (λ n. row_at c.takes_it.result (Some (c.args.row, c.args.from.now)) c.args.here.item n) c.room_in-room.ensures)
     c.chosen_spot-spot.ensures.place c.chosen_spot-spot.ensures.level
     (c.row_short-short.ensures made (λ e. is_made.short)) c.cut_lines.ensures told) c.decided.ensures
