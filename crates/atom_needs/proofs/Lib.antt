@@ -1,1 +1,1 @@
-mod Needs
+pub mod Needs

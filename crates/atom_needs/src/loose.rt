@@ -21,7 +21,8 @@ fn loose_before(flows: &Flows, flow: u32, k: u32, across: OpenBoxes, here: OpenB
     requires across { IsAcross flows.now (flow_of flows.now flow) k across }
     requires here { IsOpen flows.now (flow_of flows.now flow) k here }
     ensures strip { strip_of result.strip ≡ unforced_start flows.now (flow_of flows.now flow) k }
-    ensures before { IsBefore flows.now (flow_of flows.now flow) k (height_at flows.now (flow_of flows.now flow) k row_start) result }
+    ensures before { IsBefore flows.now (flow_of flows.now flow) k
+        (height_at flows.now (flow_of flows.now flow) k row_start) result }
 {
     // Sealed flows are sound.
     let _counts = flow_counts(flows);

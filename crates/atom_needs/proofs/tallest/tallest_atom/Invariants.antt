@@ -9,7 +9,8 @@ use Rattle.atom_needs.proofs.tallest.tallest_atom.Given as goal
 
 abbrev pub invariant-loop-k : goal.invariant-loop-k
 invariant-loop-k g l = record {
-  tallest : tallest_of (all_rows l.flows) l.flows (flow_of l.flows l.flow) (told l.best) l.k (drop l.k (flow_of l.flows l.flow).items)
+  tallest : tallest_of (all_rows l.flows) l.flows (flow_of l.flows l.flow) (told l.best) l.k
+      (drop l.k (flow_of l.flows l.flow).items)
       ≡ tallest_from (all_rows l.flows) l.flows (flow_of l.flows l.flow) l.fn.from;
   across : IsAcross l.flows (flow_of l.flows l.flow) l.k l.across;
   here : l.k < length (flow_of l.flows l.flow).items → IsOpen l.flows (flow_of l.flows l.flow) l.k l.here;
