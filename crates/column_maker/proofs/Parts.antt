@@ -125,7 +125,8 @@ module _ (d : FlowsData) (sound : IsSound d) (r : ℕ) (known : r < length d.row
       subst (λ (ts : List PlainTree). AllStandFor q ids (plain_trees ts)) (sym all) part.stand
 
 -- a new column node stands for one in which the trees stand that its ids stand for
-pub column-made : (p q : Nodes) (flow : ℕ) (from start end stop : Token) (extent far : ℕ) (ids : List FragId) (trees : PlainTrees) →
+pub column-made : (p q : Nodes) (flow : ℕ) (from start end stop : Token) (extent far : ℕ) (ids : List FragId)
+    (trees : PlainTrees) →
     start ≡ from → stop ≡ end → far ≡ extent → q ≡ trial_more p (ColumnNode flow start stop far ids) → AllStandFor p ids trees →
     StandsFor q (Trial (length p.trial)) (column_tree flow from end extent trees)
 unfolding StandsFor

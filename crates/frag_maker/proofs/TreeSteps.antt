@@ -54,7 +54,8 @@ module _ (columns : RowLaid → List PlainTree) where
 
   -- where a box starts or continues: what stands before its end is in it
   pub trees-opens : (b y : ℕ) (starts : Bool) (xs : List Placed) → all_trees columns (opens_at b y starts ∷ xs)
-      ≡ piece b starts y (bottom_of b xs) (plain_trees (all_trees columns (inside_box b xs))) ∷ all_trees columns (behind_box b xs)
+      ≡ piece b starts y (bottom_of b xs) (plain_trees (all_trees columns (inside_box b xs))) ∷ all_trees columns
+      (behind_box b xs)
   unfolding trees_of
   trees-opens b y starts xs =
       ap (λ ts. piece b starts y (bottom_of b xs) (plain_trees ts) ∷ trees_of columns (length xs) (behind_box b xs))
