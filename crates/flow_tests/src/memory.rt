@@ -70,6 +70,17 @@ fn sink(alloc: Global, failure: Failure) -> Result<MemorySink, NoMemory> {
     MemorySink::new(alloc, 4_000_000, List::of(fails))
 }
 
+/// The status of a command. It promises nothing, so that no proof here looks at what it is.
+fn status_of(
+    alloc: Global,
+    words: &[String],
+    files: &mut MemoryFiles,
+    out: &mut MemorySink,
+    err: &mut MemorySink,
+) -> u8 {
+    run(alloc, words, files, out, err)
+}
+
 /// Runs the words of a case over its file and its failures.
 fn run_case(alloc: Global, case: &Case) -> Result<Seen, NoMemory> {
     let (words, content, (read, put, told), _) = *case;
@@ -77,7 +88,7 @@ fn run_case(alloc: Global, case: &Case) -> Result<Seen, NoMemory> {
     let mut files = files_with(alloc, content, read)?;
     let mut out = sink(alloc, put)?;
     let mut err = sink(alloc, told)?;
-    let status = run(alloc, words.as_slice(), &mut files, &mut out, &mut err);
+    let status = status_of(alloc, words.as_slice(), &mut files, &mut out, &mut err);
     Ok(Seen { status, out, err })
 }
 

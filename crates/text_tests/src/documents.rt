@@ -1,5 +1,7 @@
 //! Documents and what they are read as.
 
+ghost use Rattle.std.specs.Prelude.{◌^◌, ◌≤◌, length};
+
 use html_subset::{Attribute, Dom, DomNode, NodeKind, parse};
 use mc_base::{ConstructName, LimitName, Refusal, Text};
 use std::alloc::{AllocError, Global};
@@ -89,13 +91,20 @@ fn push_refusal(out: &mut String, refusal: &Refusal) -> Result<(), AllocError> {
     }
 }
 
+/// The document of a text. It promises nothing, so that no proof here looks at what it is.
+fn document_of(alloc: Global, text: &[u8]) -> Result<Dom, Refusal>
+    requires { length text.now ≤ 2 ^ 28 }
+{
+    parse(alloc, text)
+}
+
 /// What `parse` answers, as a line.
 fn answer(alloc: Global, text: &[u8]) -> Result<String, AllocError> {
     let mut out = String::new(alloc);
     if text.len() > 1_000_000 {
         return Ok(out);
     }
-    match parse(alloc, text) {
+    match document_of(alloc, text) {
         Ok(dom) => push_document(&mut out, &dom)?,
         Err(refusal) => push_refusal(&mut out, &refusal)?,
     }

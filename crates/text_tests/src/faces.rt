@@ -8,6 +8,13 @@ use std::alloc::Global;
 use std::process::Abort;
 use std::test::*;
 
+/// The fonts of a text. It promises nothing, so that no proof here looks at what they are.
+pub fn fonts_of(alloc: Global, text: &[u8]) -> Result<Fonts, Refusal>
+    requires { length text.now ≤ 2 ^ 28 }
+{
+    read_fonts(alloc, text)
+}
+
 /// A text, and the byte and the number of the rule of its fault.
 type Fault = (&'static [u8], u64, u8);
 
@@ -15,7 +22,7 @@ type Fault = (&'static [u8], u64, u8);
 fn fault_of(alloc: Global, text: &[u8]) -> Option<(u64, u8)>
     requires { length text.now ≤ 2 ^ 28 }
 {
-    match read_fonts(alloc, text) {
+    match fonts_of(alloc, text) {
         Err(
             Refusal::Grammar {
                 input: Input::Metrics,
@@ -78,7 +85,9 @@ fn each_rule_is_reported_where_it_is_first_broken(rt: HostRuntime) {
 
 /// A table of five faces: two families, each in some styles.
 const TABLE: &[u8] =
-    b"metrics 1\nface Sans-Serif 400 normal 800 200 500\nch 41 600\nch 61 0500\nch 1F600 1000\nface b 400 normal 700 300 0\nface B 700 italic 0 0 1\nface sans-serif 600 normal 1 2 3\nface sans-serif 0300 italic 4 5 6\n";
+    b"metrics 1\nface Sans-Serif 400 normal 800 200 500\nch 41 600\nch 61 0500\nch 1F600 1000\n\
+face b 400 normal 700 300 0\nface B 700 italic 0 0 1\nface sans-serif 600 normal 1 2 3\n\
+face sans-serif 0300 italic 4 5 6\n";
 
 /// Families, a weight, whether it is italic, and the face.
 type Choice = (&'static [&'static [u8]], u32, bool, u32);
@@ -155,13 +164,6 @@ const LENGTHS: [Lengths; 4] = [
         [3_435_973_836, 858_993_459, 4_294_967_296],
     ),
 ];
-
-/// The fonts of a text.
-fn fonts_of(alloc: Global, text: &[u8]) -> Result<Fonts, Refusal>
-    requires { length text.now ≤ 2 ^ 28 }
-{
-    read_fonts(alloc, text)
-}
 
 #[test]
 fn the_first_known_family_chooses_a_face(rt: HostRuntime) -> Result<(), Fail> {

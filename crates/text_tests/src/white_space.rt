@@ -30,17 +30,39 @@ fn written(alloc: Global, runs: &Runs) -> Result<String, AllocError> {
     Ok(text)
 }
 
-/// The pieces that are left of a run, and how many styles there are.
-fn collapsed(alloc: Global, text: &str) -> Result<(String, usize), NoMemory> {
+/// A run whose white space is collapsed. It promises nothing, so that no proof here looks at what it is.
+fn collapsed(alloc: Global, text: &str) -> Result<Runs, NoMemory> {
     let runs = run(alloc, 0, text)?;
-    let answer = collapse(alloc, &runs)?;
-    Ok((written(alloc, &answer)?, answer.styles.len()))
+    collapse(alloc, &runs)
+}
+
+/// For each piece of a run whether the place after it is an opportunity.
+fn places(alloc: Global, text: &str) -> Result<Vec<bool>, NoMemory> {
+    let runs = run(alloc, 0, text)?;
+    opportunities(alloc, &runs)
+}
+
+/// `^` for each place that is an opportunity.
+fn marks(alloc: Global, places: &[bool]) -> Result<String, AllocError> {
+    let mut marks = String::new(alloc);
+    for found in places {
+        marks.push(if *found { '^' } else { '.' })?;
+    }
+    Ok(marks)
 }
 
 fn each_is_collapsed(rt: &impl Abort, alloc: Global, cases: &[Case]) -> Result<(), Fail> {
     for (text, wanted) in cases {
-        let (found, styles) = collapsed(alloc, text)?;
-        assert!(rt; found.as_str() == *wanted && styles == 4, "of {text}");
+        let found = written(alloc, &collapsed(alloc, text)?)?;
+        assert!(rt; found.as_str() == *wanted, "of {text}");
+    }
+    Ok(())
+}
+
+fn each_is_marked(rt: &impl Abort, alloc: Global, cases: &[Case]) -> Result<(), Fail> {
+    for (text, wanted) in cases {
+        let found = marks(alloc, places(alloc, text)?.as_slice())?;
+        assert!(rt; found.as_str() == *wanted, "of {text}");
     }
     Ok(())
 }
@@ -60,29 +82,6 @@ const COLLAPSED: [Case; 13] = [
     ("{\tx\ny\n}\n b", "11111111x|y|b"),
     ("a\u{a0} b", "a\u{a0}0b"),
 ];
-
-#[test]
-fn white_space_collapses(rt: HostRuntime) -> Result<(), Fail> {
-    each_is_collapsed(&rt, rt.alloc(), &COLLAPSED)
-}
-
-/// For each piece of a run, `^` where the place after it is an opportunity.
-fn marks(alloc: Global, text: &str) -> Result<String, NoMemory> {
-    let runs = run(alloc, 0, text)?;
-    let mut marks = String::new(alloc);
-    for found in &opportunities(alloc, &runs)? {
-        marks.push(if *found { '^' } else { '.' })?;
-    }
-    Ok(marks)
-}
-
-fn each_is_marked(rt: &impl Abort, alloc: Global, cases: &[Case]) -> Result<(), Fail> {
-    for (text, wanted) in cases {
-        let found = marks(alloc, text)?;
-        assert!(rt; found.as_str() == *wanted, "of {text}");
-    }
-    Ok(())
-}
 
 const OPPORTUNITIES: [Case; 18] = [
     ("a b", ".^."),
@@ -106,6 +105,7 @@ const OPPORTUNITIES: [Case; 18] = [
 ];
 
 #[test]
-fn break_opportunities_are_found(rt: HostRuntime) -> Result<(), Fail> {
+fn white_space_collapses_and_lines_may_end(rt: HostRuntime) -> Result<(), Fail> {
+    each_is_collapsed(&rt, rt.alloc(), &COLLAPSED)?;
     each_is_marked(&rt, rt.alloc(), &OPPORTUNITIES)
 }
