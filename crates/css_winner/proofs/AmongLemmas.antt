@@ -1,5 +1,5 @@
 -- What stands among the items of two lists, one after the other.
-use Rattle.std.proofs.Common.{◌≡◌, ◌⊎◌, inl, inr, ℕ, ◌+◌, ◌<◌, List, [], ◌∷◌, ◌++◌, length, get_or, map, Option, Some, refl, sym}
+use Rattle.std.proofs.Common.{◌≡◌, ◌⊎◌, inl, inr, ℕ, ◌+◌, ◌<◌, List, [], ◌∷◌, ◌++◌, length, get_or, map, Some, refl, sym}
 use Rattle.std.proofs.Common.{ap, ◌∙◌, arith}
 use Rattle.std.specs.Prelude.{slice_get}
 use Rattle.std.specs.Option.{option_map}
@@ -44,5 +44,5 @@ pub mapped_at : {X Y : Type 0} (v : X → Y) (xs : List X) (n k : ℕ) (d : X) (
     → slice_get (map v xs) k ≡ Some y → y ≡ v (get_or xs n d)
 mapped_at v xs n k d y same below is =
     let both : Some y ≡ Some (v (get_or xs n d)) = sym is
-        ∙ (ap (slice_get (map v xs)) same ∙ (slice_get-map v xs n ∙ ap (option_map v) (slice_get-get_or xs n d below))) in
+    ∙ (ap (slice_get (map v xs)) same ∙ (slice_get-map v xs n ∙ ap (option_map v) (slice_get-get_or xs n d below))) in
     cc

@@ -1,5 +1,5 @@
 -- One more claim, and the best that was found.
-use Rattle.std.proofs.Common.{◌≡◌, ◌≢◌, ◌⊎◌, inl, inr, ℕ, zero, suc, ◌<◌, Bool, true, false, List, [], ◌∷◌, ◌++◌, length, get_or}
+use Rattle.std.proofs.Common.{◌≡◌, inl, inr, ℕ, zero, suc, ◌<◌, Bool, true, false, List, [], ◌∷◌, ◌++◌, length, get_or}
 use Rattle.std.proofs.Common.{set, Option, Some, None, refl, sym, ap, subst, ◌∙◌, arith, append_assoc, ◌+◌, take, get_or-set_same}
 use Rattle.std.proofs.Common.{get_or-set_other}
 use Rattle.std.specs.Prelude.{slice_get, MatchOption, replicate, map}
@@ -18,7 +18,7 @@ use Rattle.css_winner.specs.Precedences.{is_above}
 use Rattle.css_winner.specs.declared.best.Source.{Source}
 use Rattle.css_winner.specs.declared.setting.Setting.{Setting}
 use Rattle.css_winner.specs.Applying.{Claim, claim_at, claims_from}
-use Rattle.css_winner.specs.Best.{claim_of, is_better, place_of, kept, IsGreatest, NoneAt, IsBestAt, found_at, IsBest}
+use Rattle.css_winner.specs.Best.{claim_of, is_better, place_of, kept, IsGreatest, IsBestAt, found_at, IsBest}
 use Rattle.css_winner.proofs.AmongLemmas.{among_left, among_right, among_more}
 use Rattle.css_winner.proofs.ClaimLemmas.{claims_more}
 use Rattle.css_winner.proofs.OrderLemmas.{not_above_itself, not_above_higher}
@@ -30,7 +30,7 @@ place_within target = slice_get_within (map Laid properties ++ map Unlaid barred
 pub one_target : (a b : Target) → target_place a ≡ target_place b → a ≡ b
 one_target a b e =
     let both : Some a ≡ Some b = sym (places_known a)
-        ∙ (ap (λ n. slice_get (map Laid properties ++ map Unlaid barred_properties) n) e ∙ places_known b) in
+    ∙ (ap (λ n. slice_get (map Laid properties ++ map Unlaid barred_properties) n) e ∙ places_known b) in
     cc
 
 none_at : (n place : ℕ) → get_or {A = Option Offer} (replicate n None) place None ≡ None
@@ -120,15 +120,15 @@ module _ (seen : List Claim) (best : List (Option Offer)) (offer : Offer) (so_fa
         each = λ place small. elim (cases_eq place p) [
           | inl here ↦
               let at : found_at new place ≡ Some c = ap (λ n. found_at new n) here
-                  ∙ ap (option_map claim_of) (get_or-set_same best p (Some offer) None inside) in
+              ∙ ap (option_map claim_of) (get_or-set_same best p (Some offer) None inside) in
               let held = so_far.each p (place_within offer.setting.now.target) in
               let it = instead seen c (found_at best p) held (higher (get_or best p None) better) in
               subst (IsBestAt (seen ++ c ∷ []) place) (sym at) (subst (λ n. IsGreatest (seen ++ c ∷ []) n c) (sym here) it)
           | inr other ↦
               let at : found_at new place ≡ found_at best place =
-                  ap (option_map claim_of) (get_or-set_other best p place (Some offer) None other) in
+              ap (option_map claim_of) (get_or-set_other best p place (Some offer) None other) in
               subst (IsBestAt (seen ++ c ∷ []) place) (sym at)
-                  (still seen c place (found_at best place) (so_far.each place small) (λ e. absurd (other (sym e))))
+              (still seen c place (found_at best place) (so_far.each place small) (λ e. absurd (other (sym e))))
         ];
       }
 
@@ -138,7 +138,7 @@ module _ (seen : List Claim) (best : List (Option Offer)) (offer : Offer) (so_fa
         size = so_far.size;
         each = λ place small. still seen c place (found_at best place) (so_far.each place small)
             (λ e. subst (λ n. MatchOption (found_at best n) ⊥ (λ h. is_above c.precedence h.precedence ≡ false)) e
-                (lower (get_or best p None) not_better));
+            (lower (get_or best p None) not_better));
       }
 
   pub kept_best : IsBest (seen ++ c ∷ []) (kept best offer)
@@ -164,11 +164,11 @@ pub keep_step : (source : Source) (settings : List Setting) (i : ℕ) (s : Setti
     → IsBest (seen ++ claims_from source 0 (take (i + 1) settings)) new
 keep_step source settings i s seen best new offer within at claims is so_far =
     let step : IsBest ((seen ++ claims_from source 0 (take i settings)) ++ claim_of offer ∷ []) (kept best offer) =
-        kept_best (seen ++ claims_from source 0 (take i settings)) best offer so_far in
+    kept_best (seen ++ claims_from source 0 (take i settings)) best offer so_far in
     let shape : (seen ++ claims_from source 0 (take i settings)) ++ claim_of offer ∷ []
-        ≡ seen ++ claims_from source 0 (take (i + 1) settings) =
+    ≡ seen ++ claims_from source 0 (take (i + 1) settings) =
     append_assoc seen (claims_from source 0 (take i settings)) (claim_of offer ∷ [])
     ∙ ap (λ l. seen ++ l) (ap (λ x. claims_from source 0 (take i settings) ++ x ∷ []) claims
-            ∙ sym (claims_more source settings i s within at)) in
+    ∙ sym (claims_more source settings i s within at)) in
     subst (λ l. IsBest l new) shape
-        (subst (IsBest ((seen ++ claims_from source 0 (take i settings)) ++ claim_of offer ∷ [])) (sym is) step)
+    (subst (IsBest ((seen ++ claims_from source 0 (take i settings)) ++ claim_of offer ∷ [])) (sym is) step)

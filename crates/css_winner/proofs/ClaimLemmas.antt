@@ -1,6 +1,6 @@
 -- What the settings of a block claim.
-use Rattle.std.proofs.Common.{◌≡◌, ◌⊎◌, inl, inr, ℕ, zero, suc, ◌+◌, ◌<◌, List, [], ◌∷◌, ◌++◌, length, take, get_or, length-take}
-use Rattle.std.proofs.Common.{Some, None, refl, sym, ap, subst, ◌∙◌, arith, add-zero, add-one}
+use Rattle.std.proofs.Common.{◌≡◌, inl, inr, ℕ, zero, suc, ◌+◌, ◌<◌, List, [], ◌∷◌, ◌++◌, length, take, get_or, length-take}
+use Rattle.std.proofs.Common.{Some, refl, sym, ap, subst, ◌∙◌, arith}
 use Rattle.std.specs.Prelude.{slice_get}
 use Rattle.std.proofs.lemmas.List.{take_more}
 use Rattle.css_winner.specs.declared.setting.Setting.{Setting}
@@ -15,7 +15,7 @@ module _ (source : Source) where
   claims_append place (x ∷ xs) ys =
       let n : place + 1 + length xs ≡ place + length (x ∷ xs) = omega arith in
       ap (λ l. claim_at source place x ∷ l)
-          (claims_append (place + 1) xs ys ∙ ap (λ k. claims_from source (place + 1) xs ++ claims_from source k ys) n)
+      (claims_append (place + 1) xs ys ∙ ap (λ k. claims_from source (place + 1) xs ++ claims_from source k ys) n)
 
   -- with one more setting
   pub claims_more : (xs : List Setting) (i : ℕ) (x : Setting) → i < length xs → x ≡ get_or xs i x

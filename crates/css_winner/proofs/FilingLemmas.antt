@@ -1,6 +1,6 @@
 -- What is filed stays filed.
-use Rattle.std.proofs.Common.{◌≡◌, ◌≢◌, ◌⊎◌, inl, inr, ℕ, zero, suc, ◌<◌, Bool, true, false, cond, List, [], ◌∷◌, ◌++◌, length}
-use Rattle.std.proofs.Common.{set, Vec, Option, Some, None, ◌+◌, length-append, refl, sym, ap, subst, ◌∙◌, arith}
+use Rattle.std.proofs.Common.{◌≡◌, ◌⊎◌, inl, inr, ℕ, zero, suc, Bool, true, false, cond, List, [], ◌∷◌, ◌++◌, length}
+use Rattle.std.proofs.Common.{set, Vec, Option, Some, None, ◌+◌, length-append, refl, sym, ap, ◌∙◌}
 use Rattle.std.specs.Prelude.{slice_get, option_and_then, Contains, nat_eq}
 use Rattle.std.specs.Map.{lookup}
 use Rattle.std.specs.Cmp.Lexicographic.{pointwise}
@@ -79,7 +79,7 @@ module _ (lists : Lists) (n : ℕ) (list new : Vec Place Global) (q : Place) (th
   place_stays k at p h = elim (cases_eq k n) [
     | inl here ↦
         let old : slice_get list.items at ≡ Some p =
-            ap (option_and_then (items_at at)) (sym there ∙ ap (slice_get lists) (sym here)) ∙ h in
+        ap (option_and_then (items_at at)) (sym there ∙ ap (slice_get lists) (sym here)) ∙ h in
         ap (option_and_then (items_at at)) (ap (slice_get (set lists n new)) here ∙ get_set_same lists n list new there)
         ∙ ap (λ xs. slice_get xs at) grown ∙ get_kept list.items (q ∷ []) at p old
     | inr other ↦ ap (option_and_then (items_at at)) (get_set_other lists n k new other) ∙ h
@@ -121,7 +121,7 @@ under_more es key n q m h = by (under q es) refl
     by : (o : Option ℕ) → under q es ≡ o → (under q es ≡ Some m) ⊎ (m ≡ n)
     by None e =
         inr (one_entry (pointwise nat_eq q key.items) n m
-            (sym (lookup_new (λ (k : Vec ℕ Global). pointwise nat_eq q k.items) es ((key, n) ∷ []) e) ∙ h))
+        (sym (lookup_new (λ (k : Vec ℕ Global). pointwise nat_eq q k.items) es ((key, n) ∷ []) e) ∙ h))
     by (Some v) e = inl (e ∙ (sym (lookup_kept (λ (k : Vec ℕ Global). pointwise nat_eq q k.items) es ((key, n) ∷ []) v e) ∙ h))
 
 pub pushed : {X : Type 0} (xs ys : List X) (x : X) → ys ≡ xs ++ x ∷ [] → length ys ≡ length xs + 1

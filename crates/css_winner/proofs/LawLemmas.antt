@@ -1,5 +1,5 @@
 -- At most one declaration wins.
-use Rattle.std.proofs.Common.{◌≡◌, ◌⊎◌, inl, inr, ℕ, true, false, List, Some, refl, sym, ap, ◌∙◌}
+use Rattle.std.proofs.Common.{◌≡◌, inl, inr, ℕ, List, Some, refl, sym, ap, ◌∙◌}
 use Rattle.std.specs.Prelude.{slice_get}
 use Rattle.std.proofs.lemmas.Bool.{true≢false}
 use Rattle.html_grammar.specs.declared.dom.Dom.{Dom}
@@ -7,7 +7,7 @@ use Rattle.css_data.specs.declared.rule.StyleRule.{StyleRule}
 use Rattle.css_data.specs.declared.rule.Sheet.{Sheet}
 use Rattle.css_winner.specs.declared.setting.Setting.{Setting}
 use Rattle.css_winner.specs.Settings.{settings_of}
-use Rattle.css_winner.specs.Applying.{Claim, rule_at, AppliesByRule, AppliesOwn, Applies, IsWinner}
+use Rattle.css_winner.specs.Applying.{Claim, rule_at, Applies}
 use Rattle.css_winner.specs.Laws.{OneWins}
 use Rattle.css_winner.proofs.OrderLemmas.{one_place}
 
@@ -34,31 +34,31 @@ module _ (sheets : List Sheet) (dom : Dom) (n : ℕ) (own : List Setting) (a b :
   same_claim : Applies sheets dom n own a → Applies sheets dom n own b → a ≡ b
   same_claim (inl x) (inl y) =
       let sheet : x.sheet ≡ y.sheet = sym (ap (λ c. c.precedence.sheet) x.same)
-          ∙ (ap (λ p. p.sheet) place ∙ ap (λ c. c.precedence.sheet) y.same) in
+      ∙ (ap (λ p. p.sheet) place ∙ ap (λ c. c.precedence.sheet) y.same) in
       let number : x.number ≡ y.number = sym (ap (λ c. c.precedence.rule) x.same)
-          ∙ (ap (λ p. p.rule) place ∙ ap (λ c. c.precedence.rule) y.same) in
+      ∙ (ap (λ p. p.rule) place ∙ ap (λ c. c.precedence.rule) y.same) in
       let at : x.place ≡ y.place = sym (ap (λ c. c.precedence.place) x.same)
-          ∙ (ap (λ p. p.place) place ∙ ap (λ c. c.precedence.place) y.same) in
+      ∙ (ap (λ p. p.place) place ∙ ap (λ c. c.precedence.place) y.same) in
       let rule = one_rule sheets x.sheet y.sheet x.number y.number x.rule y.rule sheet number x.stands y.stands in
       let setting = one_setting (settings_of x.rule.declarations) (settings_of y.rule.declarations) x.place y.place x.setting
-          y.setting (ap (λ (r : StyleRule). settings_of r.declarations) rule) at x.set y.set in
+      y.setting (ap (λ (r : StyleRule). settings_of r.declarations) rule) at x.set y.set in
       one_claim a b x.setting y.setting place (ap (λ c. c.target) x.same) (ap (λ c. c.given) x.same) (ap (λ c. c.target) y.same)
-          (ap (λ c. c.given) y.same) setting
+      (ap (λ c. c.given) y.same) setting
   same_claim (inl x) (inr y) =
       absurd (true≢false (sym (ap (λ c. c.precedence.inline) y.same)
-                  ∙ (sym (ap (λ p. p.inline) place) ∙ ap (λ c. c.precedence.inline) x.same)))
+      ∙ (sym (ap (λ p. p.inline) place) ∙ ap (λ c. c.precedence.inline) x.same)))
   same_claim (inr x) (inl y) =
       absurd (true≢false (sym (ap (λ c. c.precedence.inline) x.same)
-                  ∙ (ap (λ p. p.inline) place ∙ ap (λ c. c.precedence.inline) y.same)))
+      ∙ (ap (λ p. p.inline) place ∙ ap (λ c. c.precedence.inline) y.same)))
   same_claim (inr x) (inr y) =
       let at : x.place ≡ y.place = sym (ap (λ c. c.precedence.place) x.same)
-          ∙ (ap (λ p. p.place) place ∙ ap (λ c. c.precedence.place) y.same) in
+      ∙ (ap (λ p. p.place) place ∙ ap (λ c. c.precedence.place) y.same) in
       let setting = one_setting own own x.place y.place x.setting y.setting refl at x.set y.set in
       one_claim a b x.setting y.setting place (ap (λ c. c.target) x.same) (ap (λ c. c.given) x.same) (ap (λ c. c.target) y.same)
-          (ap (λ c. c.given) y.same) setting
+      (ap (λ c. c.given) y.same) setting
 
 pub one_winner : OneWins
 one_winner sheets dom n own target a b x y =
     same_claim sheets dom n own a b
-        (one_place a.precedence b.precedence (y.greatest a x.applies x.about) (x.greatest b y.applies y.about)) x.applies
-        y.applies
+    (one_place a.precedence b.precedence (y.greatest a x.applies x.about) (x.greatest b y.applies y.about)) x.applies
+    y.applies

@@ -1,6 +1,6 @@
 -- Where rules and selectors stand.
-use Rattle.std.proofs.Common.{◌≡◌, ℕ, suc, ◌+◌, ◌<◌, ◌∷◌, List, length, get_or, map, Option, Some, None, refl, sym, ap, ◌∙◌}
-use Rattle.std.proofs.Common.{add-one, arith}
+use Rattle.std.proofs.Common.{◌≡◌, ℕ, suc, ◌+◌, ◌<◌, ◌∷◌, List, length, get_or, Option, Some, None, refl, sym, ap, ◌∙◌}
+use Rattle.std.proofs.Common.{arith}
 use Rattle.std.specs.Prelude.{slice_get, option_and_then}
 use Rattle.std.specs.Option.{option_map}
 use Rattle.std.proofs.lemmas.Option.{slice_get-map}
@@ -8,7 +8,6 @@ use Rattle.css_data.specs.declared.selector.Selector.{Selector}
 use Rattle.css_data.specs.declared.rule.StyleRule.{StyleRule}
 use Rattle.css_data.specs.declared.rule.Sheet.{Sheet}
 use Rattle.css_winner.specs.declared.filing.Place.{Place}
-use Rattle.css_winner.specs.declared.setting.Setting.{Setting}
 use Rattle.css_winner.proofs.AmongLemmas.{item_at}
 use Rattle.css_winner.specs.Settings.{settings_of}
 use Rattle.css_winner.specs.Applying.{rule_at}
@@ -49,14 +48,14 @@ pub settings_stand : (sheets : List Sheet) (s r : ℕ) (rule : StyleRule) → ru
     → settings_at (all_settings sheets) s r ≡ settings_of rule.declarations
 settings_stand sheets s r rule h =
     ap (λ o. or_none (option_and_then (λ rules. slice_get rules r) o))
-        (slice_get-map (λ (sheet : Sheet). rules_settings sheet.rules) sheets s) ∙ by (slice_get sheets s) h
+    (slice_get-map (λ (sheet : Sheet). rules_settings sheet.rules) sheets s) ∙ by (slice_get sheets s) h
   where
     by : (o : Option Sheet) → option_and_then (λ sheet. slice_get sheet.rules r) o ≡ Some rule
         → or_none (option_and_then (λ rules. slice_get rules r) (option_map (λ (sheet : Sheet). rules_settings sheet.rules) o))
         ≡ settings_of rule.declarations
     by None h = absurd cc
     by (Some sheet) h = ap or_none (slice_get-map (λ (x : StyleRule). settings_of x.declarations) sheet.rules r
-            ∙ ap (option_map (λ (x : StyleRule). settings_of x.declarations)) h)
+        ∙ ap (option_map (λ (x : StyleRule). settings_of x.declarations)) h)
 
 -- the sheet that a loop reads, after the built-in one
 pub sheet_next : (b : Sheet) (sheets : List Sheet) (n s : ℕ) (item sheet : Sheet) → s ≡ n + 1 → n < length sheets

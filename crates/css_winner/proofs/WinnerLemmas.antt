@@ -1,7 +1,7 @@
 -- What was found wins.
-use Rattle.std.proofs.Common.{◌≡◌, ◌⊎◌, inl, inr, ℕ, ◌+◌, ◌<◌, Bool, true, false, ◌==◌, List, [], ◌∷◌, ◌++◌, length, get_or}
-use Rattle.std.proofs.Common.{Option, Some, None, refl, sym, ap, subst, ◌∙◌, arith}
-use Rattle.std.specs.Prelude.{slice_get, MatchOption, Contains}
+use Rattle.std.proofs.Common.{◌≡◌, ◌⊎◌, inl, inr, ℕ, ◌+◌, ◌<◌, false, ◌==◌, List, [], ◌++◌, length, get_or}
+use Rattle.std.proofs.Common.{Option, Some, None, sym, ap, subst, ◌∙◌, arith}
+use Rattle.std.specs.Prelude.{slice_get, Contains}
 use Rattle.std.proofs.lemmas.Bool.{cases_lt}
 use Rattle.std.proofs.lemmas.Option.{slice_get-get_or}
 use Rattle.html_grammar.specs.declared.dom.Dom.{Dom}
@@ -18,8 +18,8 @@ use Rattle.css_select.specs.declared.weight.Weight.{Weight}
 use Rattle.css_select.specs.Specificity.{capped, ids_of, classes_of, types_of}
 use Rattle.css_winner.specs.Precedences.{weight_of}
 use Rattle.css_winner.specs.Among.{Among}
-use Rattle.css_winner.specs.Applying.{Claim, claim_at, claims_from, rule_source, own_source, AppliesByRule, AppliesOwn, Applies}
-use Rattle.css_winner.specs.Applying.{IsWinner, Wins}
+use Rattle.css_winner.specs.Applying.{Claim, claim_at, claims_from, rule_source, own_source, AppliesByRule, Applies}
+use Rattle.css_winner.specs.Applying.{Wins}
 use Rattle.css_winner.specs.Best.{IsBest, IsBestAt, found_at}
 use Rattle.css_winner.specs.Rules.{place, selector_at, settings_at, all_settings}
 use Rattle.css_winner.specs.Winners.{HasWinners, IsOffered, claims_at}
@@ -45,7 +45,7 @@ module _ (sheets : List Sheet) (dom : Dom) (n : ℕ) where
       record {
         sound = λ claim among.
             let it = claimed (rule_source p.sheet p.rule selector) 0 (settings_at (all_settings sheets) p.sheet p.rule) claim
-                among in
+            among in
             record {
               sheet = p.sheet;
               number = p.rule;
@@ -69,8 +69,10 @@ module _ (sheets : List Sheet) (dom : Dom) (n : ℕ) where
   pub offers_nothing : (p : Place) → ((selector : Selector) → selector_at sheets p ≡ Some selector → Matches selector dom n → ⊥)
       → IsOffered sheets dom n p []
   offers_nothing p none =
-      record { sound = λ claim among. absurd among;
-              all = λ selector there matched claim among. absurd (none selector there matched) }
+      record {
+        sound = λ claim among. absurd among;
+        all = λ selector there matched claim among. absurd (none selector there matched);
+      }
 
   -- what was seen of the first so many places, with the best of it
   pub record Gathered (places : List Place) (count : ℕ) (best : List (Option Offer)) : Type 0 where
@@ -83,8 +85,12 @@ module _ (sheets : List Sheet) (dom : Dom) (n : ℕ) where
 
   pub gathered_none : (places : List Place) (best : List (Option Offer)) → IsBest [] best → Gathered places 0 best
   gathered_none places best is =
-      record { seen = []; is = is; sound = λ claim among. absurd among;
-              all = λ k p below at selector there matched claim among. absurd (omega arith) }
+      record {
+        seen = [];
+        is = is;
+        sound = λ claim among. absurd among;
+        all = λ k p below at selector there matched claim among. absurd (omega arith);
+      }
 
   pub gathered_more : (places : List Place) (count : ℕ) (best new : List (Option Offer)) (p : Place)
       → slice_get places count ≡ Some p → (so_far : Gathered places count best) → (more : List Claim)
@@ -100,8 +106,8 @@ module _ (sheets : List Sheet) (dom : Dom) (n : ℕ) where
           | inr now ↦
               let same : p ≡ q = one p q (sym at ∙ ap (slice_get places) (sym now) ∙ stands) in
               among_right so_far.seen more claim
-                  (offered.all selector (ap (selector_at sheets) same ∙ there) matched claim
-                      (subst (λ x. Among (claims_at sheets x selector) claim) (sym same) among))
+              (offered.all selector (ap (selector_at sheets) same ∙ there) matched claim
+              (subst (λ x. Among (claims_at sheets x selector) claim) (sym same) among))
         ];
       }
     where
@@ -148,8 +154,13 @@ module _ (sheets : List Sheet) (dom : Dom) (n : ℕ) where
       sound claim among = elim (among_split so_far.seen mine claim among) [
         | inl a ↦ inl (so_far.sound claim a)
         | inr a ↦ let it = claimed own_source 0 own claim a
-            in inr (record { place = it.at; setting = it.setting; set = it.stands; same = it.same
-                    ∙ ap (λ k. claim_at own_source k it.setting) (omega arith) })
+            in inr (record {
+              place = it.at;
+              setting = it.setting;
+              set = it.stands;
+              same = it.same
+                  ∙ ap (λ k. claim_at own_source k it.setting) (omega arith);
+            })
       ]
 
       by_rule : (claim : Claim) → AppliesByRule sheets dom n claim → Among so_far.seen claim
@@ -159,12 +170,12 @@ module _ (sheets : List Sheet) (dom : Dom) (n : ℕ) where
           let listed = complete p it.selector there it.matched in
           let sets = settings_stand sheets it.sheet it.number it.rule it.stands in
           let claims = claim_among (rule_source it.sheet it.number it.selector) 0
-              (settings_at (all_settings sheets) it.sheet it.number) it.place it.setting
-              (ap (λ xs. slice_get xs it.place) sets ∙ it.set) in
+          (settings_at (all_settings sheets) it.sheet it.number) it.place it.setting
+          (ap (λ xs. slice_get xs it.place) sets ∙ it.set) in
           so_far.all listed.0 p listed.1 (found listed.0 p listed.1 listed.2) it.selector there it.matched claim
           (subst (Among (claims_at sheets p it.selector))
-                  (ap (λ k. claim_at (rule_source it.sheet it.number it.selector) k it.setting) (omega arith) ∙ sym it.same)
-                  claims)
+          (ap (λ k. claim_at (rule_source it.sheet it.number it.selector) k it.setting) (omega arith) ∙ sym it.same)
+          claims)
         where
           found : (k : ℕ) (p : Place) → k < length places → get_or places k p ≡ p → slice_get places k ≡ Some p
           found k p below at = slice_get-get_or places k p below ∙ ap Some at
@@ -173,5 +184,5 @@ module _ (sheets : List Sheet) (dom : Dom) (n : ℕ) where
       all claim (inl it) = among_left so_far.seen mine claim (by_rule claim it)
       all claim (inr it) =
           among_right so_far.seen mine claim
-              (subst (Among mine) (ap (λ k. claim_at own_source k it.setting) (omega arith) ∙ sym it.same)
-                  (claim_among own_source 0 own it.place it.setting it.set))
+          (subst (Among mine) (ap (λ k. claim_at own_source k it.setting) (omega arith) ∙ sym it.same)
+          (claim_among own_source 0 own it.place it.setting it.set))

@@ -4,4 +4,4 @@ use Rattle.css_winner.proofs.best.nothing.Goals as goal
 
 pub returns : goal.returns
 returns c = nothing_best c.loop-place.best.items (let n : c.loop-place._place ≡ 60 = omega arith in c.loop-place.invariant
-        ∙ ap (λ k. replicate k None) n)
+    ∙ ap (λ k. replicate k None) n)

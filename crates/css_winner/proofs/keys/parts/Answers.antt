@@ -7,4 +7,4 @@ use Rattle.css_winner.proofs.keys.parts.Goals as goal
 pub returns : goal.returns
 returns c = map_from_collect _ c.collect.ensures.ran
     (YieldsList-from_slice_split _ is_space c.args.text.now c.split.ensures.rest c.split.ensures.done c.split.ensures.closure
-        (λ x b q k. search (rules, tests)))
+    (λ x b q k. search (rules, tests)))

@@ -1,4 +1,4 @@
-use Rattle.std.proofs.Common.{◌≡◌, ◌∷◌, inl, inr, ap, sym, subst, ◌∙◌, Some, ◌+◌, arith}
+use Rattle.std.proofs.Common.{◌∷◌, inl, inr, ap, sym, subst, ◌∙◌, ◌+◌, arith}
 use Rattle.std.proofs.lemmas.Option.{slice_get_within}
 use Rattle.css_winner.specs.Keys.{key_of}
 use Rattle.css_winner.specs.Filing.{IsFiled}
@@ -15,10 +15,10 @@ loop-number-preserved c = record {
         (c.loop-number.invariant.filed s sheet before at r k selector there)
     | inr now ↦
         let same = sheet_next c.args.built_in.now c.args.sheets.now c.loop-number.number s c.index-sheets-number.result sheet now
-            c.loop-number-test.true c.index-sheets-number.is at in
+        c.loop-number-test.true c.index-sheets-number.is at in
         let rules = ap (λ x. x.rules) same ∙ sym c.as_slice-in-loop-number.ensures in
         subst (λ n. IsFiled c.file_sheet-in-loop-number.new.filing (key_of selector) (place n r k)) (sym now)
-            (c.in_ok-file_sheet-2.ensures.filed r k selector (ap (λ xs. selector_in xs r k) (sym rules) ∙ there))
+        (c.in_ok-file_sheet-2.ensures.filed r k selector (ap (λ xs. selector_in xs r k) (sym rules) ∙ there))
   ];
 }
 
