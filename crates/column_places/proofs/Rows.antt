@@ -1,10 +1,9 @@
 -- The rows in a column that is being placed.
-use Rattle.std.proofs.Common.{◌≡◌, ℕ, ◌<◌, List, [], ◌∷◌, ◌++◌, refl, sym, ◌∙◌, ap, false, append_assoc}
+use Rattle.std.proofs.Common.{◌≡◌, List, [], ◌∷◌, ◌++◌, refl, sym, ◌∙◌, ap, false, append_assoc}
 use Rattle.std.proofs.lemmas.List.{append-nil}
 use Rattle.std.proofs.lemmas.List.Concat.{flat_map-append}
 use Rattle.frag_maker.specs.declared.placed.MadeRow.{MadeRow}
 use Rattle.frag_maker.specs.declared.placed.Placed.{Placed}
-use Rattle.column_places.specs.declared.placing.FlatRow.{FlatRow}
 use Rattle.column_places.specs.declared.placing.Placing.{Placing}
 use Rattle.column_places.specs.declared.placing.Waiting.{Waiting}
 use Rattle.column_places.specs.Placing.{row_of_flat, row_placed, row_waiting, rows_of, rows_placed, rows_waiting}

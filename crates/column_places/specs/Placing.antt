@@ -1,5 +1,5 @@
 -- What is placed so far in a column, and what leads on from it.
-use Rattle.std.specs.Prelude.{◌≡◌, ◌+◌, List, [], ◌∷◌, ◌++◌, cond, flat_map, length, map, ℕ, false, Option}
+use Rattle.std.specs.Prelude.{◌≡◌, ◌+◌, List, [], ◌∷◌, ◌++◌, cond, flat_map, length, map, ℕ, false}
 use Rattle.flow_list.specs.Strip.{Strip, strip_at, put, begins}
 use Rattle.flow_list.specs.Placing.{RowLaid, Laid, margin, opens, closes, atom, row, greatest_margin, Placed as AnyPlaced}
 use Rattle.flow_list.specs.Placing.{places_from}

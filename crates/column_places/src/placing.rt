@@ -1,6 +1,7 @@
 //! Placing what is laid in a column, gap by gap.
 
-ghost use Rattle.std.specs.Prelude.{◌≡◌, ℕ, ◌+◌, ◌<◌, ◌≤◌, ◌^◌, List, [], ◌∷◌, ◌++◌, map, cond, false, nat_eq, sum_by, true, OnOk};
+ghost use Rattle.std.specs.Prelude.{◌≡◌, ℕ, ◌+◌, ◌<◌, ◌≤◌, ◌^◌, List, [], ◌∷◌, ◌++◌, map, cond, false, nat_eq, sum_by, true};
+ghost use Rattle.std.specs.Prelude.{OnOk};
 ghost use Rattle.std.specs.HashSet.{contains};
 ghost use Rattle.flow_data.specs.Flows.{amount};
 ghost use Rattle.flow_list.specs.Placing.{Laid, atom, ends_gap, gap_places, greatest_margin, laid_edge, laid_edges, opens_among};

@@ -1,8 +1,7 @@
 -- Calls one after another: what the book and the region are after both.
-use Rattle.std.proofs.Common.{Result, Ok, Err, OnOk, OnErr, ◌≡◌, ℕ, ◌≤◌, Bool, cond, List, [], ◌∷◌, ◌++◌, length, refl, sym, ◌∙◌}
+use Rattle.std.proofs.Common.{Result, Ok, Err, OnOk, OnErr, ◌≡◌, ℕ, ◌≤◌, cond, List, [], ◌∷◌, ◌++◌, length, refl, sym, ◌∙◌}
 use Rattle.std.proofs.Common.{ap, append_assoc, take, arith}
 use Rattle.std.proofs.lemmas.List.{append-nil, length-append}
-use Rattle.mc_base.specs.declared.fragment.Node.{Node}
 use Rattle.flow_data.specs.declared.data.FlowsData.{FlowsData}
 use Rattle.flow_list.specs.Book.{after_uses}
 use Rattle.flow_list.specs.Certificate.{Use, stands_in, entered, entered_with, size_uses}

@@ -1,6 +1,6 @@
 -- What a walk keeps that has come to an item, and what it decides there.
-use Rattle.std.proofs.Common.{Result, Ok, Err, IfOk, ◌≡◌, ℕ, ◌+◌, ◌-◌, ◌<◌, ◌≤◌, Bool, true, false, cond, List, [], ◌∷◌, ◌++◌}
-use Rattle.std.proofs.Common.{map, length, Option, Some, None, refl, sym, subst, ◌∙◌, ap, arith}
+use Rattle.std.proofs.Common.{◌≡◌, ℕ, ◌+◌, ◌-◌, ◌<◌, ◌≤◌, Bool, true, false, cond, List, [], ◌∷◌, ◌++◌}
+use Rattle.std.proofs.Common.{length, Option, Some, None, sym, subst, ◌∙◌, ap, arith}
 use Rattle.std.specs.Prelude.{IfSome, is_none, nat_lt, ◌||◌, ◌==◌}
 use Rattle.flow_data.specs.declared.data.Flow.{Flow}
 use Rattle.flow_data.specs.declared.data.FlowsData.{FlowsData}
@@ -24,8 +24,8 @@ use Rattle.column_walk.specs.Deciding.{IsDecision, IsStopped, IsUnstopped, fille
 use Rattle.column_walk.specs.Endings.{considered, place_of, place_opt, step_of}
 use Rattle.column_walk.specs.Stopping.{chosen, stop_of}
 use Rattle.column_walk.proofs.Chain.{uses-both, uses-none}
-use Rattle.column_walk.proofs.Parting.{IsWalked, chosen-is, considered-is, end-column, end-cut, end-ends, end-looks, goes-on}
-use Rattle.column_walk.proofs.Parting.{looks-more, rows-more, stop-column, stop-cut, stop-ends, stop-fills, stop-looks}
+use Rattle.column_walk.proofs.Parting.{IsWalked, chosen-is, considered-is, end-column, end-cut, end-ends, goes-on}
+use Rattle.column_walk.proofs.Parting.{looks-more, rows-more, stop-column, stop-cut, stop-ends, stop-fills}
 use Rattle.column_walk.proofs.Parting.{walk-start}
 
 -- The walk has come to item k, and these are the uses in the book when it began and now.
@@ -180,7 +180,7 @@ module _ (d : FlowsData) (f : Flow) (t : Token) (h k : ℕ) (q : Token) (s : Str
         ∙ ap (λ i. made 0 i ending.extent ending.overflow) (number ∙ ap (λ n. n + 1) is_here)
         ∙ ap (λ x. made 0 (k + 1) x ending.overflow) (extent ∙ need-is) ∙ ap (λ o. made 0 (k + 1) st.need o) over
 
-    -- and the column ends behind it
+    -- and the column ends after it
     module _ (ends : (is_forced (seam_of f (k + 1)).level || (k + 1 == length f.items)) ≡ true) where
       whole-is : column (all_rows d) d f t h ≡ unstopped (come.passed ++ st ∷ [])
       whole-is = end-column d f t h k q s (place_opt best) (place_opt last) come.passed come.walked lt fits_st ends

@@ -1,6 +1,6 @@
 -- What a row that is filled answers, and what is known of it.
 use Rattle.std.proofs.Common.{Result, Ok, Err, IfOk, OnOk, ◌≡◌, ℕ, zero, suc, ◌+◌, ◌<◌, ◌≤◌, ◌^◌, Bool, true, false, cond, List}
-use Rattle.std.proofs.Common.{[], ◌∷◌, ◌++◌, map, length, get_or, Option, Some, None, refl, sym, ◌∙◌, ap, subst, arith, All, ◌⊎◌}
+use Rattle.std.proofs.Common.{[], ◌∷◌, ◌++◌, map, length, Option, Some, None, refl, sym, ◌∙◌, ap, subst, arith, All, ◌⊎◌}
 use Rattle.std.proofs.Common.{inl, inr}
 use Rattle.std.specs.Prelude.{flat_map}
 use Rattle.std.specs.List.{AllByRecursion as Each}
@@ -9,7 +9,7 @@ use Rattle.flow_data.specs.declared.data.Flow.{Flow}
 use Rattle.flow_data.specs.declared.data.FlowsData.{FlowsData}
 use Rattle.flow_data.specs.declared.data.Item.{Item}
 use Rattle.flow_data.specs.declared.data.Item.TheVariants.{Atom, Row}
-use Rattle.flow_data.specs.Flows.{flow_of, flow_in, item_of, no_flow, row_of, rows_in}
+use Rattle.flow_data.specs.Flows.{flow_of, flow_in, item_of, row_of, rows_in}
 use Rattle.flow_data.specs.Soundness.{IsSound, NestsAtMost}
 use Rattle.flow_list.specs.Column.{Column, ColumnLine, Filled, Inner, Step, avoids_at, column, column_up_to, cut, deeper}
 use Rattle.flow_list.specs.Column.{fill_in_room, inner_lines, is_cut, room, steps_from}

@@ -1,5 +1,6 @@
 pub mod Chain
 pub mod Coming
+pub mod Empty
 pub mod Filled
 pub mod Parting
 pub mod Shortages

@@ -1,8 +1,8 @@
 -- A walk over the items of a column that has come to an item: those before it were passed, and the rest of the column is what the
 -- rest of the items make it.
-use Rattle.std.proofs.Common.{◌≡◌, ℕ, zero, suc, ◌+◌, ◌-◌, ◌<◌, ◌≤◌, Bool, true, false, cond, List, [], ◌∷◌, ◌++◌, length, Option}
-use Rattle.std.proofs.Common.{Some, None, refl, sym, ◌∙◌, ap, subst, append_assoc, arith}
-use Rattle.std.specs.Prelude.{flat_map, nat_lt, is_none, ◌||◌, ◌==◌, IfSome}
+use Rattle.std.proofs.Common.{◌≡◌, ℕ, suc, ◌+◌, ◌-◌, ◌<◌, ◌≤◌, Bool, true, false, cond, List, [], ◌∷◌, ◌++◌, length, Option}
+use Rattle.std.proofs.Common.{Some, None, refl, sym, ◌∙◌, ap, append_assoc, arith}
+use Rattle.std.specs.Prelude.{nat_lt, is_none, ◌||◌, ◌==◌, IfSome}
 use Rattle.std.proofs.lemmas.Bool.{lt-ltb, le-ltb}
 use Rattle.std.proofs.lemmas.Bool.Decides.{nat_tests}
 use Rattle.std.proofs.lemmas.Grind.{flat_map-append}
@@ -11,19 +11,18 @@ use Rattle.mc_base.specs.declared.level.Level.{Level}
 use Rattle.flow_data.specs.declared.data.Flow.{Flow}
 use Rattle.flow_data.specs.declared.data.FlowsData.{FlowsData}
 use Rattle.flow_data.specs.Flows.{seam_of}
-use Rattle.flow_list.specs.Certificate.{Use}
-use Rattle.flow_list.specs.Column.{Column, Cut, Filled, Inner, Place, Step, avoids_at, column, column_up_to, cut, fill_in_room}
-use Rattle.flow_list.specs.Column.{fills, is_cut, is_forced, last_place, longer, no_place, place_in, rank, room, row_list}
+use Rattle.flow_list.specs.Column.{Cut, Filled, Place, Step, avoids_at, column, column_up_to, cut, fill_in_room}
+use Rattle.flow_list.specs.Column.{fills, is_cut, is_forced, longer, place_in, room, row_list}
 use Rattle.flow_list.specs.Column.{rows_among, start_strip, step_at, steps, steps_from, stopped, strip_behind, unstopped}
 use Rattle.flow_list.specs.Looks.{looks, stop_count}
 use Rattle.flow_list.specs.Rows.{all_rows}
 use Rattle.flow_list.specs.Strip.{Strip, lay_all}
 use Rattle.flow_list.specs.Tokens.{Token, item_number, row_start, within}
-use Rattle.flow_list.proofs.Walk.{behind, choose_with, column_over-walk, consider, place_or, stop_place, walk}
+use Rattle.flow_list.proofs.Walk.{behind, column_over-walk, consider, stop_place, walk}
 use Rattle.column_walk.specs.Endings.{considered}
 use Rattle.column_walk.specs.Stopping.{chosen}
 
--- what a cut is behind items that were passed
+-- what a cut is after items that were passed
 abbrev after_passed : List Step → Cut → Cut
 after_passed passed c = record { before = passed ++ c.before; stop = c.stop }
 
@@ -127,7 +126,7 @@ module _ (d : FlowsData) (f : Flow) (t : Token) (h k : ℕ) (q : Token) (s : Str
         (Some (behind st)) more
     fit-ends = one ∙ rw (le-ltb h st.need fits) refl
 
-    -- and the column ends behind it
+    -- and the column ends after it
     module _ (ends : (is_forced (seam_of f (k + 1)).level || (k + 1 == length f.items)) ≡ true) where
       no-more : more ≡ []
       unfolding steps

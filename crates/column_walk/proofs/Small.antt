@@ -1,5 +1,5 @@
 -- What stands around an item of a column is small.
-use Rattle.std.proofs.Common.{◌≡◌, ℕ, ◌+◌, ◌-◌, ◌<◌, ◌≤◌, ◌^◌, Bool, true, false, cond, List, [], length, arith, sum_by}
+use Rattle.std.proofs.Common.{ℕ, ◌+◌, ◌<◌, ◌^◌, Bool, true, false, cond, List, [], length, arith, sum_by}
 use Rattle.std.proofs.lemmas.List.Elements.{All-nil}
 use Rattle.flow_data.specs.declared.data.Edge.{Edge}
 use Rattle.flow_data.specs.declared.data.Flow.{Flow}

@@ -1,16 +1,14 @@
 -- Where a column ends that has no room for an item.
-use Rattle.std.proofs.Common.{◌≡◌, ℕ, suc, ◌+◌, ◌-◌, ◌<◌, ◌≤◌, Bool, true, false, cond, List, [], ◌∷◌, map, length, Option, Some}
+use Rattle.std.proofs.Common.{◌≡◌, ℕ, ◌+◌, ◌-◌, ◌<◌, ◌≤◌, Bool, true, false, cond, List, [], ◌∷◌, map, length, Option, Some}
 use Rattle.std.proofs.Common.{None, refl, sym, subst, ◌∙◌, ap, arith}
 use Rattle.std.specs.Prelude.{IfSome, nat_lt, nat_le, not, ◌&&◌, ◌||◌, ◌==◌, unwrap_or, is_none, is_some}
 use Rattle.std.proofs.lemmas.Bool.Decides.{nat_tests}
 use Rattle.mc_base.specs.declared.level.Level.{Level}
 use Rattle.flow_data.specs.declared.data.Edge.{Edge}
-use Rattle.flow_list.specs.Column.{ColumnLine, Filled, Place, Step, alone_place, best, bounds_at, choose, deeper, inner_lines}
-use Rattle.flow_list.specs.Column.{inner_uses, inside, inside_place, is_cut, is_forced, rank, room, whole_place}
+use Rattle.flow_list.specs.Column.{ColumnLine, Filled, Place, Step, best, bounds_at, deeper, inner_lines}
+use Rattle.flow_list.specs.Column.{inside, inside_place, is_cut, is_forced, rank, room, whole_place}
 use Rattle.flow_list.specs.Folds.{shortage}
-use Rattle.flow_list.specs.Fragments.{fills_item}
 use Rattle.flow_list.specs.Tokens.{Token}
-use Rattle.inner_rows.specs.Filling.{IsLevel}
 use Rattle.inner_rows.specs.declared.inner.Filled.{Filled as Made}
 use Rattle.column_walk.specs.declared.deciding.Decision.{Decision}
 use Rattle.column_walk.specs.declared.deciding.FilledRow.{FilledRow}

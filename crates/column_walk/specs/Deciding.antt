@@ -2,7 +2,7 @@
 use Rattle.std.specs.Prelude.{◌≡◌, ℕ, ◌-◌, ◌==◌, Bool, true, false, cond, not, ◌&&◌, List, [], ◌∷◌, map, Option, Some, None}
 use Rattle.flow_data.specs.declared.data.Flow.{Flow}
 use Rattle.flow_data.specs.declared.data.FlowsData.{FlowsData}
-use Rattle.flow_list.specs.Column.{Column, ColumnLine, Filled, Inner, Place, Step, bounds_at, column, cut, deeper, inner_lines}
+use Rattle.flow_list.specs.Column.{ColumnLine, Filled, Inner, Place, Step, bounds_at, column, cut, deeper, inner_lines}
 use Rattle.flow_list.specs.Column.{is_cut, room, steps_from}
 use Rattle.flow_list.specs.Folds.{shortage}
 use Rattle.flow_list.specs.Fragments.{fills_item}
@@ -14,7 +14,7 @@ use Rattle.column_walk.specs.declared.endings.Spot.{Spot}
 use Rattle.column_walk.specs.Stopping.{chosen}
 
 -- Whether a column of height h with this stop, which ends at a place, fills the row that the stop is: it ends within it, or
--- behind it though there is too little room for it.
+-- after it though there is too little room for it.
 abbrev pub fills_to : ℕ → Option Step → Token → Bool
 fills_to h stop [] = false
 fills_to h stop (e ∷ []) = fills_item (Some h) stop (e - 1) && not (e == 0)

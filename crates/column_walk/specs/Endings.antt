@@ -1,5 +1,5 @@
 -- Places where a column may end, and an item as it stands in a column, as the definitions of columns have them.
-use Rattle.std.specs.Prelude.{ℕ, ◌+◌, ◌^◌, ◌<◌, cond, true, List, [], ◌∷◌, sum_by, Option, Some, None}
+use Rattle.std.specs.Prelude.{ℕ, ◌+◌, ◌^◌, ◌<◌, true, List, [], ◌∷◌, sum_by, Option, Some, None}
 use Rattle.mc_base.specs.declared.level.Level.{Level}
 use Rattle.flow_data.specs.declared.data.Edge.{Edge}
 use Rattle.flow_data.specs.Flows.{amount}
@@ -41,7 +41,7 @@ step_of here row tail = record {
   bottoms_after = here.bottoms_after;
 }
 
--- the place behind an item that is placed whole though it overflows
+-- the place after an item that is placed whole though it overflows
 abbrev pub whole_of : Here → Place
 whole_of here = record { level = rank here.next; end = (here.item + 1) ∷ []; extent = here.need; overflow = true }
 

@@ -252,7 +252,7 @@ fn place_within(alloc: Global, from: &Token) -> Token
 /// alone. What the column uses is entered in the book in the order of first use, and no fragment is made: trial nodes are as they
 /// were.
 ///
-/// The rows of the flow have an item each, and a place within one has at most two numbers. Want of memory: the book may have
+/// The rows of the flow have an item each, and a place within one has at most two numbers. Out of memory: the book may have
 /// further true entries.
 pub fn decide<I: InnerRows, C: Tally>(
     alloc: Global,

@@ -11,5 +11,7 @@ mod endings;
 mod lines;
 mod rows;
 mod stopping;
+#[cfg(test)]
+mod tests;
 
 pub use deciding::{Decision, FilledRow, decide};

@@ -28,7 +28,7 @@ fn end_of(alloc: Global, here: Here, filled: &Filled) -> Token
     }
 }
 
-/// How far a column reaches that fills the row of an item at a height: behind the tail of the next seam, or to the cloned edges.
+/// How far a column reaches that fills the row of an item at a height: after the tail of the next seam, or to the cloned edges.
 fn extent_of(here: Here, room: Units, tail: &[Edge], at_end: bool) -> Units
     requires room { here.y + room < 2 ^ 61 }
     requires small { IsSmall tail.now here }

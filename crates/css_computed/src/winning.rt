@@ -37,7 +37,7 @@ impl<'a> Winning<'a> {
         }
     }
 
-    /// Sets what wins for the next property of the table. After want of memory nothing is changed.
+    /// Sets what wins for the next property of the table. When out of memory, nothing is changed.
     pub fn push(&mut self, value: Option<&'a Value>) -> Result<(), NoMemory>
         ensures ok { OnOk result (self.new ≡ self.old ++ option_copied value.entry ∷ []) }
         ensures err { OnErr result (self.new ≡ self.old) }

@@ -98,7 +98,7 @@ is_symbol x c h = by_symbol x.symbol h
     by_symbol Space h = absurd cc
     by_symbol (Broken rule) h = absurd cc
 
-abbrev is_kind : ℕ → Bool
+abbrev pub is_kind : ℕ → Bool
 is_kind c = (c == 41) || ((c == 93) || (c == 125))
 
 kinds : (c : ℕ) → (d : ℕ) → closer d ≡ Some c → (closer c ≡ None) × (is_kind c ≡ true)
@@ -153,14 +153,11 @@ closing_sign a b c h d =
 
 -- Steps.
 
-step_one : (s : Brackets) (x : Lexeme) (around : Option ℕ) → Matches around s.opens → closer_of x ≡ None
-    → closes_around around x ≡ false → bracket_step s x ≡ after s (fault_of x)
+pub step_plain : (s : Brackets) (x : Lexeme) → closes (innermost s.opens) x ≡ false → closer_of x ≡ None
+    → bracket_step s x ≡ after s (fault_of x)
 unfolding bracket_step
-step_one s x around m none closes_none = by_broken (broken_of x)
+step_plain s x no_close none = by_broken (broken_of x)
   where
-    no_close : closes (innermost s.opens) x ≡ false
-    no_close = m x ∙ closes_none
-
     by_closer : (b : Bool) → cond b (closing_step s x) s ≡ after s (cond b (fault_as x.at 4 ∷ []) [])
     by_closer true = ap (λ (b : Bool). cond b (closed s) (with_fault s x.at 4)) no_close
     by_closer false = refl
@@ -169,12 +166,16 @@ step_one s x around m none closes_none = by_broken (broken_of x)
     by_broken (Some rule) = refl
     by_broken None = ap (unbroken_step s x) none ∙ by_closer (is_closer x)
 
-step_open : (s : Brackets) (x : Lexeme) (c : ℕ) → closer_of x ≡ Some c
+step_one : (s : Brackets) (x : Lexeme) (around : Option ℕ) → Matches around s.opens → closer_of x ≡ None
+    → closes_around around x ≡ false → bracket_step s x ≡ after s (fault_of x)
+step_one s x around m none closes_none = step_plain s x (m x ∙ closes_none) none
+
+pub step_open : (s : Brackets) (x : Lexeme) (c : ℕ) → closer_of x ≡ Some c
     → bracket_step s x ≡ state_as (s.opens ++ bracket_as (sign_of x) c ∷ []) s.fault
 unfolding bracket_step
 step_open s x c h = ap (bracket_by s x) (not_broken x c h) ∙ ap (unbroken_step s x) h
 
-step_close : (os : List opens.Open) (o : Option Fault) (at c : ℕ) (b : Lexeme) → Sign b → is_delim c b ≡ true
+pub step_close : (os : List opens.Open) (o : Option Fault) (at c : ℕ) (b : Lexeme) → Sign b → is_delim c b ≡ true
     → bracket_step (state_as (os ++ bracket_as at c ∷ []) o) b ≡ state_as os o
 unfolding bracket_step
 step_close os o at c b sign d =
@@ -209,17 +210,17 @@ whole_read (Open a inside) around s rest h w m = absurd w
 
 -- What is open at the end.
 
-abbrev open_fault : opens.Open → Fault
+abbrev pub open_fault : opens.Open → Fault
 open_fault o = fault_as o.at (rule_of o.frame)
 
 abbrev pub open_faults : List opens.Open → List Fault
 open_faults os = map open_fault os
 
-left_folded : (o : Option Fault) (os : List opens.Open) → left_open o os ≡ folded o (open_faults os)
+pub left_folded : (o : Option Fault) (os : List opens.Open) → left_open o os ≡ folded o (open_faults os)
 left_folded o [] = refl
 left_folded o (p ∷ os) = left_folded (first_fault o (open_fault p)) os
 
-open_append : (os : List opens.Open) (o : opens.Open) → open_faults (os ++ o ∷ []) ≡ open_faults os ++ open_fault o ∷ []
+pub open_append : (os : List opens.Open) (o : opens.Open) → open_faults (os ++ o ∷ []) ≡ open_faults os ++ open_fault o ∷ []
 open_append [] o = refl
 open_append (p ∷ os) o = ap (λ (x : List Fault). open_fault p ∷ x) (open_append os o)
 
@@ -244,7 +245,7 @@ folded_told o [] fs h = h
 folded_told o (g ∷ gs) fs h = told_same (folded (first_fault o g) gs) (gs ++ (g ∷ fs)) (g ∷ (gs ++ fs)) (same_middle gs g fs)
     (folded_told (first_fault o g) gs (g ∷ fs) (told_more o g fs h))
 
-same_parts : (a b c d : List Fault) → Same a b → Same c d → Same (a ++ c) (b ++ d)
+pub same_parts : (a b c d : List Fault) → Same a b → Same c d → Same (a ++ c) (b ++ d)
 same_parts a b c d s t = record { there = λ f x. there f (either f a c x); back = λ f x. back f (either f b d x) }
   where
     there : (f : Fault) → Among f a ⊎ Among f c → Among f (b ++ d)
@@ -256,7 +257,7 @@ same_parts a b c d s t = record { there = λ f x. there f (either f a c x); back
     back f (inr x) = behind f a c (t.back f x)
 
 -- faults found before, in the other order
-same_turned : (os a b fs : List Fault) → Same (os ++ (b ++ (a ++ fs))) (os ++ ((a ++ b) ++ fs))
+pub same_turned : (os a b fs : List Fault) → Same (os ++ (b ++ (a ++ fs))) (os ++ ((a ++ b) ++ fs))
 same_turned os a b fs = same_parts os os (b ++ (a ++ fs)) ((a ++ b) ++ fs) (same_itself os)
     (subst (λ (x : List Fault). Same x ((a ++ b) ++ fs)) (append_assoc b a fs)
     (same_parts (b ++ a) (a ++ b) fs fs (same_swap b a) (same_itself fs)))
@@ -302,7 +303,7 @@ tail_read (Open a inside) around s fs h m t =
     (sym (step_open s a c h.1))
     (subst (Told (at_end (bracketed (state_as (s.opens ++ o ∷ []) s.fault) (written inside)))) lists found)
 
-append_none : (fs : List Fault) → Same (fs ++ []) fs
+pub append_none : (fs : List Fault) → Same (fs ++ []) fs
 append_none fs = record { there = λ f a. there f (either f fs [] a); back = λ f a. in_front f fs [] a }
   where
     there : (f : Fault) → Among f fs ⊎ Among f [] → Among f fs

@@ -8,3 +8,8 @@ pub mod DeclaredForms
 pub mod Pieces
 pub mod StyleTexts
 pub mod Answered
+pub mod SheetFaults
+pub mod ItemFaults
+pub mod ItemsFound
+pub mod SheetTexts
+pub mod SheetAnswered

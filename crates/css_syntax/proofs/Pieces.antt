@@ -265,7 +265,7 @@ sound_one x p none fault other s = record {
 }
 
 -- what opens a bracket is no semicolon
-no_semicolon : (x : Lexeme) (c : ℕ) → closer_of x ≡ Some c → is_delim 59 x ≡ false
+pub no_semicolon : (x : Lexeme) (c : ℕ) → closer_of x ≡ Some c → is_delim 59 x ≡ false
 no_semicolon x c h = by_test (is_delim 59 x) refl
   where
     none : (o : Option ℕ) → o ≡ Some c → o ≡ None → ⊥
@@ -348,7 +348,7 @@ are_declared (p ∷ more) = by_option (declaration_of p) refl (are_declared more
 
 -- Blocks.
 
-no_faults : (fs : List Fault) → Told None fs → fs ≡ []
+pub no_faults : (fs : List Fault) → Told None fs → fs ≡ []
 no_faults [] t = refl
 no_faults (f ∷ fs) t = absurd (t f (inl refl))
 

@@ -8,3 +8,4 @@ pub mod Media
 pub mod Rules
 pub mod Sheets
 pub mod Styling
+pub mod Sheeting

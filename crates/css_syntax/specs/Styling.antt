@@ -69,7 +69,7 @@ abbrev pub HaveNone : (Lexeme → Bool) → Values → Type 0
 HaveNone test Nil = Unit {0}
 HaveNone test (One x more) = (test x ≡ false) × HaveNone test more
 HaveNone test (Closed opening inside closing more) = (test opening ≡ false) × HaveNone test more
-HaveNone test (Open opening inside) = Unit {0}
+HaveNone test (Open opening inside) = test opening ≡ false
 
 -- these tokens are values without a fault, of which none is or begins with a token that passes a test
 pub record AreSound (test : Lexeme → Bool) (xs : List Lexeme) : Type 0 where

@@ -4,10 +4,11 @@ ghost use Rattle.std.specs.Prelude.{◌≡◌, ◌<◌, ◌≤◌, ◌^◌, leng
 ghost use Rattle.css_tokens.specs.Gives.{Gives};
 ghost use Rattle.css_syntax.specs.Sheets as sheets;
 ghost use Rattle.css_syntax.specs.Styling.{IsStyle, IsStyleFault, IsStyleRefusal};
+ghost use Rattle.css_syntax.specs.Sheeting.{IsSheetText, IsTextFault, IsSheetRefusal};
 ghost use Rattle.css_data.specs.declared.rule.RawDeclaration.{RawDeclaration as Declaration};
 ghost use Rattle.css_tokens.specs.declared.lexeme.Fault.{Fault as AFault};
 ghost use Rattle.mc_base.specs.declared.refusal.Refusal.TheVariants.{NoMemory};
-ghost use Rattle.std.specs.Prelude.{List as AList, Ok, Err, IfOk, IfErr, ◌⊎◌};
+ghost use Rattle.std.specs.Prelude.{List as AList, Ok, Err, IfOk, IfErr, OnOk, ◌⊎◌};
 ghost use Rattle.css_syntax.specs.Answers.{IsUnlessMemory};
 
 use crate::blocks::declarations;
@@ -94,6 +95,19 @@ fn declarations_from(alloc: Global, lexemes: &[Lexeme]) -> Result<List<RawDeclar
     Ok(declarations(alloc, lexemes)?)
 }
 
+/// What the function on lists says of a sheet.
+#[tactic(auto, unfolding(crate::specs::Sheets::sheet_of))]
+fn sheet_of(alloc: Global, text: &[u8]) -> Result<Sheet, Refusal>
+    requires { length text.now ≤ 2 ^ 28 }
+    ensures { IsUnlessMemory result (sheets.sheet_of text.now) }
+{
+    match lexemes(alloc, text) {
+        Ok(lexemes) => sheet_from(alloc, lexemes.as_slice()),
+        Err(ReadError::Memory) => Err(Refusal::NoMemory),
+        Err(ReadError::Fault(fault)) => Err(grammar_refusal(fault)),
+    }
+}
+
 /// The style sheet of a text of at most 2^28 bytes (CSS Syntax 3; Selectors 3): its rules in order, those that don't apply
 /// and those that are dropped left out, and the first construct in it that isn't laid out.
 ///
@@ -102,16 +116,18 @@ fn declarations_from(alloc: Global, lexemes: &[Lexeme]) -> Result<List<RawDeclar
 /// nothing, and `s5` at a prelude without its block. `Refusal::Limit` comes where the text is on the grammar and has more
 /// than 4,000 style rules, with those that are left out (`rules`). Offsets count the bytes of the text. Out of memory may be
 /// answered for every text.
-#[tactic(auto, unfolding(crate::specs::Sheets::sheet_of))]
 pub fn parse_sheet(alloc: Global, text: &[u8]) -> Result<Sheet, Refusal>
     requires { length text.now ≤ 2 ^ 28 }
+    // A text that is answered by a sheet is on the grammar.
+    ensures sound { OnOk result (IsSheetText text.now) }
+    // A refusal has its reason: the first fault, or the limit on a text on the grammar; unless memory ran out.
+    ensures refused { IfErr result (λ e. (e ≡ NoMemory) ⊎ IsSheetRefusal text.now e) }
+    // A text with a first fault is refused by it, unless memory runs out.
+    ensures told { (f : AFault) → IsTextFault text.now f → IsUnlessMemory result (Err (sheets.grammar_refusal f)) }
+    // Which answer it is.
     ensures exact { IsUnlessMemory result (sheets.sheet_of text.now) }
 {
-    match lexemes(alloc, text) {
-        Ok(lexemes) => sheet_from(alloc, lexemes.as_slice()),
-        Err(ReadError::Memory) => Err(Refusal::NoMemory),
-        Err(ReadError::Fault(fault)) => Err(grammar_refusal(fault)),
-    }
+    sheet_of(alloc, text)
 }
 
 /// What the function on lists says of a style attribute.

@@ -4,12 +4,12 @@ use Rattle.std.proofs.Common.{get_or, Option, Some, None, refl, sym, ◌∙◌, 
 use Rattle.std.proofs.Math.Seq.{drop-cons}
 use Rattle.std.proofs.lemmas.List.{append-nil}
 use Rattle.std.proofs.lemmas.List.Elements.{All-get_or, All-take, All-drop, All-weaker}
-use Rattle.mc_base.specs.PlainTree.{PlainTree, PlainTrees, plain_trees, piece, row_piece, atom as atom_tree}
+use Rattle.mc_base.specs.PlainTree.{PlainTree, PlainTrees, plain_trees, piece, atom as atom_tree}
 use Rattle.mc_base.specs.declared.fragment.FragId.{FragId}
-use Rattle.mc_base.specs.declared.fragment.FragId.TheVariants.{Kept, Trial}
+use Rattle.mc_base.specs.declared.fragment.FragId.TheVariants.{Trial}
 use Rattle.mc_base.specs.declared.fragment.Node.{Node}
 use Rattle.mc_base.specs.declared.fragment.Node.TheVariants.{Piece as PieceNode, Atom as AtomNode, RowPiece as RowNode}
-use Rattle.flow_list.specs.Placing.{RowLaid, opens_at, closes_at, atom_at}
+use Rattle.flow_list.specs.Placing.{RowLaid}
 use Rattle.flow_list.specs.Fragments.{all_trees, inside_box, behind_box, bottom_of}
 use Rattle.frag_pool.specs.Nodes.{Nodes, IsLive, ids_of, node_of, trial_more}
 use Rattle.frag_pool.specs.Standing.{StandsFor, AllStandFor}
@@ -21,7 +21,7 @@ use Rattle.frag_maker.specs.declared.placed.Placed.{Placed}
 use Rattle.frag_maker.specs.declared.placed.Placed.TheVariants.{Opens, Closes, Atom, Row}
 use Rattle.frag_maker.specs.Building.{IsMade, RowsAreMade, laid_row, piece_at, placed_as, row_made, row_live}
 use Rattle.frag_pool.proofs.Growth.{grows-trans}
-use Rattle.frag_maker.proofs.Growing.{grows-same, grows-trial, live-grows, trial-node}
+use Rattle.frag_maker.proofs.Growing.{grows-trial, live-grows, trial-node}
 use Rattle.frag_maker.proofs.TreeSteps.{trees-none, trees-opens, trees-closes, trees-atom, trees-row}
 
 -- these ids stand for the first trees of what is placed, those before item i
@@ -174,7 +174,8 @@ within-more placed i n rest lt is le =
 -- the piece of a row, over the ids in what is made of it
 pub piece-stands : (p q : Nodes) (r : MadeRow) (y : ℕ) (node : Node) (from : List ℕ) (ids : List FragId)
     (height : Option ℕ) → node_of p r.made ≡ Some node → from ≡ r.from → ids ≡ ids_of node →
-    height ≡ cond r.filled None (Some r.height) → q ≡ trial_more p (RowNode r.row from y height ids) → (columns : PlainTrees) → IsMade p columns r →
+    height ≡ cond r.filled None (Some r.height) → q ≡ trial_more p (RowNode r.row from y height ids) → (columns : PlainTrees)
+    → IsMade p columns r →
     StandsFor q (Trial (length p.trial)) (piece_at r y columns)
 unfolding StandsFor
 piece-stands p q r y node from ids height at start is tall more columns made =

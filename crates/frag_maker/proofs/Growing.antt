@@ -1,9 +1,9 @@
 -- A region that grows: what was live stays so, and ids in a live node are live.
-use Rattle.std.proofs.Common.{◌≡◌, ℕ, zero, suc, ◌+◌, ◌<◌, ◌≤◌, List, [], ◌∷◌, ◌++◌, length, Some, refl, sym, ◌∙◌, ap, arith, append_assoc}
-use Rattle.std.proofs.Common.{All, length-append, slice_get}
+use Rattle.std.proofs.Common.{◌≡◌, List, [], ◌∷◌, length, Some, sym, ◌∙◌, ap, arith}
+use Rattle.std.proofs.Common.{All, length-append}
 use Rattle.std.proofs.lemmas.List.{append-nil}
 use Rattle.std.proofs.lemmas.List.Elements.{All-cons, All-nil, All-weaker}
-use Rattle.mc_base.specs.PlainTree.{PlainTree, PlainTrees, atom, piece, row_piece, column, no_trees, more_trees}
+use Rattle.mc_base.specs.PlainTree.{PlainTrees, no_trees, more_trees}
 use Rattle.mc_base.specs.declared.fragment.FragId.{FragId}
 use Rattle.mc_base.specs.declared.fragment.FragId.TheVariants.{Kept, Trial}
 use Rattle.mc_base.specs.declared.fragment.Node.{Node}
@@ -55,4 +55,5 @@ unfolding StandsFor
 they-live p [] no_trees s = All-nil (IsLive p)
 they-live p [] (more_trees first rest) s = absurd s
 they-live p (id ∷ ids) no_trees s = absurd s
-they-live p (id ∷ ids) (more_trees first rest) s = All-cons (IsLive p) id ids (stands-live p id first s.0) (they-live p ids rest s.1)
+they-live p (id ∷ ids) (more_trees first rest) s =
+    All-cons (IsLive p) id ids (stands-live p id first s.0) (they-live p ids rest s.1)

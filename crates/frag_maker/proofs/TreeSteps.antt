@@ -1,7 +1,7 @@
 -- The trees of what is placed, from one thing that stands there to the next, without a count.
-use Rattle.std.proofs.Common.{◌≡◌, ℕ, zero, suc, ◌+◌, ◌<◌, ◌≤◌, ◌==◌, Bool, true, false, cond, List, [], ◌∷◌, ◌++◌, length}
-use Rattle.std.proofs.Common.{Option, Some, None, refl, sym, ◌∙◌, ap, arith}
-use Rattle.mc_base.specs.PlainTree.{PlainTree, PlainTrees, plain_trees, piece, row_piece, atom as atom_tree}
+use Rattle.std.proofs.Common.{◌≡◌, ℕ, zero, suc, ◌≤◌, Bool, true, false, cond, List, [], ◌∷◌, length}
+use Rattle.std.proofs.Common.{Some, None, refl, ◌∙◌, ap, arith}
+use Rattle.mc_base.specs.PlainTree.{PlainTree, plain_trees, piece, row_piece, atom as atom_tree}
 use Rattle.flow_list.specs.Placing.{RowLaid, Placed, opens_at, closes_at, atom_at, row_at}
 use Rattle.flow_list.specs.Fragments.{closes_here, inside_box, behind_box, bottom_of, trees_of, all_trees}
 
@@ -54,7 +54,8 @@ module _ (columns : RowLaid → List PlainTree) where
 
   -- where a box starts or continues: what stands before its end is in it
   pub trees-opens : (b y : ℕ) (starts : Bool) (xs : List Placed) → all_trees columns (opens_at b y starts ∷ xs)
-      ≡ piece b starts y (bottom_of b xs) (plain_trees (all_trees columns (inside_box b xs))) ∷ all_trees columns (behind_box b xs)
+      ≡ piece b starts y (bottom_of b xs) (plain_trees (all_trees columns (inside_box b xs))) ∷ all_trees columns
+      (behind_box b xs)
   unfolding trees_of
   trees-opens b y starts xs =
       ap (λ ts. piece b starts y (bottom_of b xs) (plain_trees ts) ∷ trees_of columns (length xs) (behind_box b xs))

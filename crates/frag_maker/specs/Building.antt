@@ -1,5 +1,5 @@
 -- What is placed as the definitions have it, and what is known of the rows among it.
-use Rattle.std.specs.Prelude.{ℕ, cond, List, Option, Some, None, All}
+use Rattle.std.specs.Prelude.{ℕ, cond, List, Some, None, All}
 use Rattle.mc_base.specs.PlainTree.{PlainTree, PlainTrees, plain_trees, row_piece}
 use Rattle.flow_list.specs.Placing.{RowLaid, Placed as AnyPlaced, opens_at, closes_at, atom_at, row_at}
 use Rattle.frag_pool.specs.Nodes.{Nodes, IsLive}

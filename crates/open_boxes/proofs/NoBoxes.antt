@@ -1,5 +1,5 @@
 -- Where there are no boxes none is open.
-use Rattle.std.proofs.Common.{◌≡◌, ℕ, ◌<◌, List, [], ◌∷◌, length, refl, subst, arith, All}
+use Rattle.std.proofs.Common.{◌≡◌, ℕ, ◌<◌, List, [], ◌∷◌, length, refl, arith, All}
 use Rattle.flow_list.specs.Data.{Flow, FlowsData}
 use Rattle.flow_data.specs.Soundness.{IsSoundFlow}
 use Rattle.flow_list.specs.ClonedEdges.{open_across}

@@ -5,5 +5,7 @@
 #![tactic(auto)]
 
 mod next;
+mod room;
 
 pub use next::{Judged, next_range, range_between};
+pub use room::{atoms_height, most_columns};

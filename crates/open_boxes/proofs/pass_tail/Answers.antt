@@ -1,7 +1,6 @@
-use Rattle.std.proofs.Common.{◌∙◌, ap, arith, fold}
+use Rattle.std.proofs.Common.{◌∙◌, ap}
 use Rattle.flow_list.specs.Data.{Seam}
-use Rattle.flow_data.specs.Flows.{flow_of, no_flow, seam_of}
-use Rattle.open_boxes.specs.Opening.{opened_by}
+use Rattle.flow_data.specs.Flows.{flow_of, no_flow}
 use Rattle.open_boxes.proofs.OpenLists.{tail-passed}
 use Rattle.open_boxes.proofs.pass_tail.Goals as goal
 

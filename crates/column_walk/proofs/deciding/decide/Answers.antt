@@ -1,9 +1,9 @@
-use Rattle.std.proofs.Common.{◌≡◌, ℕ, ◌+◌, ◌-◌, ◌<◌, ◌≤◌, Bool, true, false, length, refl, sym, ◌∙◌, ap, arith}
+use Rattle.std.proofs.Common.{◌≡◌, ◌+◌, ◌<◌, Bool, true, false, length, refl, sym, ◌∙◌, ap, arith}
 use Rattle.std.specs.Prelude.{◌||◌, ◌==◌}
 use Rattle.std.proofs.lemmas.Bool.Decides.{nat_tests}
 use Rattle.flow_data.specs.Flows.{flow_of, seam_of}
 use Rattle.flow_list.specs.Column.{is_forced}
-use Rattle.flow_list.specs.Strip.{Strip, lay_all, put}
+use Rattle.flow_list.specs.Strip.{lay_all, put}
 use Rattle.flow_laws.proofs.Places.{in-items}
 use Rattle.flow_list.specs.Entries.{uses_in}
 use Rattle.column_strip.specs.Strips.{strip_of}

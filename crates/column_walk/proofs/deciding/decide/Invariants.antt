@@ -1,4 +1,4 @@
-use Rattle.std.proofs.Common.{◌≡◌, ℕ, ◌+◌, ◌-◌, ◌<◌, ◌≤◌, false, length}
+use Rattle.std.proofs.Common.{◌≡◌, ◌+◌, ◌-◌, ◌<◌, ◌≤◌, false, length}
 use Rattle.std.specs.Prelude.{IfSome}
 use Rattle.flow_data.specs.Flows.{flow_of}
 use Rattle.flow_list.specs.Tokens.{item_number}

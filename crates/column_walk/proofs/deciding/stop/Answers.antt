@@ -1,19 +1,12 @@
-use Rattle.std.proofs.Common.{◌≡◌, ◌∙◌, sym, ap, subst, [], None, Some, cond}
+use Rattle.std.proofs.Common.{◌≡◌, ◌∙◌, sym, ap, [], None, Some}
 use Rattle.std.specs.Prelude.{is_none, nat_lt, ◌&&◌, ◌||◌}
-use Rattle.flow_data.specs.declared.data.Item.{Item}
-use Rattle.flow_data.specs.Flows.{flow_of, seam_of}
+use Rattle.flow_data.specs.Flows.{flow_of}
 use Rattle.flow_data.specs.Soundness.{NestsAtMost}
-use Rattle.flow_list.specs.Book.{after_uses}
-use Rattle.flow_list.specs.Column.{fill_in_room, inner_uses, is_cut, room, row_from}
-use Rattle.flow_list.specs.Rows.{all_rows}
-use Rattle.flow_list.specs.Entries.{uses_in}
-use Rattle.column_walk.specs.Deciding.{IsStopped}
+use Rattle.flow_list.specs.Column.{room, row_from}
 use Rattle.column_walk.specs.Endings.{place_opt, step_of}
-use Rattle.column_walk.specs.Stopping.{stop_of}
 use Rattle.column_walk.proofs.Chain.{uses-none}
 use Rattle.column_walk.proofs.Filled.{on-ok, row-at}
-use Rattle.column_walk.proofs.Small.{next-fits, small-any}
-use Rattle.column_walk.proofs.Stopped.{uses-filled, uses-unfilled}
+use Rattle.column_walk.proofs.Stopped.{uses-unfilled}
 use Rattle.column_walk.proofs.deciding.stop.Goals as goal
 
 pub fill_row-requires-clause-nests : goal.fill_row-requires-clause-nests

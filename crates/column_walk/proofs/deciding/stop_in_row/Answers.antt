@@ -1,4 +1,4 @@
-use Rattle.std.proofs.Common.{◌≡◌, ◌+◌, ◌-◌, ◌∙◌, sym, ap, refl, arith, [], Some, None}
+use Rattle.std.proofs.Common.{◌+◌, ◌∙◌, sym, ap, refl, arith, [], Some, None}
 use Rattle.flow_data.specs.declared.data.Seam.{Seam}
 use Rattle.flow_data.specs.Flows.{flow_of, seam_of}
 use Rattle.column_walk.specs.Endings.{place_opt, step_of}

@@ -1,4 +1,4 @@
-use Rattle.std.proofs.Common.{◌+◌, arith}
+use Rattle.std.proofs.Common.{arith}
 use Rattle.flow_data.specs.Flows.{flow_of}
 use Rattle.column_walk.proofs.Small.{begin-small, follow-small, high-small, need-small}
 use Rattle.column_walk.proofs.endings.here_at.Goals as goal

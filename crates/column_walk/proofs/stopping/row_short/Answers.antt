@@ -1,6 +1,6 @@
 use Rattle.std.proofs.Common.{◌∙◌, sym, [], None}
 use Rattle.column_walk.specs.Endings.{step_of}
-use Rattle.column_walk.proofs.Shortages.{cut-short, whole-short}
+use Rattle.column_walk.proofs.Shortages.{cut-short}
 use Rattle.column_walk.proofs.stopping.row_short.Goals as goal
 
 pub returns-then-cuts : goal.returns-then-cuts

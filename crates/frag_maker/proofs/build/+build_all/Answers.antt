@@ -1,7 +1,8 @@
-use Rattle.std.proofs.Common.{◌≡◌, ◌≤◌, ◌+◌, ◌++◌, List, [], ◌∷◌, length, refl, sym, ◌∙◌, ap, arith, All, drop}
+use Rattle.std.proofs.Common.{refl, arith}
 use Rattle.std.proofs.lemmas.List.Elements.{All-nil, All-push, All-weaker}
 use Rattle.frag_pool.specs.Nodes.{IsLive}
-use Rattle.frag_maker.proofs.Built.{built-first, built-last, built-closes, built-atom, built-row, built-opens, live-row, within-more}
+use Rattle.frag_maker.proofs.Built.{built-first, built-last, built-closes, built-atom, built-row, built-opens, live-row}
+use Rattle.frag_maker.proofs.Built.{within-more}
 use Rattle.frag_pool.proofs.Growth.{grows-trans}
 use Rattle.frag_maker.proofs.Growing.{grows-same, grows-trial, live-grows, trial-live}
 use Rattle.frag_maker.proofs.build.+build_all.Goals as goal

@@ -1,4 +1,4 @@
-use Rattle.std.proofs.Common.{◌≤◌, ◌-◌, List, length, All}
+use Rattle.std.proofs.Common.{◌≤◌, ◌-◌, length, All}
 use Rattle.frag_pool.specs.Nodes.{IsLive}
 use Rattle.frag_pool.specs.Growing.{Grows}
 use Rattle.frag_maker.proofs.Built.{Built}

@@ -5,7 +5,8 @@ use Rattle.frag_maker.proofs.build.add_row.Goals as goal
 
 pub add_node-requires : goal.add_node-requires
 add_node-requires c =
-    rw (c.in_ok-columns.ensures, c.ids_in.ensures) (all-live c.args.pool.now c.args.stands.now.made c.requires _ c.get.ensures.below)
+    rw (c.in_ok-columns.ensures, c.ids_in.ensures)
+    (all-live c.args.pool.now c.args.stands.now.made c.requires _ c.get.ensures.below)
 
 pub returns-clause-piece : goal.returns-clause-piece
 returns-clause-piece c = λ columns made. rw c.in_ok-id.ensures.id

@@ -1,4 +1,3 @@
-use Rattle.std.proofs.Common.{◌≡◌}
 use Rattle.frag_maker.proofs.Closing.{NotClosedBefore}
 use Rattle.frag_maker.proofs.build.close_of.Given as goal
 
