@@ -1,6 +1,6 @@
 -- What was read of the first style attributes.
-use Rattle.std.proofs.Common.{◌≡◌, ◌<◌, ◌≤◌, ℕ, zero, suc, List, [], ◌∷◌, map, length, take, Option, Some, None, Ok, Err, Result}
-use Rattle.std.proofs.Common.{◌⊎◌, inl, inr, ◌+◌, ◌++◌, get_or, refl, sym, ap, subst, ◌∙◌, arith}
+use Rattle.std.proofs.Common.{◌≡◌, ◌<◌, ℕ, zero, suc, List, [], ◌∷◌, map, length, take, Option, Some, None, Ok, Err, Result}
+use Rattle.std.proofs.Common.{inl, inr, ◌+◌, ◌++◌, get_or, refl, sym, ap, subst, ◌∙◌, arith}
 use Rattle.std.specs.Prelude.{slice_get, IsOk}
 use Rattle.std.specs.Option.{option_map}
 use Rattle.std.proofs.lemmas.List.{length-map, map-append, take_more}
@@ -14,7 +14,7 @@ use Rattle.css_winner.specs.Own.{own_settings}
 use Rattle.css_data.specs.declared.rule.Sheet.{Sheet}
 use Rattle.css_select.proofs.Parents.{element_within}
 use Rattle.css_cascade.specs.declared.styles.NodeStyle.{NodeStyle}
-use Rattle.css_cascade.specs.Attributes.{AllAreRead, IsFirstFault, read_as, settings_or_none, node_settings, own_at}
+use Rattle.css_cascade.specs.Attributes.{AllAreRead, IsFirstFault, read_as, settings_or_none, node_settings}
 use Rattle.css_cascade.specs.Cascaded.{AreOwn, HasEntry, HasEntries, IsCascaded}
 
 get_front : {X : Type 0} (xs : List X) (n k : ℕ) → k < n → slice_get (take n xs) k ≡ slice_get xs k
@@ -84,7 +84,7 @@ fault_is_first own nodes n node refusal read at is =
       first = λ k other below there. all_read own (take n nodes) read k other (get_front nodes n k below ∙ there);
     }
 
--- an answer that is no out of memory is what is read
+-- an answer that is no want of memory is what is read
 pub was_read : (settings : List Setting) (r : Result (List Setting) Refusal) → IsUnlessMemory (Ok settings) r → r ≡ Ok settings
 was_read settings r (inl e) = absurd cc
 was_read settings r (inr e) = sym e

@@ -1,5 +1,5 @@
 -- What the winning declarations give.
-use Rattle.std.proofs.Common.{◌≡◌, ◌<◌, ◌≤◌, ◌+◌, ℕ, zero, suc, List, [], ◌∷◌, map, length, take, get_or, Option, Some, None}
+use Rattle.std.proofs.Common.{◌≡◌, ◌<◌, ℕ, zero, suc, List, [], ◌∷◌, length, take, get_or, Option, Some, None}
 use Rattle.std.proofs.Common.{refl, sym, ap, subst, ◌∙◌, arith}
 use Rattle.std.specs.Prelude.{slice_get, MatchOption}
 use Rattle.std.specs.Option.{option_map}
@@ -17,11 +17,10 @@ use Rattle.css_winner.specs.declared.setting.Setting.{Setting}
 use Rattle.css_winner.specs.declared.setting.Given.{Given}
 use Rattle.css_winner.specs.declared.setting.Given.TheVariants as given
 use Rattle.css_winner.specs.declared.best.Offer.{Offer}
-use Rattle.css_winner.specs.Applying.{Claim, IsWinner, Wins}
+use Rattle.css_winner.specs.Applying.{Claim, Wins}
 use Rattle.css_winner.specs.Best.{found_at}
 use Rattle.css_winner.specs.Winners.{HasWinners}
 use Rattle.css_winner.proofs.LawLemmas.{one_winner}
-use Rattle.css_winner.proofs.BestLemmas.{place_within}
 use Rattle.css_cascade.specs.Won.{given_refusal, won_value, won_refusal, value_of, refusal_of, values_of, or_else, first_refusal}
 use Rattle.css_computed.specs.declared.style.Style.{Style}
 use Rattle.css_computed.specs.Styles.{style_by}

@@ -1,5 +1,5 @@
 -- The entries of a document's nodes.
-use Rattle.std.specs.Prelude.{ℕ, List, Option, Some, None, slice_get, option_and_then}
+use Rattle.std.specs.Prelude.{ℕ, List, Option, slice_get, option_and_then}
 use Rattle.std.specs.Option.{option_map}
 use Rattle.mc_base.specs.declared.refusal.ConstructName.{ConstructName}
 use Rattle.css_computed.specs.declared.style.Style.{Style}

@@ -1,5 +1,5 @@
 -- What the winning declarations give: a value for each property, and the first of them that is refused.
-use Rattle.std.specs.Prelude.{ℕ, List, [], ◌∷◌, map, take, Option, Some, None}
+use Rattle.std.specs.Prelude.{List, [], ◌∷◌, map, take, Option, Some, None}
 use Rattle.std.specs.Option.{option_map}
 use Rattle.mc_base.specs.declared.refusal.ConstructName.{ConstructName}
 use Rattle.css_values.specs.declared.declared.Value.{Value}

@@ -1,5 +1,5 @@
 -- One more claim, and the best that was found.
-use Rattle.std.proofs.Common.{◌≡◌, ◌≢◌, ◌⊎◌, inl, inr, ℕ, zero, suc, ◌<◌, Bool, true, false, List, [], ◌∷◌, ◌++◌, length, get_or}
+use Rattle.std.proofs.Common.{◌≡◌, inl, inr, ℕ, zero, suc, ◌<◌, Bool, true, false, List, [], ◌∷◌, ◌++◌, length, get_or}
 use Rattle.std.proofs.Common.{set, Option, Some, None, refl, sym, ap, subst, ◌∙◌, arith, append_assoc, ◌+◌, take, get_or-set_same}
 use Rattle.std.proofs.Common.{get_or-set_other}
 use Rattle.std.specs.Prelude.{slice_get, MatchOption, replicate, map}
@@ -18,7 +18,7 @@ use Rattle.css_winner.specs.Precedences.{is_above}
 use Rattle.css_winner.specs.declared.best.Source.{Source}
 use Rattle.css_winner.specs.declared.setting.Setting.{Setting}
 use Rattle.css_winner.specs.Applying.{Claim, claim_at, claims_from}
-use Rattle.css_winner.specs.Best.{claim_of, is_better, place_of, kept, IsGreatest, NoneAt, IsBestAt, found_at, IsBest}
+use Rattle.css_winner.specs.Best.{claim_of, is_better, place_of, kept, IsGreatest, IsBestAt, found_at, IsBest}
 use Rattle.css_winner.proofs.AmongLemmas.{among_left, among_right, among_more}
 use Rattle.css_winner.proofs.ClaimLemmas.{claims_more}
 use Rattle.css_winner.proofs.OrderLemmas.{not_above_itself, not_above_higher}

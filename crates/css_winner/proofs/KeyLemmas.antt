@@ -1,13 +1,11 @@
 -- An element that a selector matches is looked up by the name that the selector is filed under.
-use Rattle.std.proofs.Common.{◌≡◌, ◌⊎◌, inl, inr, ℕ, suc, ◌+◌, ◌-◌, List, [], ◌∷◌, length, map, Option, Some, None, refl, sym, ap}
+use Rattle.std.proofs.Common.{◌≡◌, inl, inr, ℕ, suc, ◌-◌, List, [], ◌∷◌, length, Option, Some, None, refl, sym, ap}
 use Rattle.std.proofs.Common.{subst, ◌∙◌, arith}
-use Rattle.std.specs.Prelude.{slice_get, All, Any, codes, IfSome, IsSomeAnd}
-use Rattle.std.specs.Char.{to_ascii_lowercase}
+use Rattle.std.specs.Prelude.{slice_get, All, codes, IfSome, IsSomeAnd}
 use Rattle.std.proofs.lemmas.List.Elements.{All-head, All-tail}
 use Rattle.html_grammar.specs.declared.dom.Attribute.{Attribute}
 use Rattle.html_grammar.specs.declared.dom.Dom.{Dom}
 use Rattle.html_grammar.specs.declared.dom.DomNode.{DomNode}
-use Rattle.html_grammar.specs.declared.dom.NodeKind.{NodeKind}
 use Rattle.html_grammar.specs.declared.dom.NodeKind.TheVariants as kinds
 use Rattle.css_data.specs.declared.selector.AttrOp.TheVariants as ops
 use Rattle.css_data.specs.declared.selector.Compound.{Compound}
@@ -19,7 +17,7 @@ use Rattle.css_select.specs.Attributes.{IsSameName, HasAttribute}
 use Rattle.css_select.specs.Tests.{Passes, KindMeets, Meets}
 use Rattle.css_select.specs.Matching.{Leads, LeadsFromFirst, Matches}
 use Rattle.css_winner.specs.Keys.{id_of, class_of, or_else, first_id, first_class, type_key, class_key, id_key, compound_key}
-use Rattle.css_winner.specs.Keys.{last, key_by, key_of, IsAttributeKey, IsKey}
+use Rattle.css_winner.specs.Keys.{last, key_by, key_of, IsKey}
 
 -- the last compound selector, with an element that meets it
 pub record MeetsLast (dom : Dom) (cs : List Compound) (n : ℕ) : Type 0 where

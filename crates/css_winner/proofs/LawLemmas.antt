@@ -1,5 +1,5 @@
 -- At most one declaration wins.
-use Rattle.std.proofs.Common.{◌≡◌, ◌⊎◌, inl, inr, ℕ, true, false, List, Some, refl, sym, ap, ◌∙◌}
+use Rattle.std.proofs.Common.{◌≡◌, inl, inr, ℕ, List, Some, refl, sym, ap, ◌∙◌}
 use Rattle.std.specs.Prelude.{slice_get}
 use Rattle.std.proofs.lemmas.Bool.{true≢false}
 use Rattle.html_grammar.specs.declared.dom.Dom.{Dom}
@@ -7,7 +7,7 @@ use Rattle.css_data.specs.declared.rule.StyleRule.{StyleRule}
 use Rattle.css_data.specs.declared.rule.Sheet.{Sheet}
 use Rattle.css_winner.specs.declared.setting.Setting.{Setting}
 use Rattle.css_winner.specs.Settings.{settings_of}
-use Rattle.css_winner.specs.Applying.{Claim, rule_at, AppliesByRule, AppliesOwn, Applies, IsWinner}
+use Rattle.css_winner.specs.Applying.{Claim, rule_at, Applies}
 use Rattle.css_winner.specs.Laws.{OneWins}
 use Rattle.css_winner.proofs.OrderLemmas.{one_place}
 

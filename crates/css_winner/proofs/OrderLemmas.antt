@@ -6,7 +6,6 @@ use Rattle.std.specs.declared.cmp.Ordering.{Ordering}
 use Rattle.std.specs.declared.cmp.Ordering.TheVariants.{Less, Equal, Greater}
 use Rattle.std.proofs.lemmas.Bool.{true≢false, false_from_ne_true}
 use Rattle.std.proofs.lemmas.Map.Lookups.{exact_bytes}
-use Rattle.css_select.specs.declared.weight.Weight.{Weight}
 use Rattle.css_winner.specs.declared.precedence.Origin.{Origin}
 use Rattle.css_winner.specs.declared.precedence.Origin.TheVariants.{BuiltIn, Author, Important}
 use Rattle.css_winner.specs.declared.precedence.Precedence.{Precedence}

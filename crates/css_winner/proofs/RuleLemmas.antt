@@ -1,6 +1,6 @@
 -- Where rules and selectors stand.
-use Rattle.std.proofs.Common.{◌≡◌, ℕ, suc, ◌+◌, ◌<◌, ◌∷◌, List, length, get_or, map, Option, Some, None, refl, sym, ap, ◌∙◌}
-use Rattle.std.proofs.Common.{add-one, arith}
+use Rattle.std.proofs.Common.{◌≡◌, ℕ, suc, ◌+◌, ◌<◌, ◌∷◌, List, length, get_or, Option, Some, None, refl, sym, ap, ◌∙◌}
+use Rattle.std.proofs.Common.{arith}
 use Rattle.std.specs.Prelude.{slice_get, option_and_then}
 use Rattle.std.specs.Option.{option_map}
 use Rattle.std.proofs.lemmas.Option.{slice_get-map}
@@ -8,7 +8,6 @@ use Rattle.css_data.specs.declared.selector.Selector.{Selector}
 use Rattle.css_data.specs.declared.rule.StyleRule.{StyleRule}
 use Rattle.css_data.specs.declared.rule.Sheet.{Sheet}
 use Rattle.css_winner.specs.declared.filing.Place.{Place}
-use Rattle.css_winner.specs.declared.setting.Setting.{Setting}
 use Rattle.css_winner.proofs.AmongLemmas.{item_at}
 use Rattle.css_winner.specs.Settings.{settings_of}
 use Rattle.css_winner.specs.Applying.{rule_at}

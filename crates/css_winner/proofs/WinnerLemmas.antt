@@ -1,7 +1,7 @@
 -- What was found wins.
-use Rattle.std.proofs.Common.{◌≡◌, ◌⊎◌, inl, inr, ℕ, ◌+◌, ◌<◌, Bool, true, false, ◌==◌, List, [], ◌∷◌, ◌++◌, length, get_or}
-use Rattle.std.proofs.Common.{Option, Some, None, refl, sym, ap, subst, ◌∙◌, arith}
-use Rattle.std.specs.Prelude.{slice_get, MatchOption, Contains}
+use Rattle.std.proofs.Common.{◌≡◌, ◌⊎◌, inl, inr, ℕ, ◌+◌, ◌<◌, false, ◌==◌, List, [], ◌++◌, length, get_or}
+use Rattle.std.proofs.Common.{Option, Some, None, sym, ap, subst, ◌∙◌, arith}
+use Rattle.std.specs.Prelude.{slice_get, Contains}
 use Rattle.std.proofs.lemmas.Bool.{cases_lt}
 use Rattle.std.proofs.lemmas.Option.{slice_get-get_or}
 use Rattle.html_grammar.specs.declared.dom.Dom.{Dom}
@@ -18,8 +18,8 @@ use Rattle.css_select.specs.declared.weight.Weight.{Weight}
 use Rattle.css_select.specs.Specificity.{capped, ids_of, classes_of, types_of}
 use Rattle.css_winner.specs.Precedences.{weight_of}
 use Rattle.css_winner.specs.Among.{Among}
-use Rattle.css_winner.specs.Applying.{Claim, claim_at, claims_from, rule_source, own_source, AppliesByRule, AppliesOwn, Applies}
-use Rattle.css_winner.specs.Applying.{IsWinner, Wins}
+use Rattle.css_winner.specs.Applying.{Claim, claim_at, claims_from, rule_source, own_source, AppliesByRule, Applies}
+use Rattle.css_winner.specs.Applying.{Wins}
 use Rattle.css_winner.specs.Best.{IsBest, IsBestAt, found_at}
 use Rattle.css_winner.specs.Rules.{place, selector_at, settings_at, all_settings}
 use Rattle.css_winner.specs.Winners.{HasWinners, IsOffered, claims_at}

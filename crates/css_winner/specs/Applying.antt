@@ -1,6 +1,6 @@
 -- Which declarations apply to an element, and which one wins for a property (CSS Cascade 4, section 6.1). Sheet 0 is the built-in
 -- one.
-use Rattle.std.specs.Prelude.{◌≡◌, ◌⊎◌, ℕ, zero, suc, ◌+◌, ◌==◌, Bool, true, false, List, [], ◌∷◌, Option, Some, None}
+use Rattle.std.specs.Prelude.{◌≡◌, ◌⊎◌, ℕ, ◌+◌, ◌==◌, Bool, true, false, List, [], ◌∷◌, Option, Some}
 use Rattle.std.specs.Prelude.{MatchOption, slice_get, option_and_then}
 use Rattle.html_grammar.specs.declared.dom.Dom.{Dom}
 use Rattle.css_data.specs.declared.selector.Selector.{Selector}

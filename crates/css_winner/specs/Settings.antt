@@ -1,6 +1,6 @@
 -- What the declarations of a block set (CSS Cascade 4, sections 3.1 and 6): each property that a declaration is about, in order,
 -- with what is given to it. A shorthand stands for the properties that it sets. An ignored declaration sets nothing.
-use Rattle.std.specs.Prelude.{ℕ, Bool, true, false, List, [], ◌∷◌, ◌++◌, map, filter}
+use Rattle.std.specs.Prelude.{Bool, true, false, List, [], ◌∷◌, ◌++◌, map, filter}
 use Rattle.mc_base.specs.declared.refusal.ConstructName.{ConstructName}
 use Rattle.css_data.specs.declared.rule.RawDeclaration.{RawDeclaration}
 use Rattle.css_values.specs.declared.declared.Longhand.{Longhand}
@@ -10,7 +10,6 @@ use Rattle.css_values.specs.declared.target.Target.{Target}
 use Rattle.css_values.specs.declared.target.Target.TheVariants.{Laid, Unlaid}
 use Rattle.css_values.specs.Targets.{targets_of}
 use Rattle.css_values.specs.Declarations.{declared_of}
-use Rattle.css_winner.specs.declared.setting.Given.{Given}
 use Rattle.css_winner.specs.declared.setting.Given.TheVariants.{Value, Harmless, Refused}
 use Rattle.css_winner.specs.declared.setting.Setting.{Setting}
 

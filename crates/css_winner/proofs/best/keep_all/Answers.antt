@@ -1,4 +1,4 @@
-use Rattle.std.proofs.Common.{ap, ◌∙◌, subst, ◌++◌, take}
+use Rattle.std.proofs.Common.{subst, ◌++◌}
 use Rattle.std.proofs.lemmas.List.{take_all}
 use Rattle.css_winner.specs.Applying.{claims_from}
 use Rattle.css_winner.specs.Best.{IsBest}

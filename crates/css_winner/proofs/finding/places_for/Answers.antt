@@ -1,4 +1,4 @@
-use Rattle.std.proofs.Common.{◌≡◌, sym, subst, ◌∙◌, ap}
+use Rattle.std.proofs.Common.{sym, subst}
 use Rattle.css_winner.specs.Keys.{key_of, IsKey}
 use Rattle.css_winner.proofs.KeyLemmas.{matched_is_key, none_matched}
 use Rattle.css_winner.proofs.finding.places_for.Goals as goal

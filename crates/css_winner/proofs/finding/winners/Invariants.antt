@@ -1,4 +1,3 @@
-use Rattle.std.proofs.Common.{length}
 use Rattle.css_winner.specs.Rules.{all_sheets}
 use Rattle.css_winner.proofs.WinnerLemmas.{Gathered}
 use Rattle.css_winner.proofs.finding.winners.Given as goal

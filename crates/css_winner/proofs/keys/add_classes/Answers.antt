@@ -3,7 +3,7 @@ use Rattle.std.specs.Prelude.{slice_get}
 use Rattle.std.specs.List.{slice_split}
 use Rattle.std.proofs.lemmas.List.{length-map}
 use Rattle.html_grammar.specs.Tokens.{is_space}
-use Rattle.std.proofs.lemmas.Option.{slice_get-get_or, slice_get_within}
+use Rattle.std.proofs.lemmas.Option.{slice_get-get_or}
 use Rattle.css_winner.specs.Filing.{IsFiled}
 use Rattle.css_winner.proofs.AmongLemmas.{earlier, mapped_at}
 use Rattle.css_winner.proofs.keys.add_classes.Goals as goal

@@ -1,4 +1,4 @@
-use Rattle.std.proofs.Common.{◌≡◌, inl, inr, ap, sym, subst, ◌∙◌, Some, arith}
+use Rattle.std.proofs.Common.{inl, inr, ap, sym, subst, ◌∙◌, Some, arith}
 use Rattle.std.proofs.lemmas.Option.{slice_get-get_or}
 use Rattle.css_winner.specs.Filing.{IsFiled}
 use Rattle.css_winner.specs.Keys.{IsAttributeKey}

@@ -1,4 +1,4 @@
-use Rattle.std.proofs.Common.{◌≡◌, ◌^◌, ap, sym, subst, ◌∙◌}
+use Rattle.std.proofs.Common.{◌^◌, ap, sym, subst, ◌∙◌}
 use Rattle.std.specs.Prelude.{find}
 use Rattle.html_subset.specs.WellFormed.{KindIsWithin, AttributeIsWithin}
 use Rattle.css_winner.specs.Own.{is_style}

@@ -1,5 +1,4 @@
-use Rattle.std.proofs.Common.{◌≡◌, ◌∷◌, [], ◌++◌, inl, inr, length, Some, None, ap, sym, subst, ◌∙◌, arith}
-use Rattle.std.specs.Prelude.{slice_get}
+use Rattle.std.proofs.Common.{◌≡◌, ◌∷◌, [], ◌++◌, inl, inr, Some, None, ap, sym, subst, ◌∙◌, arith}
 use Rattle.css_winner.specs.Filing.{place_at}
 use Rattle.css_winner.proofs.FilingLemmas.{under, entries_new, under_more, lookup_kept, place_kept, pushed}
 use Rattle.css_winner.proofs.filing.Filing.add.Goals as goal

@@ -1,4 +1,4 @@
-use Rattle.std.proofs.Common.{◌≡◌, length, refl, ◌∙◌}
+use Rattle.std.proofs.Common.{length, refl}
 use Rattle.std.proofs.lemmas.Option.{slice_get_read}
 use Rattle.css_winner.proofs.FilingLemmas.{place_stays, place_added}
 use Rattle.css_winner.proofs.filing.Filing.file.Goals as goal
