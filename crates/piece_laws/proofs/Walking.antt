@@ -70,11 +70,7 @@ FirstEnds (x ∷ xs) = ends_gap x ≡ true
 
 first-ends : (xs : List Laid) → FirstEnds (behind_gap xs)
 first-ends [] = tt
-first-ends (x ∷ xs) = go (ends_gap x) refl (first-ends xs)
-  where
-    go : (b : Bool) → ends_gap x ≡ b → FirstEnds (behind_gap xs) → FirstEnds (cond b (x ∷ xs) (behind_gap xs))
-    go true e rest = e
-    go false e rest = rest
+first-ends (x ∷ xs) = cond_both (ends_gap x) (x ∷ xs) (behind_gap xs) FirstEnds (λ e. e) (λ _. first-ends xs)
 
 split-gap : (xs : List Laid) → flat_map of_laid (gap_of xs) ++ flat_map of_laid (behind_gap xs) ≡ flat_map of_laid xs
 split-gap [] = refl
