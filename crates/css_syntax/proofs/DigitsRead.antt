@@ -6,7 +6,8 @@ use Rattle.mc_base.specs.Decimals.{IsDecimal}
 use Rattle.mc_base.specs.DecimalReading.{decimal_at}
 use Rattle.mc_base.proofs.DecimalForms.{decimal_at-text, IsDecimal-decimal_at}
 
-pub as-read : (text : List ℕ) (answer : Option Decimal) → IfSome answer (IsDecimal text) → IfNone answer ((number : Decimal) → ¬ IsDecimal text number) → answer ≡ decimal_at text
+pub as-read : (text : List ℕ) (answer : Option Decimal) → IfSome answer (IsDecimal text)
+    → IfNone answer ((number : Decimal) → ¬ IsDecimal text number) → answer ≡ decimal_at text
 as-read text (Some number) found none = sym (decimal_at-text text number found)
 as-read text None found none = go (decimal_at text) refl
   where

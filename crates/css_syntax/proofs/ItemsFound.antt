@@ -149,7 +149,7 @@ different : (o : Option ℕ) (c : ℕ) → o ≡ Some c → o ≡ None → ⊥
 different o c a b = cc
 
 -- an opening sign is no @
-opener_at : (x : Lexeme) (c : ℕ) (xs : List Lexeme) → closer_of x ≡ Some c → rules.at_rule_of x xs ≡ None
+pub opener_at : (x : Lexeme) (c : ℕ) (xs : List Lexeme) → closer_of x ≡ Some c → rules.at_rule_of x xs ≡ None
 opener_at x c xs h = ap (λ (t : Bool). cond t (option_map rules.kind_of (rules.first_name xs)) None)
     (by_test (is_delim 64 x) refl)
   where

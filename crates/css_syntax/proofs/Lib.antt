@@ -13,3 +13,5 @@ pub mod ItemFaults
 pub mod ItemsFound
 pub mod SheetTexts
 pub mod SheetAnswered
+pub mod Turns
+pub mod SheetSaid

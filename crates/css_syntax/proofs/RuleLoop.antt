@@ -12,11 +12,14 @@ none_left : (s : Rules) (xs : List Lexeme) → rules_from 0 s xs ≡ s
 unfolding rules_from
 none_left s xs = refl
 
-pub goes_on : (n i : ℕ) (s then total : Rules) (xs after : List Lexeme) → i < n → (then, after) ≡ turn s xs → rules_from (n - i) s xs ≡ total → rules_from (n - (i + 1)) then after ≡ total
+pub goes_on : (n i : ℕ) (s then total : Rules) (xs after : List Lexeme) → i < n → (then, after) ≡ turn s xs
+    → rules_from (n - i) s xs ≡ total → rules_from (n - (i + 1)) then after ≡ total
 goes_on n i s then total xs after lt read so_far =
     let k : n - i ≡ suc (n - (i + 1)) = omega arith in
-    let one : rules_from (n - i) s xs ≡ rules_from (n - (i + 1)) (turn s xs).0 (turn s xs).1 = ap (λ (m : ℕ). rules_from m s xs) k ∙ one_turn (n - (i + 1)) s xs in
-    let same : rules_from (n - (i + 1)) then after ≡ rules_from (n - (i + 1)) (turn s xs).0 (turn s xs).1 = ap (λ (r : Rules × List Lexeme). rules_from (n - (i + 1)) r.0 r.1) read in
+    let one : rules_from (n - i) s xs ≡ rules_from (n - (i + 1)) (turn s xs).0 (turn s xs).1 = ap (λ (m : ℕ). rules_from m s xs) k
+    ∙ one_turn (n - (i + 1)) s xs in
+    let same : rules_from (n - (i + 1)) then after ≡ rules_from (n - (i + 1)) (turn s xs).0 (turn s xs).1 =
+    ap (λ (r : Rules × List Lexeme). rules_from (n - (i + 1)) r.0 r.1) read in
     same ∙ sym one ∙ so_far
 
 pub is_over : (n i : ℕ) (s total : Rules) (xs : List Lexeme) → n ≤ i → rules_from (n - i) s xs ≡ total → s ≡ total

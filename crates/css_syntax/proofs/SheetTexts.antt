@@ -16,7 +16,7 @@ use Rattle.css_syntax.specs.declared.rules.Rules.{Rules}
 use Rattle.css_syntax.specs.Brackets.{sheet_fault}
 use Rattle.css_syntax.specs.Rules.{rules_of, first_escape}
 use Rattle.css_syntax.specs.Sheets.{grammar_refusal, earlier, sheet_by, sheet_or_fault, sheet_of}
-use Rattle.css_syntax.specs.Sheeting.{tokens_of, faults_of, IsSheetFault, IsTextFault, IsSheetText, IsSheetRefusal}
+use Rattle.css_syntax.specs.Sheeting.{tokens_of, faults_of, IsSheetFault, IsTextFault, IsSheetText}
 use Rattle.css_syntax.proofs.Folding.{Told, first_once}
 use Rattle.css_syntax.proofs.Pieces.{no_faults}
 use Rattle.css_syntax.proofs.ItemFaults.{sheet_told}
@@ -33,6 +33,10 @@ same_err a b e = cc
 
 abbrev limit : Refusal
 limit = refusals.Limit limits.Rules 4001 4000
+
+-- why a text is refused, but for the count of its rules
+abbrev pub IsSheetRefusal : List ℕ → Refusal → Type 0
+IsSheetRefusal bytes e = ((f : Fault) × IsTextFault bytes f × (e ≡ grammar_refusal f)) ⊎ (IsSheetText bytes × (e ≡ limit))
 
 -- tokens without a fault are on the grammar
 pub sound_text : (bytes : List ℕ) (xs : List Lexeme) → IsTokens bytes xs → sheet_fault xs ≡ None → IsSheetText bytes

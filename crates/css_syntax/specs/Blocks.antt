@@ -1,7 +1,8 @@
 -- The declarations of a block (CSS Syntax 3, section 5.4.4; CSS 2.1, section 4.1.8): pieces with semicolons between them, outside
 -- brackets; a piece is a name, a colon, a value that isn't empty, and perhaps !important. Other pieces, and those with a
 -- backslash, are left out.
-use Rattle.std.specs.Prelude.{ℕ, zero, suc, ◌+◌, ◌-◌, ◌==◌, List, [], ◌∷◌, ◌++◌, length, take, drop, map, codes, Bool, true, false, ◌&&◌, if◌then◌else◌, Option, Some, None, option_to_list, slice_get}
+use Rattle.std.specs.Prelude.{ℕ, zero, suc, ◌+◌, ◌-◌, ◌==◌, List, [], ◌∷◌, ◌++◌, length, take, drop, map, codes, Bool, true}
+use Rattle.std.specs.Prelude.{false, ◌&&◌, if◌then◌else◌, Option, Some, None, option_to_list, slice_get}
 use Rattle.std.specs.List.{list_any}
 use Rattle.css_data.specs.declared.rule.RawDeclaration.{RawDeclaration}
 use Rattle.css_tokens.specs.declared.depth.Stop.TheVariants as stops
@@ -86,7 +87,8 @@ unfoldable pub declarations_from : ℕ → List Lexeme → List RawDeclaration
 declarations_from zero xs = []
 declarations_from (suc n) [] = []
 declarations_from (suc n) (x ∷ xs) =
-    option_to_list (declaration_of (take (piece_len (x ∷ xs)) (x ∷ xs))) ++ declarations_from n (behind_first (drop (piece_len (x ∷ xs)) (x ∷ xs)))
+    option_to_list (declaration_of (take (piece_len (x ∷ xs)) (x ∷ xs))) ++ declarations_from n
+    (behind_first (drop (piece_len (x ∷ xs)) (x ∷ xs)))
 
 abbrev pub declarations_of : List Lexeme → List RawDeclaration
 declarations_of xs = declarations_from (length xs) xs

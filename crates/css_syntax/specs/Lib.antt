@@ -9,3 +9,4 @@ pub mod Rules
 pub mod Sheets
 pub mod Styling
 pub mod Sheeting
+pub mod Saying

@@ -1,5 +1,6 @@
 -- The rules of a sheet whose brackets are closed (CSS Syntax 3, section 5.4; CSS 2.1, section 7.2.1).
-use Rattle.std.specs.Prelude.{ℕ, zero, suc, ◌+◌, ◌-◌, ◌==◌, List, [], ◌∷◌, ◌++◌, length, take, drop, Bool, true, false, ◌&&◌, is_some, if◌then◌else◌, Option, Some, None}
+use Rattle.std.specs.Prelude.{ℕ, zero, suc, ◌+◌, ◌-◌, ◌==◌, List, [], ◌∷◌, ◌++◌, length, take, drop, Bool, true, false, ◌&&◌}
+use Rattle.std.specs.Prelude.{is_some, if◌then◌else◌, Option, Some, None}
 use Rattle.mc_base.specs.declared.refusal.Found.{Found}
 use Rattle.mc_base.specs.declared.refusal.ConstructName.{ConstructName}
 use Rattle.mc_base.specs.declared.refusal.ConstructName.TheVariants as constructs
@@ -21,11 +22,21 @@ abbrev pub no_rules : Rules
 no_rules = record { rules = []; count = 0; off = 0; found = None }
 
 abbrev pub with_found : Rules → ℕ → ConstructName → Rules
-with_found s at name = record { rules = s.rules; count = s.count; off = s.off; found = or_found s.found (Some (record { offset = at; name = name })) }
+with_found s at name = record {
+  rules = s.rules;
+  count = s.count;
+  off = s.off;
+  found = or_found s.found (Some (record { offset = at; name = name }));
+}
 
 -- in a block of @media: all blocks within one that doesn't apply are counted
 abbrev pub block_begun : Rules → Bool → Rules
-block_begun s applies = record { rules = s.rules; count = s.count; off = if (s.off == 0) && applies then s.off else (s.off + 1); found = s.found }
+block_begun s applies = record {
+  rules = s.rules;
+  count = s.count;
+  off = if (s.off == 0) && applies then s.off else (s.off + 1);
+  found = s.found;
+}
 
 abbrev pub block_ended : Rules → Rules
 block_ended s = record { rules = s.rules; count = s.count; off = s.off - 1; found = s.found }
@@ -72,7 +83,8 @@ at_rule_at s at kind xs = at_rule_by s at kind (take (prelude_len xs) xs) (drop 
 abbrev pub with_rule : Rules → Option Selectors → List Lexeme → Rules
 with_rule s None block = record { rules = s.rules; count = s.count + 1; off = s.off; found = s.found }
 with_rule s (Some x) block = record {
-  rules = if s.off == 0 then s.rules ++ record { selectors = x.selectors; declarations = declarations_of block } ∷ [] else s.rules;
+  rules = if s.off == 0 then s.rules ++ record { selectors = x.selectors; declarations = declarations_of block } ∷ [] else
+      s.rules;
   count = s.count + 1;
   off = s.off;
   found = or_found s.found x.found;

@@ -1,8 +1,5 @@
 -- What is written in a sheet, and what is at fault in it (CSS Syntax 3, sections 5.4.1 to 5.4.4; CSS 2.1, section 7.2.1).
 use Rattle.std.specs.Prelude.{◌≡◌, ◌⊎◌, ℕ, List, [], ◌∷◌, ◌++◌, Bool, true, false, ◌&&◌, ◌||◌, is_some, Option, Some, None}
-use Rattle.mc_base.specs.declared.refusal.Refusal.{Refusal}
-use Rattle.mc_base.specs.declared.refusal.Refusal.TheVariants as refusals
-use Rattle.mc_base.specs.declared.refusal.LimitName.TheVariants as limits
 use Rattle.css_tokens.specs.declared.lexeme.Fault.{Fault}
 use Rattle.css_tokens.specs.declared.lexeme.Lexeme.{Lexeme}
 use Rattle.css_tokens.specs.Facts.{is_space, is_delim}
@@ -13,7 +10,6 @@ use Rattle.css_syntax.specs.declared.at_rules.AtRule.TheVariants as kinds
 use Rattle.css_syntax.specs.AtRules.{at_rule_of}
 use Rattle.css_syntax.specs.Brackets.{is_open_comment}
 use Rattle.css_syntax.specs.Blocks.{offset_of}
-use Rattle.css_syntax.specs.Sheets.{grammar_refusal}
 use Rattle.css_syntax.specs.Styling.{HaveNone}
 
 -- What stands in a sheet, one after the other: white space (and a comment that isn't closed), a rule with its block, an at-rule
@@ -131,9 +127,3 @@ pub record IsSheetText (bytes : List ℕ) : Type 0 where
   pub whole : tokens ≡ tokens_of items
   pub are : AreItems None items
   pub sound : faults_of items ≡ []
-
--- Why a text is refused: its first fault; or it is on the grammar, and has more than 4,000 rules.
-abbrev pub IsSheetRefusal : List ℕ → Refusal → Type 0
-IsSheetRefusal bytes e =
-    ((f : Fault) × IsTextFault bytes f × (e ≡ grammar_refusal f))
-    ⊎ (IsSheetText bytes × (e ≡ refusals.Limit limits.Rules 4001 4000))

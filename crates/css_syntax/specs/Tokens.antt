@@ -7,7 +7,8 @@ use Rattle.css_data.specs.declared.token.CssToken.{CssToken}
 use Rattle.css_data.specs.declared.token.CssToken.TheVariants as tokens
 use Rattle.css_tokens.specs.declared.lexeme.Lexeme.{Lexeme}
 use Rattle.css_tokens.specs.declared.lexeme.Symbol.{Symbol}
-use Rattle.css_tokens.specs.declared.lexeme.Symbol.TheVariants.{Ident, Hash, Quoted, Number, Percent, Dimension, Function, Delim, Space, Broken}
+use Rattle.css_tokens.specs.declared.lexeme.Symbol.TheVariants.{Ident, Hash, Quoted, Number, Percent, Dimension, Function, Delim}
+use Rattle.css_tokens.specs.declared.lexeme.Symbol.TheVariants.{Space, Broken}
 
 -- the number that digits write
 abbrev pub number : List ℕ → Decimal

@@ -4,11 +4,13 @@ ghost use Rattle.std.specs.Prelude.{◌≡◌, ◌<◌, ◌≤◌, ◌^◌, leng
 ghost use Rattle.css_tokens.specs.Gives.{Gives};
 ghost use Rattle.css_syntax.specs.Sheets as sheets;
 ghost use Rattle.css_syntax.specs.Styling.{IsStyle, IsStyleFault, IsStyleRefusal};
-ghost use Rattle.css_syntax.specs.Sheeting.{IsSheetText, IsTextFault, IsSheetRefusal};
+ghost use Rattle.css_syntax.specs.Saying.{IsSheet, IsRefusal};
+ghost use Rattle.css_data.specs.declared.rule.Sheet.{Sheet as ASheet};
+ghost use Rattle.mc_base.specs.declared.refusal.Refusal.{Refusal as ARefusal};
 ghost use Rattle.css_data.specs.declared.rule.RawDeclaration.{RawDeclaration as Declaration};
 ghost use Rattle.css_tokens.specs.declared.lexeme.Fault.{Fault as AFault};
 ghost use Rattle.mc_base.specs.declared.refusal.Refusal.TheVariants.{NoMemory};
-ghost use Rattle.std.specs.Prelude.{List as AList, Ok, Err, IfOk, IfErr, OnOk, ◌⊎◌};
+ghost use Rattle.std.specs.Prelude.{List as AList, Ok, Err, IfOk, IfErr, ◌⊎◌};
 ghost use Rattle.css_syntax.specs.Answers.{IsUnlessMemory};
 
 use crate::blocks::declarations;
@@ -118,12 +120,16 @@ fn sheet_of(alloc: Global, text: &[u8]) -> Result<Sheet, Refusal>
 /// answered for every text.
 pub fn parse_sheet(alloc: Global, text: &[u8]) -> Result<Sheet, Refusal>
     requires { length text.now ≤ 2 ^ 28 }
-    // A text that is answered by a sheet is on the grammar.
-    ensures sound { OnOk result (IsSheetText text.now) }
+    // What is answered is the sheet that the text says, within the limit.
+    ensures found { IfOk result (λ sheet. IsSheet text.now sheet) }
+    // What the text says is answered, and nothing else, unless memory runs out.
+    ensures only { (sheet : ASheet) → IsSheet text.now sheet → IsUnlessMemory result (Ok sheet) }
+    // The text says no other.
+    ensures one { IfOk result (λ sheet. (other : ASheet) → IsSheet text.now other → other ≡ sheet) }
     // A refusal has its reason: the first fault, or the limit on a text on the grammar; unless memory ran out.
-    ensures refused { IfErr result (λ e. (e ≡ NoMemory) ⊎ IsSheetRefusal text.now e) }
-    // A text with a first fault is refused by it, unless memory runs out.
-    ensures told { (f : AFault) → IsTextFault text.now f → IsUnlessMemory result (Err (sheets.grammar_refusal f)) }
+    ensures refused { IfErr result (λ e. (e ≡ NoMemory) ⊎ IsRefusal text.now e) }
+    // A text with such a reason is refused for it, unless memory runs out.
+    ensures told { (e : ARefusal) → IsRefusal text.now e → IsUnlessMemory result (Err e) }
     // Which answer it is.
     ensures exact { IsUnlessMemory result (sheets.sheet_of text.now) }
 {

@@ -18,7 +18,8 @@ loop-preserved c =
     let count : c.front_len.result ≡ piece_len xs = cc (c.front_len.ensures.count, c.as_slice.ensures) in
     let front : c.take-piece.result.now ≡ take (piece_len xs) xs = c.take-piece.ensures.front ∙ ap (λ (k : ℕ). take k xs) count in
     let back : c.take-piece.new.self ≡ drop (piece_len xs) xs = c.take-piece.ensures.rest ∙ ap (λ (k : ℕ). drop k xs) count in
-    goes_on n c.loop.counter c.loop.all c.push_declaration.new.all (declarations_from n c.args.block.now) xs c.take-piece.result.now c.take-piece.new.self c.bump.new.self c.in-Some._lexeme.now c.in_ok-next.next
+    goes_on n c.loop.counter c.loop.all c.push_declaration.new.all (declarations_from n c.args.block.now) xs
+    c.take-piece.result.now c.take-piece.new.self c.bump.new.self c.in-Some._lexeme.now c.in_ok-next.next
     c.loop-test.true some front back c.bump.ensures c.in_ok-next.ensures c.in_ok-push_declaration.ensures c.loop.invariant
 
 pub returns : goal.returns
