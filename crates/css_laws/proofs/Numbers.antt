@@ -30,7 +30,8 @@ use Rattle.css_laws.proofs.Branches.{ident_passes, ident_begins, ident_starts}
 abbrev pub numeral : ℕ → Bool
 numeral c = is_ascii_digit c || ((c == 46) || is_sign c)
 
-pub digits_begin : (ps : List Place) → begins_digits ps ≡ true → (begins_with numeral ps ≡ true) × (begins_with is_start ps ≡ false)
+pub digits_begin : (ps : List Place) → begins_digits ps ≡ true
+    → (begins_with numeral ps ≡ true) × (begins_with is_start ps ≡ false)
     × (begins_with is_sign ps ≡ false)
 digits_begin [] h = absurd cc
 digits_begin (p ∷ ps) h = by_digit (is_ascii_digit p.character) refl h
@@ -102,7 +103,8 @@ numbered (p ∷ (q ∷ more)) unsigned h d = absurd (not_empty q more h.1)
     not_empty : (q : Place) (more : List Place) → q ∷ more ≡ [] → ⊥
     not_empty q more e = cc
 
-pub number_whole : (number rest : List Place) (n : IsNumber number) → number ++ rest ≡ n.sign ++ (n.digits ++ (n.fraction ++ rest))
+pub number_whole : (number rest : List Place) (n : IsNumber number)
+    → number ++ rest ≡ n.sign ++ (n.digits ++ (n.fraction ++ rest))
 number_whole number rest n =
     ap (λ (x : List Place). x ++ rest) n.whole ∙ append_assoc n.sign (n.digits ++ n.fraction) rest
     ∙ ap (λ (x : List Place). n.sign ++ x) (append_assoc n.digits n.fraction rest)
