@@ -1,28 +1,23 @@
 -- Numbers, with what belongs to them, as they are read.
 use Rattle.std.proofs.Common.{◌≡◌, ℕ, zero, suc, ◌≤◌, List, [], ◌∷◌, ◌++◌, length, Bool, true, false, cond, not, ◌&&◌, ◌||◌, refl}
-use Rattle.std.proofs.Common.{sym, ap, subst, ◌∙◌, append_assoc, append-nil, arith, length-append, inl, inr}
-use Rattle.std.specs.Prelude.{◌⊎◌, ◌==◌, Option, Some, None, encode_utf8, encode_utf8_all}
+use Rattle.std.proofs.Common.{sym, ap, ◌∙◌, append_assoc, append-nil, arith}
+use Rattle.std.specs.Prelude.{◌==◌, Option, Some, encode_utf8, encode_utf8_all}
 use Rattle.std.specs.Char.{is_ascii_digit}
-use Rattle.std.proofs.lemmas.Bool.{true≢false, eq-eqb, eqb-true, ne_eqb, and_parts}
+use Rattle.std.proofs.lemmas.Bool.{eq-eqb, eqb-true, and_parts}
 use Rattle.html_grammar.specs.declared.place.Place.{Place}
 use Rattle.html_grammar.specs.Places.{behind_first, place_or, behind_while, begins_with, begins}
-use Rattle.html_grammar.specs.Tokens.{is_space}
-use Rattle.html_grammar.specs.Spelling.{Passes, SomePass, NoneBegins}
+use Rattle.html_grammar.specs.Spelling.{Passes}
 use Rattle.css_tokens.specs.Characters.{is_name, is_start, is_sign}
 use Rattle.css_tokens.specs.declared.lexeme.Lexeme.{Lexeme}
-use Rattle.css_tokens.specs.declared.lexeme.Symbol.{Symbol}
-use Rattle.css_tokens.specs.declared.lexeme.Symbol.TheVariants.{Ident, Hash, Quoted, Number, Percent, Dimension, Function, Delim}
-use Rattle.css_tokens.specs.declared.lexeme.Symbol.TheVariants.{Space, Broken}
+use Rattle.css_tokens.specs.declared.lexeme.Symbol.TheVariants.{Number, Percent, Dimension}
 use Rattle.css_tokens.specs.Lexing.{code_or, text_while, begins_ident, name_text, behind_name, begins_point, begins_digits}
 use Rattle.css_tokens.specs.Lexing.{behind_sign, begins_number, sign_text, fraction_text, behind_fraction, number_text}
-use Rattle.css_tokens.specs.Lexing.{behind_number, ident_at, numeric_at, hash_at, quoted_text, behind_quoted, string_at, other_at}
-use Rattle.css_tokens.specs.Lexing.{symbol_at, from_end, comment_at, piece_at}
-use Rattle.css_laws.specs.Forms.{text_of, IsIdent, IsSign, IsFraction, IsNumber, is_quote, Part, Plain, Escaped, spelled}
-use Rattle.css_laws.specs.Forms.{AreParts, IsString, IsLone, IsOpenString, ends_comment, IsComment, IsOpenComment, is_other}
-use Rattle.css_laws.specs.Forms.{IsForm, IsPiece}
+use Rattle.css_tokens.specs.Lexing.{behind_number, numeric_at}
+use Rattle.css_tokens.specs.Lexing.{piece_at}
+use Rattle.css_laws.specs.Forms.{text_of, IsIdent, IsSign, IsFraction, IsNumber}
 use Rattle.css_laws.proofs.Runs.{behind_through, behind_back, codes_back, stays, behind_le, first_le, begins_back, other_char}
 use Rattle.css_laws.proofs.Runs.{begins_other, begins_some, all_pass, text_append, same_place}
-use Rattle.css_laws.proofs.Found.{placed, pair, piece, piece_has, some_places, none_begins}
+use Rattle.css_laws.proofs.Found.{placed, pair, some_places}
 use Rattle.css_laws.proofs.Branches.{SymbolReaches, and_false, or_true, not_true, begins_no_space, to_symbol, to_number}
 use Rattle.css_laws.proofs.Branches.{ident_passes, ident_begins, ident_starts}
 
@@ -30,7 +25,8 @@ use Rattle.css_laws.proofs.Branches.{ident_passes, ident_begins, ident_starts}
 abbrev pub numeral : ℕ → Bool
 numeral c = is_ascii_digit c || ((c == 46) || is_sign c)
 
-pub digits_begin : (ps : List Place) → begins_digits ps ≡ true → (begins_with numeral ps ≡ true) × (begins_with is_start ps ≡ false)
+pub digits_begin : (ps : List Place) → begins_digits ps ≡ true
+    → (begins_with numeral ps ≡ true) × (begins_with is_start ps ≡ false)
     × (begins_with is_sign ps ≡ false)
 digits_begin [] h = absurd cc
 digits_begin (p ∷ ps) h = by_digit (is_ascii_digit p.character) refl h
@@ -102,7 +98,8 @@ numbered (p ∷ (q ∷ more)) unsigned h d = absurd (not_empty q more h.1)
     not_empty : (q : Place) (more : List Place) → q ∷ more ≡ [] → ⊥
     not_empty q more e = cc
 
-pub number_whole : (number rest : List Place) (n : IsNumber number) → number ++ rest ≡ n.sign ++ (n.digits ++ (n.fraction ++ rest))
+pub number_whole : (number rest : List Place) (n : IsNumber number)
+    → number ++ rest ≡ n.sign ++ (n.digits ++ (n.fraction ++ rest))
 number_whole number rest n =
     ap (λ (x : List Place). x ++ rest) n.whole ∙ append_assoc n.sign (n.digits ++ n.fraction) rest
     ∙ ap (λ (x : List Place). n.sign ++ x) (append_assoc n.digits n.fraction rest)

@@ -1,27 +1,27 @@
 -- What has a form is read at least so far, and by itself it is read as that.
-use Rattle.std.proofs.Common.{◌≡◌, ℕ, zero, suc, ◌≤◌, List, [], ◌∷◌, ◌++◌, length, Bool, true, false, cond, not, ◌&&◌, ◌||◌, refl}
-use Rattle.std.proofs.Common.{sym, ap, subst, ◌∙◌, append_assoc, append-nil, arith, length-append, inl, inr}
+use Rattle.std.proofs.Common.{◌≡◌, ℕ, ◌≤◌, List, [], ◌∷◌, ◌++◌, length, Bool, true, false, cond, not, ◌&&◌, ◌||◌, refl}
+use Rattle.std.proofs.Common.{sym, ap, subst, ◌∙◌, append_assoc, arith, length-append, inl, inr}
 use Rattle.std.specs.Prelude.{◌⊎◌, ◌==◌, Option, Some, None, encode_utf8, encode_utf8_all}
 use Rattle.std.specs.Char.{is_ascii_digit}
 use Rattle.std.proofs.lemmas.Bool.{true≢false, eq-eqb, eqb-true, ne_eqb, and_parts}
 use Rattle.html_grammar.specs.declared.place.Place.{Place}
-use Rattle.html_grammar.specs.Places.{behind_first, place_or, behind_while, begins_with, begins}
+use Rattle.html_grammar.specs.Places.{behind_first, place_or, begins}
 use Rattle.html_grammar.specs.Tokens.{is_space}
-use Rattle.html_grammar.specs.Spelling.{Passes, SomePass, NoneBegins}
+use Rattle.html_grammar.specs.Spelling.{SomePass, NoneBegins}
 use Rattle.css_tokens.specs.Characters.{is_name, is_start, is_sign}
 use Rattle.css_tokens.specs.declared.lexeme.Lexeme.{Lexeme}
 use Rattle.css_tokens.specs.declared.lexeme.Symbol.{Symbol}
 use Rattle.css_tokens.specs.declared.lexeme.Symbol.TheVariants.{Ident, Hash, Quoted, Number, Percent, Dimension, Function, Delim}
 use Rattle.css_tokens.specs.declared.lexeme.Symbol.TheVariants.{Space, Broken}
-use Rattle.css_tokens.specs.Lexing.{code_or, text_while, begins_ident, name_text, behind_name, begins_point, begins_digits}
-use Rattle.css_tokens.specs.Lexing.{behind_sign, begins_number, sign_text, fraction_text, behind_fraction, number_text}
-use Rattle.css_tokens.specs.Lexing.{behind_number, ident_at, numeric_at, hash_at, quoted_text, behind_quoted, string_at, other_at}
+use Rattle.css_tokens.specs.Lexing.{begins_ident, name_text, behind_name, begins_digits}
+use Rattle.css_tokens.specs.Lexing.{begins_number}
+use Rattle.css_tokens.specs.Lexing.{hash_at, quoted_text, behind_quoted, string_at, other_at}
 use Rattle.css_tokens.specs.Lexing.{symbol_at, from_end, comment_at, piece_at}
-use Rattle.css_laws.specs.Forms.{text_of, IsIdent, IsSign, IsFraction, IsNumber, is_quote, Part, Plain, Escaped, spelled}
+use Rattle.css_laws.specs.Forms.{text_of, is_quote, Part, Plain, Escaped, spelled}
 use Rattle.css_laws.specs.Forms.{AreParts, IsString, IsLone, IsOpenString, ends_comment, IsComment, IsOpenComment, is_other}
 use Rattle.css_laws.specs.Forms.{IsForm, IsPiece}
-use Rattle.css_laws.proofs.Runs.{behind_through, behind_back, codes_back, stays, behind_le, first_le, begins_back, other_char}
-use Rattle.css_laws.proofs.Runs.{begins_other, begins_some, all_pass, text_append, same_place}
+use Rattle.css_laws.proofs.Runs.{behind_through, behind_back, codes_back, behind_le, begins_back}
+use Rattle.css_laws.proofs.Runs.{begins_some, all_pass}
 use Rattle.css_laws.proofs.Found.{placed, pair, piece, piece_has, some_places, none_begins}
 use Rattle.css_laws.proofs.Branches.{Reaches, SymbolReaches, exact, and_false, not_true, to_other, space_reach, ident_reach}
 use Rattle.css_laws.proofs.Branches.{function_read}

@@ -1,8 +1,8 @@
 -- What a sheet says is read, and nothing else.
 use Rattle.std.proofs.Common.{◌≡◌, ℕ, zero, suc, ◌+◌, ◌-◌, ◌≤◌, ◌<◌, List, [], ◌∷◌, ◌++◌, length, Bool, true, false, cond, nat_lt}
-use Rattle.std.proofs.Common.{Result, Ok, Err}
+use Rattle.std.proofs.Common.{Ok, Err}
 use Rattle.std.proofs.Common.{refl, sym, ap, subst, ◌∙◌, append-nil, arith, length-append, inl, inr}
-use Rattle.std.specs.Prelude.{◌⊎◌, ◌==◌, ◌&&◌, Option, Some, None}
+use Rattle.std.specs.Prelude.{◌⊎◌, ◌&&◌, Option, Some, None}
 use Rattle.std.proofs.lemmas.Bool.{ltb-true, ltb-false, lt-ltb, le-ltb}
 use Rattle.mc_base.specs.declared.refusal.Found.{Found}
 use Rattle.mc_base.specs.declared.refusal.Refusal.{Refusal}
@@ -13,10 +13,8 @@ use Rattle.css_data.specs.declared.rule.StyleRule.{StyleRule}
 use Rattle.css_data.specs.declared.rule.Sheet.{Sheet}
 use Rattle.css_tokens.specs.declared.lexeme.Fault.{Fault}
 use Rattle.css_tokens.specs.declared.lexeme.Lexeme.{Lexeme}
-use Rattle.css_tokens.specs.Lexing.{lexed}
-use Rattle.css_laws.specs.Texts.{IsTokens}
-use Rattle.css_laws.specs.Values.{Values, Nil, One, Closed, Open, written, IsWhole, AreValues, fault_of, faults_in, Among}
-use Rattle.css_laws.proofs.Whole.{tokens_said, tokens_read, bad_said}
+use Rattle.css_laws.specs.Values.{Values, Nil, One, Closed, Open, written, AreValues, fault_of, faults_in, Among}
+use Rattle.css_laws.proofs.Whole.{tokens_read}
 use Rattle.css_prelude.specs.declared.selecting.Selectors.{Selectors}
 use Rattle.css_prelude.specs.Selecting.{selectors_of}
 use Rattle.css_syntax.specs.declared.at_rules.AtRule.{AtRule}
@@ -33,7 +31,7 @@ use Rattle.css_syntax.proofs.Folding.{Told}
 use Rattle.css_syntax.proofs.BlockFaults.{block_told}
 use Rattle.css_syntax.proofs.Pieces.{both_empty, block_found, block_back}
 use Rattle.css_syntax.proofs.ItemFaults.{sheet_told}
-use Rattle.css_syntax.proofs.SheetTexts.{SheetRead, sound_text, text_refused, text_told}
+use Rattle.css_syntax.proofs.SheetTexts.{SheetRead, text_refused, text_told}
 use Rattle.css_syntax.proofs.Turns.{one_said, said, state_as, after_items, turns, items_turned}
 
 -- Blocks.

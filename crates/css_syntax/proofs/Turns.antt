@@ -1,10 +1,10 @@
 -- Items without a fault are read turn by turn.
-use Rattle.std.proofs.Common.{◌≡◌, ℕ, zero, suc, ◌+◌, ◌-◌, ◌≤◌, List, [], ◌∷◌, ◌++◌, take, drop, length, Bool, true, false, cond}
+use Rattle.std.proofs.Common.{◌≡◌, ℕ, suc, ◌+◌, ◌-◌, List, [], ◌∷◌, ◌++◌, take, drop, length, Bool, true, false, cond}
 use Rattle.std.proofs.Common.{◌&&◌, ◌||◌}
-use Rattle.std.proofs.Common.{refl, sym, ap, subst, ◌∙◌, append_assoc, append-nil, arith, length-append, inl, inr}
-use Rattle.std.specs.Prelude.{◌⊎◌, ◌==◌, Option, Some, None, is_some}
+use Rattle.std.proofs.Common.{refl, sym, ap, subst, ◌∙◌, append_assoc, append-nil, arith}
+use Rattle.std.specs.Prelude.{◌==◌, Option, Some, None, is_some}
 use Rattle.std.specs.Option.{option_map}
-use Rattle.std.proofs.lemmas.Bool.{true≢false, or_parts, ne_eqb, eqb-true}
+use Rattle.std.proofs.lemmas.Bool.{true≢false, or_parts, eqb-true}
 use Rattle.mc_base.specs.declared.refusal.Found.{Found}
 use Rattle.mc_base.specs.declared.refusal.ConstructName.TheVariants as constructs
 use Rattle.css_data.specs.declared.rule.StyleRule.{StyleRule}
@@ -13,7 +13,7 @@ use Rattle.css_tokens.specs.declared.lexeme.Fault.{Fault}
 use Rattle.css_tokens.specs.declared.lexeme.Lexeme.{Lexeme}
 use Rattle.css_tokens.specs.Facts.{is_space, is_delim, is_closer, closer_of, broken_of, begins, behind_first, deeper, front_len}
 use Rattle.css_tokens.specs.Stops.{stops_at}
-use Rattle.css_laws.specs.Values.{Values, Nil, One, Closed, Open, written, IsWhole, closes_around, AreValues, fault_by, fault_of}
+use Rattle.css_laws.specs.Values.{Values, Nil, One, Closed, Open, written, AreValues, fault_by, fault_of}
 use Rattle.css_laws.specs.Values.{faults_in}
 use Rattle.css_prelude.specs.declared.selecting.Selectors.{Selectors}
 use Rattle.css_prelude.specs.Selecting.{selectors_of}
@@ -24,12 +24,12 @@ use Rattle.css_syntax.specs.declared.rules.Rules.{Rules}
 use Rattle.css_syntax.specs.AtRules as at_rules
 use Rattle.css_syntax.specs.Brackets.{is_two, is_open_comment}
 use Rattle.css_syntax.specs.Blocks.{offset_of, declarations_of}
-use Rattle.css_syntax.specs.Rules.{no_rules, with_found, block_begun, block_ended, behind_block, behind_at_rule, media_in}
-use Rattle.css_syntax.specs.Rules.{with_block, with_media, prelude_len, at_rule_by, at_rule_at, with_rule, with_block_of}
-use Rattle.css_syntax.specs.Rules.{style_at, rule_by, turn, rules_from, rules_of}
+use Rattle.css_syntax.specs.Rules.{with_found, block_ended, behind_block, behind_at_rule, media_in}
+use Rattle.css_syntax.specs.Rules.{with_media, prelude_len, at_rule_by, at_rule_at, with_rule, with_block_of}
+use Rattle.css_syntax.specs.Rules.{style_at, rule_by, turn, rules_from}
 use Rattle.css_syntax.specs.Styling.{HaveNone}
 use Rattle.css_syntax.specs.Sheeting.{Items, End, Gap, Block, Ended, Media, Lost, Unclosed, UnclosedMedia, tokens_of, kind_of}
-use Rattle.css_syntax.specs.Sheeting.{is_media_kind, is_stop, is_gap, begins_gap, IsPrelude, AreWhole, AreItems, faults_of}
+use Rattle.css_syntax.specs.Sheeting.{is_media_kind, is_stop, is_gap, begins_gap, IsPrelude, AreItems, faults_of}
 use Rattle.css_syntax.specs.Saying.{media_after, applies, one_if_style, rules_count, in_selectors, in_media, in_prelude}
 use Rattle.css_syntax.specs.Saying.{first_found}
 use Rattle.css_syntax.proofs.Pieces.{both_empty, no_closer, flat, front_take, front_drop}
