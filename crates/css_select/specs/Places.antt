@@ -1,5 +1,6 @@
 -- How the elements of a document stand to one another (Selectors 3, section 8).
-use Rattle.std.specs.Prelude.{◌≡◌, ◌+◌, ◌<◌, ◌≤◌, ℕ, zero, suc, Bool, false, true, ◌&&◌, ◌==◌, count_by, drop, take, Option, None, Some, IsTrue, IsSomeAnd, nat_lt, option_and_then, slice_get}
+use Rattle.std.specs.Prelude.{◌≡◌, ◌+◌, ◌<◌, ◌≤◌, ℕ, zero, suc, Bool, false, true, ◌&&◌, ◌==◌, count_by, drop, take, Option, None}
+use Rattle.std.specs.Prelude.{Some, IsTrue, IsSomeAnd, nat_lt, option_and_then, slice_get}
 use Rattle.html_grammar.specs.declared.dom.Dom.{Dom}
 use Rattle.html_grammar.specs.declared.dom.DomNode.{DomNode}
 use Rattle.html_grammar.specs.Whole.{is_element}

@@ -53,7 +53,8 @@ abbrev pub classes_of : Selector → ℕ
 classes_of selector = sum_by (λ compound. count_by is_class compound.tests) selector.compounds
 
 abbrev pub types_of : Selector → ℕ
-types_of selector = sum_by (λ compound. types_named compound.element + count_by is_pseudo_element compound.tests) selector.compounds
+types_of selector = sum_by (λ compound. types_named compound.element + count_by is_pseudo_element compound.tests)
+    selector.compounds
 
 -- a count that ends at the greatest number that it may have
 abbrev pub capped : ℕ → ℕ

@@ -55,7 +55,8 @@ UpTo dom s (suc i) n = (m : ℕ) × MeetsAt dom s (suc i) n × JoinedBy any_join
 -- from the compound i at n a way to the left, over joins that pass the test, comes to the compound q at l
 abbrev pub Comes : (Join → Bool) → Dom → Selector → ℕ → ℕ → ℕ → ℕ → Type 0
 Comes p dom s zero n q l = (q ≡ zero) × (l ≡ n)
-Comes p dom s (suc i) n q l = ((q ≡ suc i) × (l ≡ n)) ⊎ ((m : ℕ) × MeetsAt dom s (suc i) n × JoinedBy p dom s i m n × Comes p dom s i m q l)
+Comes p dom s (suc i) n q l = ((q ≡ suc i) × (l ≡ n))
+    ⊎ ((m : ℕ) × MeetsAt dom s (suc i) n × JoinedBy p dom s i m n × Comes p dom s i m q l)
 
 -- the join before the compound q doesn't pass the test
 abbrev pub StopsAt : (Join → Bool) → Selector → ℕ → Type 0

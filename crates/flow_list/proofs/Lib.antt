@@ -1,4 +1,5 @@
 pub mod AtomFlows
+pub mod BookEntries
 pub mod Built
 pub mod ColumnParts
 pub mod FileAcross

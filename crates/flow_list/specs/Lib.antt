@@ -6,12 +6,15 @@ pub mod ClonedEdges
 pub mod Column
 pub mod Counts
 pub mod Data
+pub mod Entries
 pub mod FileFlows
 pub mod Folds
 pub mod Fragments
+pub mod Keys
 pub mod Looks
 pub mod Placing
 pub mod Ranges
+pub mod Reasons
 pub mod ResultText
 pub mod RowHeights
 pub mod Rows

@@ -1,19 +1,13 @@
 -- What a live id stands for stays the same where the region grows, and where trial nodes above it are given up.
-use Rattle.std.proofs.Common.{◌≡◌, List, [], ◌∷◌, ◌++◌, Some}
+use Rattle.std.proofs.Common.{◌≡◌, List, [], ◌∷◌, Some}
 use Rattle.mc_base.specs.PlainTree.{PlainTree, PlainTrees, atom, piece, row_piece, column, no_trees, more_trees}
 use Rattle.mc_base.specs.declared.fragment.FragId.{FragId}
 use Rattle.mc_base.specs.declared.fragment.FragId.TheVariants.{Kept, Trial}
 use Rattle.mc_base.specs.declared.fragment.Node.{Node}
+pub use Rattle.frag_pool.specs.Growing.{Grows}
 use Rattle.frag_pool.specs.Nodes.{Nodes, node_of}
 use Rattle.frag_pool.specs.Standing.{StandsFor, AllStandFor}
 use Rattle.frag_pool.proofs.Closed.{get-left}
-
--- every node that was live is live and unchanged
-pub record Grows (old new : Nodes) : Type 0 where
-  pub more_kept : List Node
-  pub more_trial : List Node
-  pub kept : new.kept ≡ old.kept ++ more_kept
-  pub trial : new.trial ≡ old.trial ++ more_trial
 
 -- each node of old is in new
 pub record Keeps (old new : Nodes) : Type 0 where

@@ -5,7 +5,7 @@ mod ChangeLaw
 mod CiteLaw
 mod Cites
 mod CitesStand
-mod Deciding
+pub mod Deciding
 mod EnteredOnce
 mod Entering
 mod EntriesOnce

@@ -4,7 +4,8 @@ use Rattle.css_select.proofs.Parents.{parents_are_earlier, element_within}
 use Rattle.css_select.proofs.Ends.{elements_end}
 use Rattle.css_select.proofs.UpToLemmas.{match_lengths, matches_from_last, last_from_matches}
 use Rattle.css_select.proofs.matching.matches.Goals as goal
-use Rattle.css_select.proofs.matching.matches.Goals.{then-count-eq0-via-then-count-eq0, then-count-eq0-via-else-count-eq0+then-len-count}
+use Rattle.css_select.proofs.matching.matches.Goals.{then-count-eq0-via-then-count-eq0}
+use Rattle.css_select.proofs.matching.matches.Goals.{then-count-eq0-via-else-count-eq0+then-len-count}
 
 pub returns-then-count-eq0 : goal.returns-then-count-eq0
 returns-then-count-eq0 c = (
@@ -31,6 +32,8 @@ pub returns : goal.returns
 returns c =
     let joined : length c.args.selector.now.joins + 1 ≡ length c.args.selector.now.compounds = omega arith in
     let whole : length c.args.selector.now.compounds ≡ suc (c.len-count.result - 1) = omega arith in (
-      λ t. matches_from_last c.args.dom.now c.args.selector.now (c.len-count.result - 1) c.args.node joined whole (c.matches_up_to.ensures.0 t),
-      λ h. c.matches_up_to.ensures.1 (last_from_matches c.args.dom.now c.args.selector.now (c.len-count.result - 1) c.args.node whole h),
+      λ t. matches_from_last c.args.dom.now c.args.selector.now (c.len-count.result - 1) c.args.node joined whole
+          (c.matches_up_to.ensures.0 t),
+      λ h. c.matches_up_to.ensures.1
+          (last_from_matches c.args.dom.now c.args.selector.now (c.len-count.result - 1) c.args.node whole h),
     )

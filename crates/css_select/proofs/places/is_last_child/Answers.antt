@@ -16,8 +16,10 @@ returns-then-is_outside c = (
       let after : List DomNode → List DomNode = λ v. take (length v - from) (drop from v) in
       let same : after c.as_slice.result.now ≡ drop from nodes = ap after c.as_slice.ensures ∙ take_rest nodes from in
       let below = subst (λ v. i < length v) same c.loop-other-test.true in
-      let at = slice_get_read (drop from nodes) (length (drop from nodes)) i x refl below (subst (λ v. x ≡ get_or v i x) same c.other-item.is) in
-      let out = subst (λ o. is_outside x.parent o ≡ true) c.parent_of-parent.ensures (sym c.is_outside.ensures ∙ c.if-is_outside.true) in
+      let at = slice_get_read (drop from nodes) (length (drop from nodes)) i x refl below
+      (subst (λ v. x ≡ get_or v i x) same c.other-item.is) in
+      let out = subst (λ o. is_outside x.parent o ≡ true) c.parent_of-parent.ensures
+      (sym c.is_outside.ensures ∙ c.if-is_outside.true) in
       none_after c.args.dom.now c.args.node i x c.requires.parents c.requires.ends at out c.loop-other.invariant,
   λ h. refl,
 )

@@ -1,0 +1,7 @@
+pub mod Begins
+pub mod Columns
+pub mod Ending
+pub mod Parts
+pub mod Rooms
+pub mod Rows
+pub mod Walks

@@ -1,0 +1,4 @@
+pub mod Edges
+pub mod Gaps
+pub mod Rows
+pub mod SoFar

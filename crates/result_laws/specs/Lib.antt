@@ -1,0 +1,9 @@
+pub mod Clauses
+pub mod Failure
+pub mod Given
+pub mod Laws
+pub mod OwnEntries
+pub mod Reading
+pub mod Testing
+pub mod Verdict
+pub mod Words
