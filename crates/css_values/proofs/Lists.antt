@@ -1,5 +1,5 @@
 -- What has been read, in front of what is read from the rest.
-use Rattle.std.proofs.Common.{◌≡◌, List, [], ◌∷◌, ◌++◌, Option, Some, None, refl, ap, sym, append_assoc}
+use Rattle.std.proofs.Common.{◌≡◌, List, [], ◌∷◌, ◌++◌, Option, Some, None, refl, ap, append_assoc}
 use Rattle.css_data.specs.declared.token.CssToken.{CssToken}
 use Rattle.css_values.specs.Options.{onto}
 use Rattle.css_values.specs.Values.{only}

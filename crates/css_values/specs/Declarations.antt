@@ -12,7 +12,6 @@ use Rattle.css_values.specs.declared.declared.Value.TheVariants as values
 use Rattle.css_values.specs.declared.declared.Longhand.{Longhand}
 use Rattle.css_values.specs.declared.declared.Declared.{Declared}
 use Rattle.css_values.specs.declared.declared.Declared.TheVariants.{Ignored, Set, Refused}
-use Rattle.css_values.specs.declared.name.Shorthand.{Shorthand}
 use Rattle.css_values.specs.declared.name.Barred.{Barred}
 use Rattle.css_values.specs.declared.name.Name.{Name}
 use Rattle.css_values.specs.declared.name.Name.TheVariants.{Own, Short, Barred as Bars}

@@ -1,10 +1,9 @@
 -- Lists of family names (CSS 2.1, section 15.3): names with commas, where a name is a string, or identifiers that are joined by
 -- one space each.
-use Rattle.std.specs.Prelude.{ℕ, Bool, true, false, ◌==◌, List, [], ◌∷◌, ◌++◌, Option, Some, None}
+use Rattle.std.specs.Prelude.{ℕ, Bool, false, ◌==◌, List, [], ◌∷◌, ◌++◌, Option, Some, None}
 use Rattle.std.specs.List.{slice_split}
 use Rattle.css_data.specs.declared.token.CssToken.{CssToken}
-use Rattle.css_data.specs.declared.token.CssToken.TheVariants.{Ident, Hash, Quoted, Number, Percent, Dimension, Function, Delim}
-use Rattle.css_data.specs.declared.token.CssToken.TheVariants.{Space}
+use Rattle.css_data.specs.declared.token.CssToken.TheVariants.{Ident, Quoted, Delim}
 use Rattle.css_values.specs.Options.{onto, or_else, ◌>>=◌}
 use Rattle.css_values.specs.Values.{only, significant}
 

@@ -1,6 +1,6 @@
 -- The names of properties (CSS 2.1, Multi-column Layout 1, Fragmentation 3, Text 3, Box Sizing 3, Box Alignment 3): those that
 -- have a value of their own, the shorthands, and those that aren't laid out. Names are compared without ASCII case.
-use Rattle.std.specs.Prelude.{◌≡◌, ℕ, List, [], ◌∷◌, codes, Option, Some, None, find}
+use Rattle.std.specs.Prelude.{◌≡◌, ℕ, List, [], ◌∷◌, codes, Option, Some, find}
 use Rattle.std.specs.Option.{option_map}
 use Rattle.mc_base.specs.declared.refusal.ConstructName.{ConstructName}
 use Rattle.mc_base.specs.declared.refusal.ConstructName.TheVariants as constructs
