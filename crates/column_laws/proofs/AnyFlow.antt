@@ -20,7 +20,8 @@ use Rattle.flow_laws.proofs.Needs.{column-steps}
 use Rattle.flow_laws.proofs.Places.{in-items}
 use Rattle.flow_laws.proofs.RowsAdvance.{columns-end, flow-advances}
 use Rattle.flow_laws.proofs.Small.{within-reach, needs-small, cuts-small, needs-rise, loose-reach, extent-le}
-use Rattle.column_laws.specs.AnyFlow.{atoms_of_flow, flow_fragment, flow_columns, IsLaterIn, FlowAdvances, FlowIsSmall, FlowIsSound}
+use Rattle.column_laws.specs.AnyFlow.{atoms_of_flow, flow_fragment, flow_columns, IsLaterIn, FlowAdvances, FlowIsSmall}
+use Rattle.column_laws.specs.AnyFlow.{FlowIsSound}
 use Rattle.column_laws.proofs.Bounds.{reach-small, bounds-small}
 
 -- where a row is cut at any height, and the tail after it
@@ -53,7 +54,8 @@ module _ (d : FlowsData) (sound : IsSound d) (f : ℕ) (lt : f < length d.flows)
     reach_is_small = reach-small d sound f lt;
     needs_never_fall = λ t place. needs-rise (all_rows d) d here (sound.flows f no_flow lt) (item_number t) 0 0
         (steps_from (all_rows d) d here t) (column-steps (all_rows d) d here (sound.flows f no_flow lt) t place);
-    needs_are_small = λ t place. needs-small (all_rows d) d here (reach (all_rows d) d here t) (item_number t) (steps_from (all_rows d) d here t)
+    needs_are_small = λ t place. needs-small (all_rows d) d here (reach (all_rows d) d here t) (item_number t)
+        (steps_from (all_rows d) d here t)
         (reach-small d sound f lt t)
         (within-reach (all_rows d) d here (reach (all_rows d) d here t) t (in-items d here t place) (omega arith));
     cuts_are_small = λ t place. All-from_recursion CutIsSmall (steps_from (all_rows d) d here t)

@@ -1,6 +1,7 @@
 -- The bounds of a column are no more than all that stands in its flow, with what stands in the rows within it: also those of
 -- fills.
-use Rattle.std.proofs.Common.{◌≡◌, ℕ, zero, suc, ◌+◌, ◌-◌, ◌^◌, ◌==◌, ◌<◌, ◌≤◌, ◌∙◌, Bool, true, false, cond, ◌&&◌, List, [], ◌∷◌, ◌++◌, map, length, get_or, Option, Some, None, refl, sym, subst, ap, arith, sum_by, ◌⊎◌, inl, inr}
+use Rattle.std.proofs.Common.{◌≡◌, ℕ, zero, suc, ◌+◌, ◌-◌, ◌^◌, ◌==◌, ◌<◌, ◌≤◌, ◌∙◌, Bool, true, false, cond, ◌&&◌, List, [], ◌∷◌}
+use Rattle.std.proofs.Common.{◌++◌, map, length, get_or, Option, Some, None, refl, sym, subst, ap, arith, sum_by, ◌⊎◌, inl, inr}
 use Rattle.std.specs.Prelude.{nat_lt}
 use Rattle.std.specs.List.{AllByRecursion as Each}
 use Rattle.std.proofs.lemmas.Bool.{cases_lt}
@@ -12,14 +13,16 @@ use Rattle.flow_data.specs.declared.data.Item.{Item}
 use Rattle.flow_data.specs.declared.data.Item.TheVariants.{Atom, Row}
 use Rattle.flow_data.specs.declared.data.RowInfo.{RowInfo}
 use Rattle.flow_data.specs.declared.data.Stack.{Stack}
-use Rattle.flow_data.specs.Flows.{row_of, flow_of, flow_in, stack_of, item_of, seam_of, rows_in, boxes_in, open_at, no_row, no_stack}
+use Rattle.flow_data.specs.Flows.{row_of, flow_of, flow_in, stack_of, item_of, seam_of, rows_in, boxes_in, open_at, no_row}
+use Rattle.flow_data.specs.Flows.{no_stack}
 use Rattle.flow_data.specs.Soundness.{IsSound, count_of, flow_owners, flow_height}
 use Rattle.flow_data.proofs.BoxSums.{open_at-le}
 use Rattle.flow_data.proofs.OpenBoxes.{some-index}
 use Rattle.flow_list.specs.ClonedEdges.{open_across, bottoms}
 use Rattle.flow_list.specs.Strip.{Strip, put, lay_all}
 use Rattle.flow_list.specs.Tokens.{Token, row_start, item_number, within, is_end}
-use Rattle.flow_list.specs.Column.{Column, Inner, Step, cut, step_at, steps, strip_behind, steps_from, start_strip, row_from, is_forced, height_of, room, is_cut, fill_in_room, bounds_at, column, column_up_to, avoids_at}
+use Rattle.flow_list.specs.Column.{Column, Inner, Step, cut, step_at, steps, strip_behind, steps_from, start_strip, row_from}
+use Rattle.flow_list.specs.Column.{is_forced, height_of, room, is_cut, fill_in_room, bounds_at, column, column_up_to, avoids_at}
 use Rattle.flow_list.specs.Rows.{columns, columns_by, up_to, fill_in, rows_to, all_rows, reach}
 use Rattle.flow_list.specs.Ranges.{bounds_of}
 use Rattle.flow_list.proofs.Fitting.{open_across-le, strip-start}
@@ -91,7 +94,8 @@ module _ (inner : Inner) (d : FlowsData) (f : Flow) (total : ℕ → ℕ) (sizes
           let m = lay_all_le (strip_behind inner f s k q) (seam_of f (k + 1)).head in
           omega arith
 
-  from-under : (t : Token) → flow_height d f + sum_by total (rows_in f) ≤ top → EachFrom (λ n. IsUnder) (item_number t) (steps_from inner d f t)
+  from-under : (t : Token) → flow_height d f + sum_by total (rows_in f) ≤ top
+      → EachFrom (λ n. IsUnder) (item_number t) (steps_from inner d f t)
   from-under t le =
       let a = strip-start d f t in
       let w = whole-le total f d inner (item_number t) in

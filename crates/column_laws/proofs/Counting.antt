@@ -1,5 +1,6 @@
 -- Places have few numbers, and there are few columns.
-use Rattle.std.proofs.Common.{◌≡◌, ℕ, zero, suc, ◌-◌, ◌*◌, ◌<◌, ◌≤◌, true, false, not, ◌&&◌, [], ◌∷◌, length, get_or, Option, Some, sym, ◌∙◌, ap, arith, ◌⊎◌, inl, inr, mul-le-mul_left, mul-one}
+use Rattle.std.proofs.Common.{◌≡◌, ℕ, zero, suc, ◌-◌, ◌*◌, ◌<◌, ◌≤◌, true, false, not, ◌&&◌, [], ◌∷◌, length, get_or, Option}
+use Rattle.std.proofs.Common.{Some, sym, ◌∙◌, ap, arith, ◌⊎◌, inl, inr, mul-le-mul_left, mul-one}
 use Rattle.std.specs.Prelude.{nat_le}
 use Rattle.std.specs.List.{list_any}
 use Rattle.std.proofs.lemmas.Bool.{cases_lt}

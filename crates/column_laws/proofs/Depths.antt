@@ -1,6 +1,7 @@
 -- What is told of a row's fragments, of what its lines rest on, of its atoms and of what is entered with it is the same at each
 -- depth that serves.
-use Rattle.std.proofs.Common.{◌≡◌, ℕ, zero, suc, ◌+◌, ◌-◌, ◌==◌, ◌<◌, ◌≤◌, Bool, true, false, cond, not, ◌&&◌, List, [], ◌∷◌, ◌++◌, length, drop, Option, Some, None, refl, sym, subst, ◌∙◌, ap, arith}
+use Rattle.std.proofs.Common.{◌≡◌, ℕ, zero, suc, ◌+◌, ◌-◌, ◌==◌, ◌<◌, ◌≤◌, Bool, true, false, cond, not, ◌&&◌, List, [], ◌∷◌}
+use Rattle.std.proofs.Common.{◌++◌, length, drop, Option, Some, None, refl, sym, subst, ◌∙◌, ap, arith}
 use Rattle.std.specs.Prelude.{All}
 use Rattle.std.specs.List.{flat_map, AllByRecursion as Each}
 use Rattle.std.proofs.lemmas.List.Elements.{recursion_from_All}
@@ -13,15 +14,21 @@ use Rattle.flow_data.specs.Flows.{row_of, flow_in, item_of, seam_of, row_in, row
 use Rattle.flow_data.specs.Soundness.{IsSound, NestsAtMost}
 use Rattle.flow_list.specs.Tokens.{Token, row_start, item_number, within, is_end}
 use Rattle.flow_list.specs.Strip.{Strip, lay_all, put}
-use Rattle.flow_list.specs.Column.{Column, Inner, Step, cut, steps_from, start_strip, strip_behind, height_of, row_from, rows_among, room, is_cut, endless_column, unstopped}
+use Rattle.flow_list.specs.Column.{Column, Inner, Step, cut, steps_from, start_strip, strip_behind, height_of, row_from}
+use Rattle.flow_list.specs.Column.{rows_among, room, is_cut, endless_column, unstopped}
 use Rattle.flow_list.specs.Rows.{columns, columns_by, left_in, rows_to, all_rows, to_overflow, fill_in}
 use Rattle.flow_list.specs.RowHeights.{size_of}
 use Rattle.flow_list.specs.Placing.{RowLaid, Placed, opens_at, closes_at, atom_at, row_at, laid_edges, Laid, row}
-use Rattle.flow_list.specs.Fragments.{laid_item, laid_items, strip_after, laid_start, stop_of, fills_item, laid_filled, strip_filled, laid_before, laid_to, places_in, closes_here, inside_box, behind_box, bottom_of, trees_of, all_trees, column_made, fragment_of, fragments_from, columns_wanted, row_fragments}
-use Rattle.flow_list.specs.Certificate.{Use, Owned, owned_in_fill, owned_by, column_owned, columns_owned, owned_to, stands_in, size_uses, entered_with, entered}
+use Rattle.flow_list.specs.Fragments.{laid_item, laid_items, strip_after, laid_start, stop_of, fills_item, laid_filled}
+use Rattle.flow_list.specs.Fragments.{strip_filled, laid_before, laid_to, places_in, closes_here, inside_box, behind_box}
+use Rattle.flow_list.specs.Fragments.{bottom_of, trees_of, all_trees, column_made, fragment_of, fragments_from, columns_wanted}
+use Rattle.flow_list.specs.Fragments.{row_fragments}
+use Rattle.flow_list.specs.Certificate.{Use, Owned, owned_in_fill, owned_by, column_owned, columns_owned, owned_to, stands_in}
+use Rattle.flow_list.specs.Certificate.{size_uses, entered_with, entered}
 use Rattle.flow_laws.specs.Depth.{ToldAlike}
 use Rattle.flow_laws.specs.Progress.{Contents, atoms_of_items, atoms_in, contents_to}
-use Rattle.flow_laws.proofs.DepthSame.{ItemAlike, ItemsAlike, item-at, height-same, steps-same, column-same, columns-same, left_in-same, items-alike, told-alike}
+use Rattle.flow_laws.proofs.DepthSame.{ItemAlike, ItemsAlike, item-at, height-same, steps-same, column-same, columns-same}
+use Rattle.flow_laws.proofs.DepthSame.{left_in-same, items-alike, told-alike}
 use Rattle.flow_list.proofs.ColumnParts.{OfStop}
 use Rattle.flow_laws.proofs.FillEnds.{IsStepFrom, stop-from}
 use Rattle.flow_laws.proofs.HeldSums.{height_held, size-held}

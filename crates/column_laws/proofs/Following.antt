@@ -1,5 +1,7 @@
 -- Columns one after another, and what is told of them.
-use Rattle.std.proofs.Common.{◌≡◌, ℕ, zero, suc, ◌+◌, ◌-◌, ◌*◌, ◌<◌, ◌≤◌, max, min, Bool, true, false, cond, not, ◌||◌, ◌&&◌, List, [], ◌∷◌, ◌++◌, length, Option, Some, refl, sym, subst, ◌∙◌, ap, arith, ◌⊎◌, inl, inr, zero-add, length-append, zero-mul, suc-mul, add_comm}
+use Rattle.std.proofs.Common.{◌≡◌, ℕ, zero, suc, ◌+◌, ◌-◌, ◌*◌, ◌<◌, ◌≤◌, max, min, Bool, true, false, cond, not, ◌||◌, ◌&&◌}
+use Rattle.std.proofs.Common.{List, [], ◌∷◌, ◌++◌, length, Option, Some, refl, sym, subst, ◌∙◌, ap, arith, ◌⊎◌, inl, inr}
+use Rattle.std.proofs.Common.{zero-add, length-append, zero-mul, suc-mul, add_comm}
 use Rattle.std.specs.Prelude.{fold, nat_le}
 use Rattle.std.specs.List.{list_any}
 use Rattle.std.proofs.lemmas.Bool.{cases_lt}
@@ -20,7 +22,8 @@ use Rattle.flow_list.specs.Ranges.{judged, to_failure, bounds_of, lines_of}
 use Rattle.flow_list.specs.Fragments.{fragments_from}
 use Rattle.flow_list.specs.Folds.{Folded, shortage, folded_by}
 use Rattle.flow_list.proofs.Fitting.{columns_by-step, columns_by-past}
-use Rattle.column_laws.specs.Following.{end_after, ColumnsFollow, lesser, told_after, FoldsFollow, FitsExactly, columns_of_fills, fragments_of_fills, FillsFollow}
+use Rattle.column_laws.specs.Following.{end_after, ColumnsFollow, lesser, told_after, FoldsFollow, FitsExactly, columns_of_fills}
+use Rattle.column_laws.specs.Following.{fragments_of_fills, FillsFollow}
 
 -- ---- columns
 

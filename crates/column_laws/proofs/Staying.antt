@@ -1,5 +1,6 @@
 -- Breaks stay constant below what a shortage adds to a height.
-use Rattle.std.proofs.Common.{◌≡◌, ℕ, ◌<◌, ◌≤◌, min, Bool, true, false, cond, not, ◌||◌, ◌&&◌, List, [], ◌∷◌, length, refl, sym, subst, ◌∙◌, ap, arith}
+use Rattle.std.proofs.Common.{◌≡◌, ℕ, ◌<◌, ◌≤◌, min, Bool, true, false, cond, not, ◌||◌, ◌&&◌, List, [], ◌∷◌, length, refl, sym}
+use Rattle.std.proofs.Common.{subst, ◌∙◌, ap, arith}
 use Rattle.std.specs.Prelude.{fold, nat_lt}
 use Rattle.std.specs.List.{list_any}
 use Rattle.flow_data.specs.declared.data.Flow.{Flow}
@@ -11,7 +12,9 @@ use Rattle.flow_list.specs.RowHeights.{is_unforced}
 use Rattle.flow_list.specs.Ranges.{to_failure, bounds_of}
 use Rattle.flow_list.specs.Folds.{Folding, every, fitting, shortage, folded_by, columns_made}
 use Rattle.flow_laws.specs.Constant.{IsBelowEach, ColumnsStay, FillsStay}
-use Rattle.flow_laws.proofs.RowsStay.{column-stays, StayUpTo, none, ends, more, cons-stay, columns-stay, lines-stay, any-stays, end-stays, level-stays, each-stays, overflows, overflow-kept, fails-kept, fails-fine, rows_to-stay}
+use Rattle.flow_laws.proofs.RowsStay.{column-stays, StayUpTo, none, ends, more, cons-stay, columns-stay, lines-stay, any-stays}
+use Rattle.flow_laws.proofs.RowsStay.{end-stays, level-stays, each-stays, overflows, overflow-kept, fails-kept, fails-fine}
+use Rattle.flow_laws.proofs.RowsStay.{rows_to-stay}
 use Rattle.column_laws.specs.Staying.{IsShortOf, FoldStays, ShortagesHold}
 
 -- ---- shortages and bounds

@@ -1,5 +1,6 @@
 -- What is so of all rows that stand in a flow, and of the uses of their fills, is so of all uses of the flow's columns.
-use Rattle.std.proofs.Common.{◌≡◌, ℕ, zero, suc, ◌+◌, ◌-◌, ◌==◌, ◌≤◌, Bool, true, false, cond, List, [], ◌∷◌, ◌++◌, length, get_or, refl, subst, arith, Option, Some, None}
+use Rattle.std.proofs.Common.{◌≡◌, ℕ, zero, suc, ◌+◌, ◌-◌, ◌==◌, ◌≤◌, Bool, true, false, cond, List, [], ◌∷◌, ◌++◌, length}
+use Rattle.std.proofs.Common.{get_or, refl, subst, arith, Option, Some, None}
 use Rattle.std.specs.Prelude.{nat_lt, All}
 use Rattle.std.specs.List.{flat_map, AllByRecursion as Each}
 use Rattle.flow_data.specs.declared.data.Flow.{Flow}
@@ -10,7 +11,9 @@ use Rattle.flow_data.specs.Flows.{row_of, flow_in, item_of, seam_of, no_item, ro
 use Rattle.flow_data.specs.Soundness.{NestsAtMost}
 use Rattle.flow_list.specs.Strip.{Strip, lay_all}
 use Rattle.flow_list.specs.Tokens.{Token, row_start, item_number, within, is_end}
-use Rattle.flow_list.specs.Column.{Column, Inner, Step, cut, longer, steps, strip_behind, steps_from, start_strip, row_from, is_forced, room, fills, fill_in_room, inner_uses, row_list, rows_among, column, column_up_to, avoids_at}
+use Rattle.flow_list.specs.Column.{Column, Inner, Step, cut, longer, steps, strip_behind, steps_from, start_strip, row_from}
+use Rattle.flow_list.specs.Column.{is_forced, room, fills, fill_in_room, inner_uses, row_list, rows_among, column, column_up_to}
+use Rattle.flow_list.specs.Column.{avoids_at}
 use Rattle.flow_list.specs.Rows.{columns, columns_by, up_to, fails, fill_in, rows_to, all_rows, most_columns, left_in}
 use Rattle.flow_list.specs.Ranges.{Range, judged}
 use Rattle.flow_list.specs.RowHeights.{size_of}

@@ -1,6 +1,7 @@
 -- Columns one after another: each begins where the one before it ends, so what is told of them is told of the first ones and
 -- then of the rest (CSS Multi-column 1, section 3.4: content flows from one column into the next).
-use Rattle.std.specs.Prelude.{◌≡◌, ℕ, zero, suc, ◌+◌, ◌*◌, ◌<◌, ◌≤◌, max, min, Bool, true, false, cond, not, ◌||◌, ◌&&◌, List, [], ◌∷◌, ◌++◌, length, nat_le, Option, Some, None}
+use Rattle.std.specs.Prelude.{◌≡◌, ℕ, zero, suc, ◌+◌, ◌*◌, ◌<◌, ◌≤◌, max, min, Bool, true, false, cond, not, ◌||◌, ◌&&◌, List, []}
+use Rattle.std.specs.Prelude.{◌∷◌, ◌++◌, length, nat_le, Option, Some, None}
 use Rattle.std.specs.List.{list_any}
 use Rattle.mc_base.specs.PlainTree.{PlainTree}
 use Rattle.flow_data.specs.declared.data.Flow.{Flow}

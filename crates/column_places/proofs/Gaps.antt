@@ -36,7 +36,7 @@ module _ (i : ℕ) (gap : List Waiting) (w : Waiting) (lt : i < length gap) (at 
   pub rows-more : rows_waiting (drop i gap) ≡ row_waiting w ++ rows_waiting (drop (i + 1) gap)
   rows-more = ap rows_waiting (drop_more gap i w lt) ∙ ap (λ v. row_waiting v ++ rows_waiting (drop (i + 1) gap)) (sym at)
 
--- ---- what stands behind a gap doesn't depend on the count of gaps
+-- ---- what stands after a gap doesn't depend on the count of gaps
 
 behind-short : (xs : List Laid) → length (behind_gap xs) ≤ length xs
 behind-short [] = omega arith

@@ -1,4 +1,4 @@
--- Tests of attributes, behind their [ (Selectors 3, section 6.3): a name, or a name, a sign and a value, and ]. White space may
+-- Tests of attributes, after their [ (Selectors 3, section 6.3): a name, or a name, a sign and a value, and ]. White space may
 -- stand around each of these.
 use Rattle.std.specs.Prelude.{ℕ, ◌==◌, List, [], ◌∷◌, if◌then◌else◌, Option, Some, None}
 use Rattle.css_data.specs.declared.selector.Test.{Test}

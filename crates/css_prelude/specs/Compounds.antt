@@ -1,5 +1,6 @@
 -- Compound selectors (Selectors 3, section 4): a type or * or neither, and tests, not nothing at all.
-use Rattle.std.specs.Prelude.{ℕ, zero, suc, ◌==◌, List, [], ◌∷◌, ◌++◌, length, Bool, true, false, ◌&&◌, ◌||◌, not, is_some, if◌then◌else◌, Option, Some, None}
+use Rattle.std.specs.Prelude.{ℕ, zero, suc, ◌==◌, List, [], ◌∷◌, ◌++◌, length, Bool, true, false, ◌&&◌, ◌||◌, not, is_some}
+use Rattle.std.specs.Prelude.{if◌then◌else◌, Option, Some, None}
 use Rattle.css_data.specs.declared.selector.Test.TheVariants as tests
 use Rattle.css_tokens.specs.declared.lexeme.Lexeme.{Lexeme}
 use Rattle.css_tokens.specs.Facts.{begins, behind_first}
@@ -45,7 +46,7 @@ no_tests = record { tests = []; found = None }
 abbrev pub with_test : Tests → Tested → Tests
 with_test all one = record { tests = all.tests ++ one.test ∷ []; found = or_found all.found one.found }
 
--- tests, and those behind them, of which there are at most as many as counted
+-- tests, and those after them, of which there are at most as many as counted
 unfoldable pub tests_from : ℕ → Tests → List Lexeme → Option (Tests × List Lexeme)
 tests_from zero all xs = Some (all, xs)
 tests_from (suc n) all xs = if begins_test xs then (test_at xs >>= λ t. tests_from n (with_test all t.0) t.1) else Some (all, xs)
@@ -56,10 +57,12 @@ element_named None xs = (record { written = false; name = None }, xs)
 
 -- a type or *, or neither
 abbrev pub element_at : List Lexeme → Element × List Lexeme
-element_at xs = if begins 42 xs then (record { written = true; name = None }, behind_first xs) else element_named (first_ident xs) xs
+element_at xs = if begins 42 xs then (record { written = true; name = None }, behind_first xs) else element_named
+    (first_ident xs) xs
 
 abbrev pub joined : Element → Tests → Option Compounded
-joined e t = if not e.written && (length t.tests == 0) then None else Some (record { compound = record { element = e.name; tests = t.tests }; found = t.found })
+joined e t = if not e.written && (length t.tests == 0) then None else Some
+    (record { compound = record { element = e.name; tests = t.tests }; found = t.found })
 
 unfoldable pub compound_at : ℕ → List Lexeme → Option (Compounded × List Lexeme)
 compound_at n xs = tests_from n no_tests (element_at xs).1 >>= λ t. joined (element_at xs).0 t.0 >>= λ c. Some (c, t.1)

@@ -1,6 +1,7 @@
 -- The argument of :nth-child (Selectors 3, section 6.6.5.2), read over all that is written in it without white space: odd, even,
 -- a number with an optional sign, or an+b.
-use Rattle.std.specs.Prelude.{ℕ, ◌+◌, ◌*◌, ◌-◌, ◌==◌, min, ℤ, pos, ◌-ℤ◌, List, [], ◌∷◌, ◌++◌, take, drop, length, codes, Bool, true, false, ◌||◌, if◌then◌else◌, Option, Some, None}
+use Rattle.std.specs.Prelude.{ℕ, ◌+◌, ◌*◌, ◌-◌, ◌==◌, min, ℤ, pos, ◌-ℤ◌, List, [], ◌∷◌, ◌++◌, take, drop, length, codes, Bool}
+use Rattle.std.specs.Prelude.{true, false, ◌||◌, if◌then◌else◌, Option, Some, None}
 use Rattle.std.specs.Char.{is_ascii_digit}
 use Rattle.css_tokens.specs.declared.lexeme.Lexeme.{Lexeme}
 use Rattle.css_tokens.specs.declared.lexeme.Symbol.{Symbol}
@@ -24,12 +25,12 @@ spelled_in _ = None
 abbrev pub spelled : Lexeme → Option (List ℕ × List ℕ)
 spelled x = spelled_in x.symbol
 
--- a text, and all that is written behind it
+-- a text, and all that is written after it
 abbrev pub text_from : List ℕ → List Lexeme → Option (List ℕ)
 text_from text [] = Some text
 text_from text (x ∷ xs) = spelled x >>= λ t. text_from ((text ++ t.0) ++ t.1) xs
 
--- whether a minus stands first, and what stands behind the sign
+-- whether a minus stands first, and what stands after the sign
 abbrev pub sign_at : List ℕ → Bool × List ℕ
 sign_at [] = (false, [])
 sign_at (b ∷ bs) = if b == 45 then (true, bs) else (if b == 43 then (false, bs) else (false, b ∷ bs))
@@ -38,7 +39,7 @@ abbrev pub digits_len : List ℕ → ℕ
 digits_len [] = 0
 digits_len (b ∷ bs) = if is_ascii_digit b then (1 + digits_len bs) else 0
 
--- the number of digits behind those of a number, cut at 999,999,999
+-- the number of digits after those of a number, cut at 999,999,999
 abbrev pub number_from : ℕ → List ℕ → ℕ
 number_from n [] = n
 number_from n (d ∷ ds) = number_from (min (n * 10 + (d - 48)) 999999999) ds
@@ -49,7 +50,7 @@ with_sign negative n = if negative then (pos 0 -ℤ pos n) else pos n
 abbrev pub signed_number : Bool × List ℕ → ℤ
 signed_number x = with_sign x.0 (number_from 0 x.1)
 
--- behind the n: nothing, or a sign and digits
+-- after the n: nothing, or a sign and digits
 unfoldable pub offset_at : List ℕ → Option ℤ
 offset_at text =
     if length text == 0 then Some (pos 0)
@@ -66,11 +67,12 @@ abbrev pub factor : Bool → List ℕ → ℤ
 factor negative [] = with_sign negative 1
 factor negative (d ∷ ds) = with_sign negative (number_from 0 (d ∷ ds))
 
--- digits behind a sign, and what stands behind them
+-- digits after a sign, and what stands after them
 abbrev pub counted : Bool → List ℕ → List ℕ → Option Step
 counted negative digits [] = no_step negative digits
 counted negative digits (b ∷ bs) =
-    if (b == 110) || (b == 78) then (offset_at bs >>= λ offset. Some (record { step = factor negative digits; offset = offset })) else None
+    if (b == 110) || (b == 78) then (offset_at bs >>= λ offset. Some (record { step = factor negative digits; offset = offset }))
+    else None
 
 abbrev pub signed_step : Bool × List ℕ → Option Step
 signed_step x = counted x.0 (take (digits_len x.1) x.1) (drop (digits_len x.1) x.1)

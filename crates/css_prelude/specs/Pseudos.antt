@@ -1,4 +1,4 @@
--- Pseudo-classes and pseudo-elements (Selectors 3, sections 6.6 and 7), behind their first colon.
+-- Pseudo-classes and pseudo-elements (Selectors 3, sections 6.6 and 7), after their first colon.
 use Rattle.std.specs.Prelude.{ℕ, List, [], ◌∷◌, take, drop, codes, Bool, if◌then◌else◌, Option, Some, None}
 use Rattle.mc_base.specs.declared.refusal.ConstructName.{ConstructName}
 use Rattle.mc_base.specs.declared.refusal.ConstructName.TheVariants as constructs
@@ -25,7 +25,8 @@ is_generated name = is_in name (codes "before" ∷ codes "after" ∷ codes "firs
 
 -- the pseudo-classes that never match
 unfoldable pub is_never : List ℕ → Bool
-is_never name = is_in name (codes "hover" ∷ codes "active" ∷ codes "focus" ∷ codes "focus-visible" ∷ codes "focus-within" ∷ codes "visited" ∷ codes "target" ∷ [])
+is_never name = is_in name (codes "hover" ∷ codes "active" ∷ codes "focus" ∷ codes "focus-visible" ∷ codes "focus-within" ∷ codes
+    "visited" ∷ codes "target" ∷ [])
 
 -- the pseudo-classes that take no argument
 abbrev pub tested : List ℕ → Option Test
@@ -37,7 +38,8 @@ tested name =
     else (if is_never name then Some tests.Never else None))))
 
 abbrev pub element_named : ℕ → List ℕ → Tested
-element_named at name = if is_generated name then refused tests.PseudoElement at constructs.PseudoElement else plain tests.PseudoElement
+element_named at name = if is_generated name then refused tests.PseudoElement at constructs.PseudoElement else plain
+    tests.PseudoElement
 
 abbrev pub unknown : ℕ → Tested
 unknown at = refused tests.Never at constructs.PseudoClass
@@ -65,7 +67,7 @@ function_named at name arguments =
     if is_generated name then Some (element_named at name)
     else (if is_word name (codes "nth-child") then by_step arguments else none_or_unknown at (tested name))
 
--- the arguments of a function, and what stands behind its )
+-- the arguments of a function, and what stands after its )
 abbrev pub arguments_at : List Lexeme → Option (List Lexeme × List Lexeme)
 arguments_at xs =
     let n = front_len (stops_at (stops.At 41)) 0 xs in
@@ -73,19 +75,21 @@ arguments_at xs =
 
 abbrev pub element_or_function : ℕ → Option (List ℕ) → List Lexeme → Option (Tested × List Lexeme)
 element_or_function at (Some name) xs = Some (element_named at name, behind_first xs)
-element_or_function at None xs = first_function xs >>= λ name. arguments_at (behind_first xs) >>= λ a. Some (element_named at name, a.1)
+element_or_function at None xs = first_function xs >>= λ name. arguments_at (behind_first xs) >>= λ a.
+    Some (element_named at name, a.1)
 
--- behind ::
+-- after ::
 abbrev pub element_at : ℕ → List Lexeme → Option (Tested × List Lexeme)
 element_at at xs = element_or_function at (first_ident xs) xs
 
 abbrev pub function_at : ℕ → List Lexeme → Option (Tested × List Lexeme)
-function_at at xs = first_function xs >>= λ name. arguments_at (behind_first xs) >>= λ a. function_named at name a.0 >>= λ t. Some (t, a.1)
+function_at at xs = first_function xs >>= λ name. arguments_at (behind_first xs) >>= λ a. function_named at name a.0 >>= λ t.
+    Some (t, a.1)
 
 abbrev pub class_or_function : ℕ → Option (List ℕ) → List Lexeme → Option (Tested × List Lexeme)
 class_or_function at (Some name) xs = class_named at name >>= λ t. Some (t, behind_first xs)
 class_or_function at None xs = function_at at xs
 
--- behind a colon that stands at a byte
+-- after a colon that stands at a byte
 abbrev pub pseudo_at : ℕ → List Lexeme → Option (Tested × List Lexeme)
 pseudo_at at xs = if begins 58 xs then element_at at (behind_first xs) else class_or_function at (first_ident xs) xs

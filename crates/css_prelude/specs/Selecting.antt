@@ -16,16 +16,18 @@ use Rattle.css_prelude.specs.Compounds.{compound_at}
 
 -- > + ~
 abbrev pub join_sign : List Lexeme → Option Join
-join_sign xs = if begins 62 xs then Some joins.Child else (if begins 43 xs then Some joins.Next else (if begins 126 xs then Some joins.Later else None))
+join_sign xs = if begins 62 xs then Some joins.Child else
+    (if begins 43 xs then Some joins.Next else (if begins 126 xs then Some joins.Later else None))
 
 abbrev pub joined_or_spaced : Bool → Option Join → List Lexeme → Follow × List Lexeme
 joined_or_spaced spaced (Some join) xs = (follows.Joined join, behind_spaces (behind_first xs))
 joined_or_spaced spaced None xs = if spaced then (follows.Joined joins.Descendant, xs) else (follows.Nothing, xs)
 
--- behind a compound selector and white space
+-- after a compound selector and white space
 abbrev pub follow_behind : Bool → List Lexeme → Follow × List Lexeme
 follow_behind spaced [] = (follows.End, [])
-follow_behind spaced (x ∷ xs) = if begins 44 (x ∷ xs) then (follows.Comma, behind_spaces xs) else joined_or_spaced spaced (join_sign (x ∷ xs)) (x ∷ xs)
+follow_behind spaced (x ∷ xs) = if begins 44 (x ∷ xs) then (follows.Comma, behind_spaces xs) else joined_or_spaced spaced
+    (join_sign (x ∷ xs)) (x ∷ xs)
 
 abbrev pub follow_at : List Lexeme → Follow × List Lexeme
 follow_at xs = follow_behind (begins_space xs) (behind_spaces xs)
@@ -34,10 +36,20 @@ abbrev pub nothing_yet : Selecting
 nothing_yet = record { done = []; compounds = []; joins = []; found = None }
 
 abbrev pub with_compound : Selecting → Compounded → Selecting
-with_compound s c = record { done = s.done; compounds = s.compounds ++ c.compound ∷ []; joins = s.joins; found = or_found s.found c.found }
+with_compound s c = record {
+  done = s.done;
+  compounds = s.compounds ++ c.compound ∷ [];
+  joins = s.joins;
+  found = or_found s.found c.found;
+}
 
 abbrev pub finished : Selecting → Selecting
-finished s = record { done = s.done ++ record { compounds = s.compounds; joins = s.joins } ∷ []; compounds = []; joins = []; found = s.found }
+finished s = record {
+  done = s.done ++ record { compounds = s.compounds; joins = s.joins } ∷ [];
+  compounds = [];
+  joins = [];
+  found = s.found;
+}
 
 abbrev pub with_join : Selecting → Join → Selecting
 with_join s join = record { done = s.done; compounds = s.compounds; joins = s.joins ++ join ∷ []; found = s.found }

@@ -25,10 +25,10 @@ abbrev pub first_word : List Lexeme → Option (List ℕ)
 first_word [] = None
 first_word (x ∷ xs) = word_of x
 
--- an identifier, and what stands behind it
+-- an identifier, and what stands after it
 abbrev pub ident_at : List Lexeme → Option (List ℕ × List Lexeme)
 ident_at xs = first_ident xs >>= λ t. Some (t, behind_first xs)
 
--- the text of an identifier or a string, and what stands behind it
+-- the text of an identifier or a string, and what stands after it
 abbrev pub word_at : List Lexeme → Option (List ℕ × List Lexeme)
 word_at xs = first_word xs >>= λ t. Some (t, behind_first xs)

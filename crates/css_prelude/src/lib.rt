@@ -1,7 +1,7 @@
 //! The preludes of rules: lists of selectors, and the media of `@media`.
 //!
-//! It stands on mc_base, css_data and css_tokens. It promises that `selector_list` and `media_list` answer what a prelude spells, or
-//! that it is off the grammar. They go over the lexemes once, without recursion.
+//! It stands on mc_base, css_data and css_tokens. It promises that `selector_list` and `media_list` answer what a prelude spells,
+//! or that it is off the grammar. They go over the lexemes once, without recursion.
 #![tactic(auto)]
 
 mod attribute;

@@ -1,5 +1,5 @@
 -- The ancestors of a node.
-use Rattle.std.proofs.Common.{◌≡◌, ℕ, zero, suc, ◌⊎◌, inl, inr, Option, Some, None, refl, sym, ap, subst, ◌∙◌}
+use Rattle.std.proofs.Common.{◌≡◌, ℕ, zero, suc, ◌⊎◌, inl, inr, Some, None, sym, ap, ◌∙◌}
 use Rattle.std.specs.Prelude.{option_and_then}
 use Rattle.std.proofs.lemmas.Option.{same_Some, none-some, option_and_then_some}
 use Rattle.html_grammar.specs.declared.dom.Dom.{Dom}
@@ -19,7 +19,8 @@ ancestor_up dom a n p e (k, is) = (suc k, ap (option_and_then (ancestor_at dom k
 
 above : (dom : Dom) (a b k n : ℕ) → ancestor_at dom k n ≡ Some b → IsAncestor dom a b → IsAncestor dom a n
 above dom a b zero n is h = ancestor_up dom a n b is h
-above dom a b (suc k) n is h = option_and_then_some (ancestor_at dom k) (parent_at dom n) b is (λ p e at. ancestor_up dom a n p e (above dom a b k p at h))
+above dom a b (suc k) n is h =
+    option_and_then_some (ancestor_at dom k) (parent_at dom n) b is (λ p e at. ancestor_up dom a n p e (above dom a b k p at h))
 
 -- an ancestor of an ancestor is one
 pub ancestor_of_ancestor : (dom : Dom) (a b n : ℕ) → IsAncestor dom a b → IsAncestor dom b n → IsAncestor dom a n

@@ -1,6 +1,7 @@
 -- Texts that begin with, end with or have others.
-use Rattle.std.proofs.Common.{◌≡◌, ◌≢◌, ℕ, zero, suc, ◌+◌, ◌<◌, ◌≤◌, ◌⊎◌, inl, inr, Bool, true, false, List, [], ◌∷◌, ◌++◌, length, take, drop, get_or, refl, sym, ap, subst, ◌∙◌, arith, append_assoc, length-append}
-use Rattle.std.specs.Prelude.{Any, IsTrue}
+use Rattle.std.proofs.Common.{◌≡◌, ◌≢◌, ℕ, zero, suc, ◌<◌, ◌≤◌, ◌⊎◌, inl, inr, true, List, [], ◌∷◌, ◌++◌, length, take, drop}
+use Rattle.std.proofs.Common.{get_or, refl, sym, ap, subst, ◌∙◌, arith, append_assoc, length-append}
+use Rattle.std.specs.Prelude.{Any}
 use Rattle.std.specs.List.{list_any, slice_split}
 use Rattle.std.specs.Str.{bytes_eq}
 use Rattle.std.proofs.lemmas.Bool.{cases_lt}
@@ -14,7 +15,14 @@ use Rattle.css_select.specs.Attributes.{BeginsWith, HasPart}
 -- Parts.
 
 pub part_at : (text part : List ℕ) (k : ℕ) → BeginsWith (drop k text) part → HasPart text part
-part_at text part k (rest, e) = (take k text, (rest, sym (take-append-drop k text) ∙ (ap (λ v. take k text ++ v) e ∙ sym (append_assoc (take k text) part rest))))
+part_at text part k (rest, e) = (
+  take k text,
+  (
+    rest,
+    sym (take-append-drop k text)
+        ∙ (ap (λ v. take k text ++ v) e ∙ sym (append_assoc (take k text) part rest)),
+  ),
+)
 
 pub at_part : (text part : List ℕ) (h : HasPart text part) → BeginsWith (drop (length h.0) text) part
 at_part text part h = (h.1.0, front_rest text h.0 (part ++ h.1.0) (h.1.1 ∙ append_assoc h.0 part h.1.0))
@@ -30,7 +38,8 @@ no_front [] rest e = refl
 no_front (c ∷ part) rest e = absurd cc
 
 -- a part that stands at no place inside is empty
-pub none_inside : (text part : List ℕ) → ((k : ℕ) → k < length text → BeginsWith (drop k text) part → ⊥) → HasPart text part → length part ≡ 0
+pub none_inside : (text part : List ℕ) → ((k : ℕ) → k < length text → BeginsWith (drop k text) part → ⊥) → HasPart text part
+    → length part ≡ 0
 none_inside text part none h = by (cases_lt (length h.0) (length text))
   where
     by : (length h.0 < length text) ⊎ (length text ≤ length h.0) → length part ≡ 0
@@ -47,7 +56,8 @@ at_seam : (front rest : List ℕ) (c : ℕ) → get_or (front ++ (c ∷ rest)) (
 at_seam [] rest c = refl
 at_seam (d ∷ front) rest c = at_seam front rest c
 
-pub dashed_from : (text front : List ℕ) → length front < length text → get_or text (length front) 0 ≡ 45 → BeginsWith text front → BeginsWith text (front ++ 45 ∷ [])
+pub dashed_from : (text front : List ℕ) → length front < length text → get_or text (length front) 0 ≡ 45 → BeginsWith text front
+    → BeginsWith text (front ++ 45 ∷ [])
 dashed_from text front lt is ([], e) = absurd (let same = ap length e in omega (arith, length-append front []))
 dashed_from text front lt is (c ∷ rest, e) =
     let P : List ℕ → Type 0 = λ v. get_or v (length front) 0 ≡ 45 in
@@ -64,7 +74,8 @@ pub longer_than_front : (text front : List ℕ) → BeginsWith text (front ++ 45
 longer_than_front text front h = let same = ap length (dashed text front h) in omega (arith, length-append front (45 ∷ h.0))
 
 pub dash_at : (text front : List ℕ) → BeginsWith text (front ++ 45 ∷ []) → get_or text (length front) 0 ≡ 45
-dash_at text front h = let P : List ℕ → Type 0 = λ v. get_or v (length front) 0 ≡ 45 in subst P (sym (dashed text front h)) (at_seam front h.0 45)
+dash_at text front h = let P : List ℕ → Type 0 = λ v. get_or v (length front) 0 ≡ 45
+    in subst P (sym (dashed text front h)) (at_seam front h.0 45)
 
 -- Words.
 
@@ -74,13 +85,18 @@ same_parts parts part (k, w, lt, at, is) = (k, w, lt, at, (bytes_eq-Decides w pa
 parts_same : (parts : List (List ℕ)) (part : List ℕ) → Any (λ w. w ≡ part) parts → Any (λ w. bytes_eq w part ≡ true) parts
 parts_same parts part (k, w, lt, at, is) = (k, w, lt, at, (bytes_eq-Decides w part).1 is)
 
-pub word_from : (text part : List ℕ) → list_any (λ other. bytes_eq other part) (slice_split is_space text) ≡ true → Any (λ w. w ≡ part) (slice_split is_space text)
-word_from text part h = same_parts (slice_split is_space text) part (Any-from_list_any (λ other. bytes_eq other part) (slice_split is_space text) h)
+pub word_from : (text part : List ℕ) → list_any (λ other. bytes_eq other part) (slice_split is_space text) ≡ true
+    → Any (λ w. w ≡ part) (slice_split is_space text)
+word_from text part h = same_parts (slice_split is_space text) part
+    (Any-from_list_any (λ other. bytes_eq other part) (slice_split is_space text) h)
 
-pub from_word : (text part : List ℕ) → Any (λ w. w ≡ part) (slice_split is_space text) → list_any (λ other. bytes_eq other part) (slice_split is_space text) ≡ true
-from_word text part h = list_any-from_Any (λ other. bytes_eq other part) (slice_split is_space text) (parts_same (slice_split is_space text) part h)
+pub from_word : (text part : List ℕ) → Any (λ w. w ≡ part) (slice_split is_space text)
+    → list_any (λ other. bytes_eq other part) (slice_split is_space text) ≡ true
+from_word text part h = list_any-from_Any (λ other. bytes_eq other part) (slice_split is_space text)
+    (parts_same (slice_split is_space text) part h)
 
-pub none_before_end : (text part : List ℕ) (n : ℕ) → length text ≤ n → ((k : ℕ) → k < n → BeginsWith (drop k text) part → ⊥) → HasPart text part → length part ≡ 0
+pub none_before_end : (text part : List ℕ) (n : ℕ) → length text ≤ n → ((k : ℕ) → k < n → BeginsWith (drop k text) part → ⊥)
+    → HasPart text part → length part ≡ 0
 none_before_end text part n le none h = none_inside text part (λ k lt. none k (omega arith)) h
 
 pub some_word : (word : List ℕ) → (length word ≡ 0 → ⊥) → word ≢ []

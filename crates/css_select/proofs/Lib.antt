@@ -7,3 +7,4 @@ pub mod Ways
 pub mod Searches
 pub mod UpToLemmas
 pub mod Parents
+pub mod Ends

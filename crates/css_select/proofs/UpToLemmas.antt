@@ -1,5 +1,6 @@
 -- The part of a selector up to its last compound is the selector.
-use Rattle.std.proofs.Common.{◌≡◌, ℕ, zero, suc, ◌+◌, ◌<◌, ◌≤◌, true, List, [], ◌∷◌, length, drop, Option, Some, None, refl, sym, ap, subst, ◌∙◌, arith}
+use Rattle.std.proofs.Common.{◌≡◌, ℕ, zero, suc, ◌+◌, ◌<◌, ◌≤◌, true, List, [], ◌∷◌, length, drop, Option, Some, refl, sym, ap}
+use Rattle.std.proofs.Common.{subst, arith}
 use Rattle.std.specs.Prelude.{slice_get, IsSomeAnd}
 use Rattle.std.proofs.lemmas.Option.{slice_get_within}
 use Rattle.html_grammar.specs.declared.dom.Dom.{Dom}
@@ -8,10 +9,11 @@ use Rattle.css_data.specs.declared.selector.Join.{Join}
 use Rattle.css_data.specs.declared.selector.Selector.{Selector}
 use Rattle.css_select.specs.Matching.{Stands, Leads, LeadsFromFirst}
 use Rattle.css_select.specs.Tests.{Meets}
-use Rattle.css_select.specs.Walking.{any_join, JoinedBy, MeetsAt, UpTo}
+use Rattle.css_select.specs.Walking.{any_join, MeetsAt, UpTo}
 
--- an element and what stands behind it
-split_at : {X : Type 0} (xs : List X) (i : ℕ) (P : X → Type 0) → IsSomeAnd (slice_get xs i) P → (x : X) × (drop i xs ≡ x ∷ drop (suc i) xs) × P x
+-- an element and what stands after it
+split_at : {X : Type 0} (xs : List X) (i : ℕ) (P : X → Type 0) → IsSomeAnd (slice_get xs i) P
+    → (x : X) × (drop i xs ≡ x ∷ drop (suc i) xs) × P x
 split_at [] i P h = absurd h
 split_at (x ∷ xs) zero P h = (x, refl, h)
 split_at (x ∷ xs) (suc i) P h = split_at xs i P h
@@ -46,7 +48,8 @@ module _ (dom : Dom) (js : List Join) (cs : List Compound) (n : ℕ) where
   first : (m : ℕ) → MeetsAt dom s zero m → Leads dom js (drop 1 cs) m n → LeadsFromFirst dom js cs n
   first m meets leads = from cs m meets leads
     where
-      from : (cs : List Compound) (m : ℕ) → IsSomeAnd (slice_get cs zero) (λ c. Meets dom c m) → Leads dom js (drop 1 cs) m n → LeadsFromFirst dom js cs n
+      from : (cs : List Compound) (m : ℕ) → IsSomeAnd (slice_get cs zero) (λ c. Meets dom c m) → Leads dom js (drop 1 cs) m n
+          → LeadsFromFirst dom js cs n
       from [] m meets leads = absurd meets
       from (c ∷ cs) m meets leads = (m, meets, leads)
 
@@ -59,7 +62,8 @@ module _ (dom : Dom) (js : List Join) (cs : List Compound) (n : ℕ) where
       let Q : List Compound → Type 0 = λ v. Leads dom (here.0 ∷ drop (suc i) js) v k n in
       back i k up (subst P (sym here.1) (subst Q (sym there.1) (m, here.2.1, there.2, leads)))
 
-  forth : (left : List Join) (more : List Compound) (i m : ℕ) → drop i js ≡ left → drop (suc i) cs ≡ more → i < length cs → UpTo dom s i m → Leads dom left more m n → (k : ℕ) → length cs ≡ suc k → UpTo dom s k n
+  forth : (left : List Join) (more : List Compound) (i m : ℕ) → drop i js ≡ left → drop (suc i) cs ≡ more → i < length cs
+      → UpTo dom s i m → Leads dom left more m n → (k : ℕ) → length cs ≡ suc k → UpTo dom s k n
   forth [] [] i m e f fits up leads k is =
       let past = behind_none cs (suc i) f in
       let same : i ≡ k = omega arith in
@@ -77,7 +81,8 @@ module _ (dom : Dom) (js : List Join) (cs : List Compound) (n : ℕ) where
       (m, subst Q (sym at) meets, subst P (sym (at_split js i j left e)) (refl, stands), up) leads k is
 
 -- the selector matches where the part up to its last compound does
-pub matches_from_last : (dom : Dom) (selector : Selector) (k n : ℕ) → length selector.joins + 1 ≡ length selector.compounds → length selector.compounds ≡ suc k → UpTo dom selector k n → LeadsFromFirst dom selector.joins selector.compounds n
+pub matches_from_last : (dom : Dom) (selector : Selector) (k n : ℕ) → length selector.joins + 1 ≡ length selector.compounds
+    → length selector.compounds ≡ suc k → UpTo dom selector k n → LeadsFromFirst dom selector.joins selector.compounds n
 matches_from_last dom selector k n ready is up =
     let P : List Join → Type 0 = λ v. Leads dom v (drop (suc k) selector.compounds) n n in
     let Q : List Compound → Type 0 = λ v. Leads dom [] v n n in
@@ -85,11 +90,13 @@ matches_from_last dom selector k n ready is up =
     let no_compounds : drop (suc k) selector.compounds ≡ [] = none_behind selector.compounds (suc k) (omega arith) in
     back dom selector.joins selector.compounds n k n up (subst P (sym no_joins) (subst Q (sym no_compounds) refl))
 
-last_from : (dom : Dom) (js : List Join) (cs : List Compound) (k n : ℕ) → length cs ≡ suc k → LeadsFromFirst dom js cs n → UpTo dom (record { compounds = cs; joins = js }) k n
+last_from : (dom : Dom) (js : List Join) (cs : List Compound) (k n : ℕ) → length cs ≡ suc k → LeadsFromFirst dom js cs n
+    → UpTo dom (record { compounds = cs; joins = js }) k n
 last_from dom js [] k n is h = absurd h
 last_from dom js (c ∷ cs) k n is (m, meets, leads) = forth dom js (c ∷ cs) n js cs zero m refl refl (omega arith) meets leads k is
 
-pub last_from_matches : (dom : Dom) (selector : Selector) (k n : ℕ) → length selector.compounds ≡ suc k → LeadsFromFirst dom selector.joins selector.compounds n → UpTo dom selector k n
+pub last_from_matches : (dom : Dom) (selector : Selector) (k n : ℕ) → length selector.compounds ≡ suc k
+    → LeadsFromFirst dom selector.joins selector.compounds n → UpTo dom selector k n
 last_from_matches dom selector k n is h = last_from dom selector.joins selector.compounds k n is h
 
 -- lists of other lengths have no path
@@ -99,6 +106,7 @@ lead_lengths dom [] (c ∷ cs) m n h = absurd h
 lead_lengths dom (j ∷ js) [] m n h = absurd h
 lead_lengths dom (j ∷ js) (c ∷ cs) m n (l, stands, meets, h) = ap suc (lead_lengths dom js cs l n h)
 
-pub match_lengths : (dom : Dom) (js : List Join) (cs : List Compound) (n : ℕ) → LeadsFromFirst dom js cs n → length js + 1 ≡ length cs
+pub match_lengths : (dom : Dom) (js : List Join) (cs : List Compound) (n : ℕ) → LeadsFromFirst dom js cs n
+    → length js + 1 ≡ length cs
 match_lengths dom js [] n h = absurd h
 match_lengths dom js (c ∷ cs) n (m, meets, h) = let same = lead_lengths dom js cs m n h in omega arith

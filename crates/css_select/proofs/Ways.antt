@@ -1,7 +1,8 @@
 -- Ways to the left in a selector.
-use Rattle.std.proofs.Common.{◌≡◌, ℕ, zero, suc, ◌<◌, ◌≤◌, ◌⊎◌, inl, inr, Bool, true, false, Option, Some, None, refl, sym, ap, subst, ◌∙◌, arith}
+use Rattle.std.proofs.Common.{◌≡◌, ℕ, zero, suc, ◌<◌, ◌≤◌, ◌⊎◌, inl, inr, Bool, true, false, Option, Some, None, refl, sym, ap}
+use Rattle.std.proofs.Common.{subst, ◌∙◌, arith}
 use Rattle.std.specs.Prelude.{slice_get, IsSomeAnd}
-use Rattle.std.proofs.lemmas.Bool.{cases_lt, cases_order}
+use Rattle.std.proofs.lemmas.Bool.{cases_lt}
 use Rattle.std.proofs.lemmas.Option.{same_Some}
 use Rattle.html_grammar.specs.declared.dom.Dom.{Dom}
 use Rattle.css_data.specs.declared.selector.Join.{Join}
@@ -14,11 +15,13 @@ use Rattle.css_select.proofs.Ancestors.{ancestor_of_ancestor, ancestor_beside, a
 use Rattle.css_select.proofs.Nearest.{one_previous, earlier_of_earlier}
 
 -- two facts on what stands there
-pub both_at : {X : Type 0} {T : Type 0} (o : Option X) (P Q : X → Type 0) → ((x : X) → P x → Q x → T) → IsSomeAnd o P → IsSomeAnd o Q → T
+pub both_at : {X : Type 0} {T : Type 0} (o : Option X) (P Q : X → Type 0) → ((x : X) → P x → Q x → T) → IsSomeAnd o P
+    → IsSomeAnd o Q → T
 both_at None P Q f p q = absurd p
 both_at (Some x) P Q f p q = f x p q
 
-pub same_at : {X : Type 0} (o : Option X) (P Q R : X → Type 0) → ((x : X) → P x → Q x → R x) → IsSomeAnd o P → IsSomeAnd o Q → IsSomeAnd o R
+pub same_at : {X : Type 0} (o : Option X) (P Q R : X → Type 0) → ((x : X) → P x → Q x → R x) → IsSomeAnd o P → IsSomeAnd o Q
+    → IsSomeAnd o R
 same_at None P Q R f p q = absurd p
 same_at (Some x) P Q R f p q = f x p q
 
@@ -40,11 +43,18 @@ module _ (dom : Dom) (s : Selector) where
   comes_on p (suc i) n q l r k (inr (m, meets, joined, more)) h = inr (m, meets, joined, comes_on p i m q l r k more h)
 
   -- and by more joins
-  pub comes_by : (p q : Join → Bool) → ((j : Join) → p j ≡ true → q j ≡ true) → (i n r k : ℕ) → Comes p dom s i n r k → Comes q dom s i n r k
+  pub comes_by : (p q : Join → Bool) → ((j : Join) → p j ≡ true → q j ≡ true) → (i n r k : ℕ) → Comes p dom s i n r k
+      → Comes q dom s i n r k
   comes_by p q more zero n r k h = h
   comes_by p q more (suc i) n r k (inl h) = inl h
   comes_by p q more (suc i) n r k (inr (m, meets, joined, h)) =
-      inr (m, meets, also_at (slice_get s.joins i) (λ j. (p j ≡ true) × Stands dom j m n) (λ j. (q j ≡ true) × Stands dom j m n) (λ j x. (more j x.0, x.1)) joined, comes_by p q more i m r k h)
+      inr (
+        m,
+        meets,
+        also_at (slice_get s.joins i) (λ j. (p j ≡ true) × Stands dom j m n) (λ j. (q j ≡ true) × Stands dom j m n)
+            (λ j x. (more j x.0, x.1)) joined,
+        comes_by p q more i m r k h,
+      )
 
   pub comes_within : (p : Join → Bool) (i n q l : ℕ) → Comes p dom s i n q l → q ≤ i
   comes_within p zero n q l (a, b) = omega arith
@@ -52,7 +62,8 @@ module _ (dom : Dom) (s : Selector) where
   comes_within p (suc i) n q l (inr (m, meets, joined, more)) = let h = comes_within p i m q l more in omega arith
 
   pub any_by : (p : Join → Bool) (i m n : ℕ) → JoinedBy p dom s i m n → JoinedBy any_join dom s i m n
-  any_by p i m n joined = also_at (slice_get s.joins i) (λ j. (p j ≡ true) × Stands dom j m n) (λ j. (any_join j ≡ true) × Stands dom j m n) (λ j x. (refl, x.1)) joined
+  any_by p i m n joined = also_at (slice_get s.joins i) (λ j. (p j ≡ true) × Stands dom j m n)
+      (λ j. (any_join j ≡ true) × Stands dom j m n) (λ j x. (refl, x.1)) joined
 
   -- what matches at the end of a way makes its beginning match
   pub up_from : (p : Join → Bool) (i n q l : ℕ) → Comes p dom s i n q l → UpTo dom s q l → UpTo dom s i n
@@ -74,24 +85,33 @@ module _ (dom : Dom) (s : Selector) where
   beside_parents k m (inl e) = ap (parent_at dom) e
   beside_parents k m (inr h) = h.beside
 
-  before_previous : (m2 n2 m1 n1 : ℕ) → IsPreviousSibling dom m2 n2 → IsPreviousSibling dom m1 n1 → IsEarlierSibling dom n2 n1 → (m1 < n2) ⊎ (n2 ≤ m1) → Beside m2 m1
+  before_previous : (m2 n2 m1 n1 : ℕ) → IsPreviousSibling dom m2 n2 → IsPreviousSibling dom m1 n1 → IsEarlierSibling dom n2 n1
+      → (m1 < n2) ⊎ (n2 ≤ m1) → Beside m2 m1
   before_previous m2 n2 m1 n1 h p e (inl lt) = absurd (p.nearest n2 lt e)
   before_previous m2 n2 m1 n1 h p e (inr le) =
       let lt = h.earlier.before in
-      inr (record { before = omega arith; element = h.earlier.element; beside = (h.earlier.beside ∙ e.beside) ∙ sym p.earlier.beside })
+      inr (record {
+        before = omega arith;
+        element = h.earlier.element;
+        beside = (h.earlier.beside ∙ e.beside)
+            ∙ sym p.earlier.beside;
+      })
 
   previous_beside : (m2 n2 m1 n1 : ℕ) → IsPreviousSibling dom m2 n2 → IsPreviousSibling dom m1 n1 → Beside n2 n1 → Beside m2 m1
-  previous_beside m2 n2 m1 n1 h p (inl e) = let P : ℕ → Type 0 = λ v. IsPreviousSibling dom m2 v in inl (one_previous dom m2 m1 n1 (subst P e h) p)
+  previous_beside m2 n2 m1 n1 h p (inl e) = let P : ℕ → Type 0 = λ v. IsPreviousSibling dom m2 v
+      in inl (one_previous dom m2 m1 n1 (subst P e h) p)
   previous_beside m2 n2 m1 n1 h p (inr e) = before_previous m2 n2 m1 n1 h p e (cases_lt m1 n2)
 
-  near_beside : (j : Join) (m2 n2 m1 n1 : ℕ) → Beside n2 n1 → Stands dom j m2 n2 → is_near j ≡ true → Stands dom j m1 n1 → Beside m2 m1
+  near_beside : (j : Join) (m2 n2 m1 n1 : ℕ) → Beside n2 n1 → Stands dom j m2 n2 → is_near j ≡ true → Stands dom j m1 n1
+      → Beside m2 m1
   near_beside Descendant m2 n2 m1 n1 b h near p = absurd cc
   near_beside Child m2 n2 m1 n1 b h near p = inl (same_Some m2 m1 (sym h ∙ (beside_parents n2 n1 b ∙ p)))
   near_beside Next m2 n2 m1 n1 b h near p = previous_beside m2 n2 m1 n1 h p b
   near_beside Later m2 n2 m1 n1 b h near p = absurd cc
 
   -- a way by near joins from the farther of two siblings ends beside the one from the nearer
-  pub near_ends : (i n2 n1 q l1 : ℕ) → UpTo dom s i n2 → Comes is_near dom s i n1 q l1 → Beside n2 n1 → (l2 : ℕ) × UpTo dom s q l2 × Beside l2 l1
+  pub near_ends : (i n2 n1 q l1 : ℕ) → UpTo dom s i n2 → Comes is_near dom s i n1 q l1 → Beside n2 n1
+      → (l2 : ℕ) × UpTo dom s q l2 × Beside l2 l1
   near_ends zero n2 n1 q l1 up (a, b) h =
       let P : ℕ → Type 0 = λ v. UpTo dom s v n2 in
       let Q : ℕ → Type 0 = λ v. Beside n2 v in
@@ -101,7 +121,9 @@ module _ (dom : Dom) (s : Selector) where
       let Q : ℕ → Type 0 = λ v. Beside n2 v in
       (n2, subst P (sym a) up, subst Q (sym b) h)
   near_ends (suc i) n2 n1 q l1 (m2, meets2, joined2, up2) (inr (m1, meets, joined1, more)) h =
-      near_ends i m2 m1 q l1 up2 more (both_at (slice_get s.joins i) (λ j. (any_join j ≡ true) × Stands dom j m2 n2) (λ j. (is_near j ≡ true) × Stands dom j m1 n1) (λ j x y. near_beside j m2 n2 m1 n1 h x.1 y.0 y.1) joined2 joined1)
+      near_ends i m2 m1 q l1 up2 more
+      (both_at (slice_get s.joins i) (λ j. (any_join j ≡ true) × Stands dom j m2 n2)
+      (λ j. (is_near j ≡ true) × Stands dom j m1 n1) (λ j x y. near_beside j m2 n2 m1 n1 h x.1 y.0 y.1) joined2 joined1)
 
   -- each ancestor of the first is one of the second
   abbrev pub IsUnder : ℕ → ℕ → Type 0
@@ -114,17 +136,20 @@ module _ (dom : Dom) (s : Selector) where
   parent_under m2 n1 m1 e (inl same) a h = let P : ℕ → Type 0 = λ v. IsAncestor dom a v in subst P same h
   parent_under m2 n1 m1 e (inr up) a h = ancestor_of_ancestor dom a m2 m1 h up
 
-  siblings_under : (m2 n2 m1 n1 : ℕ) → IsUnder n2 n1 → parent_at dom m2 ≡ parent_at dom n2 → parent_at dom m1 ≡ parent_at dom n1 → IsUnder m2 m1
+  siblings_under : (m2 n2 m1 n1 : ℕ) → IsUnder n2 n1 → parent_at dom m2 ≡ parent_at dom n2 → parent_at dom m1 ≡ parent_at dom n1
+      → IsUnder m2 m1
   siblings_under m2 n2 m1 n1 u e f a h = ancestor_beside dom a n1 m1 (sym f) (u a (ancestor_beside dom a m2 n2 e h))
 
-  level_under : (j : Join) (m2 n2 m1 n1 : ℕ) → IsUnder n2 n1 → Stands dom j m2 n2 → is_level j ≡ true → Stands dom j m1 n1 → IsUnder m2 m1
+  level_under : (j : Join) (m2 n2 m1 n1 : ℕ) → IsUnder n2 n1 → Stands dom j m2 n2 → is_level j ≡ true → Stands dom j m1 n1
+      → IsUnder m2 m1
   level_under Descendant m2 n2 m1 n1 u h level p = absurd cc
   level_under Child m2 n2 m1 n1 u h level p = parent_under m2 n1 m1 p (ancestor_from_parent dom m2 n1 m1 p (u m2 (zero, h)))
   level_under Next m2 n2 m1 n1 u h level p = siblings_under m2 n2 m1 n1 u h.earlier.beside p.earlier.beside
   level_under Later m2 n2 m1 n1 u h level p = siblings_under m2 n2 m1 n1 u h.beside p.beside
 
   -- a way without descendants' joins from the farther of two ancestors ends at a place with no other ancestors
-  pub level_ends : (i n2 n1 q l1 : ℕ) → UpTo dom s i n2 → Comes is_level dom s i n1 q l1 → IsUnder n2 n1 → (l2 : ℕ) × UpTo dom s q l2 × IsUnder l2 l1
+  pub level_ends : (i n2 n1 q l1 : ℕ) → UpTo dom s i n2 → Comes is_level dom s i n1 q l1 → IsUnder n2 n1
+      → (l2 : ℕ) × UpTo dom s q l2 × IsUnder l2 l1
   level_ends zero n2 n1 q l1 up (a, b) h =
       let P : ℕ → Type 0 = λ v. UpTo dom s v n2 in
       let Q : ℕ → Type 0 = λ v. IsUnder n2 v in
@@ -134,7 +159,9 @@ module _ (dom : Dom) (s : Selector) where
       let Q : ℕ → Type 0 = λ v. IsUnder n2 v in
       (n2, subst P (sym a) up, subst Q (sym b) h)
   level_ends (suc i) n2 n1 q l1 (m2, meets2, joined2, up2) (inr (m1, meets, joined1, more)) h =
-      level_ends i m2 m1 q l1 up2 more (both_at (slice_get s.joins i) (λ j. (any_join j ≡ true) × Stands dom j m2 n2) (λ j. (is_level j ≡ true) × Stands dom j m1 n1) (λ j x y. level_under j m2 n2 m1 n1 h x.1 y.0 y.1) joined2 joined1)
+      level_ends i m2 m1 q l1 up2 more
+      (both_at (slice_get s.joins i) (λ j. (any_join j ≡ true) × Stands dom j m2 n2)
+      (λ j. (is_level j ≡ true) × Stands dom j m1 n1) (λ j x y. level_under j m2 n2 m1 n1 h x.1 y.0 y.1) joined2 joined1)
 
   -- what stands to the left of an element stands to the left of a better one too
 
@@ -156,10 +183,20 @@ module _ (dom : Dom) (s : Selector) where
 
   pub up_beside : (q l2 l1 : ℕ) → StopsAt is_near s q → MeetsAt dom s q l1 → UpTo dom s q l2 → Beside l2 l1 → UpTo dom s q l1
   up_beside zero l2 l1 stops meets up b = absurd stops
-  up_beside (suc q) l2 l1 stops meets (m, meets2, joined, up) b =
-      (m, meets, same_at (slice_get s.joins q) (λ j. (any_join j ≡ true) × Stands dom j m l2) (λ j. is_near j ≡ false) (λ j. (any_join j ≡ true) × Stands dom j m l1) (λ j x y. (refl, left_beside j m l2 l1 b x.1 y)) joined stops, up)
+  up_beside (suc q) l2 l1 stops meets (m, meets2, joined, up) b = (
+    m,
+    meets,
+    same_at (slice_get s.joins q) (λ j. (any_join j ≡ true) × Stands dom j m l2) (λ j. is_near j ≡ false)
+        (λ j. (any_join j ≡ true) × Stands dom j m l1) (λ j x y. (refl, left_beside j m l2 l1 b x.1 y)) joined stops,
+    up,
+  )
 
   pub up_under : (q l2 l1 : ℕ) → StopsAt is_level s q → MeetsAt dom s q l1 → UpTo dom s q l2 → IsUnder l2 l1 → UpTo dom s q l1
   up_under zero l2 l1 stops meets up u = absurd stops
-  up_under (suc q) l2 l1 stops meets (m, meets2, joined, up) u =
-      (m, meets, same_at (slice_get s.joins q) (λ j. (any_join j ≡ true) × Stands dom j m l2) (λ j. is_level j ≡ false) (λ j. (any_join j ≡ true) × Stands dom j m l1) (λ j x y. (refl, left_under j m l2 l1 u x.1 y)) joined stops, up)
+  up_under (suc q) l2 l1 stops meets (m, meets2, joined, up) u = (
+    m,
+    meets,
+    same_at (slice_get s.joins q) (λ j. (any_join j ≡ true) × Stands dom j m l2) (λ j. is_level j ≡ false)
+        (λ j. (any_join j ≡ true) × Stands dom j m l1) (λ j x y. (refl, left_under j m l2 l1 u x.1 y)) joined stops,
+    up,
+  )

@@ -1,5 +1,5 @@
 -- What a selector asks of an element's attributes (Selectors 3, section 6.3).
-use Rattle.std.specs.Prelude.{◌≡◌, ◌≢◌, ◌⊎◌, ◌∷◌, ◌++◌, ℕ, [], false, All, Any, List, map}
+use Rattle.std.specs.Prelude.{◌≡◌, ◌≢◌, ◌⊎◌, ◌∷◌, ◌++◌, ℕ, [], Any, List, map}
 use Rattle.std.specs.Char.{to_ascii_lowercase}
 use Rattle.std.specs.List.{slice_split}
 use Rattle.html_grammar.specs.declared.dom.Attribute.{Attribute}

@@ -1,5 +1,6 @@
 -- How the elements of a document stand to one another (Selectors 3, section 8).
-use Rattle.std.specs.Prelude.{◌≡◌, ◌+◌, ◌<◌, ℕ, zero, suc, Bool, false, true, ◌&&◌, ◌==◌, count_by, drop, take, Option, None, Some, IsTrue, IsSomeAnd, option_and_then, slice_get}
+use Rattle.std.specs.Prelude.{◌≡◌, ◌+◌, ◌<◌, ◌≤◌, ℕ, zero, suc, Bool, false, true, ◌&&◌, ◌==◌, count_by, drop, take, Option, None}
+use Rattle.std.specs.Prelude.{Some, IsTrue, IsSomeAnd, nat_lt, option_and_then, slice_get}
 use Rattle.html_grammar.specs.declared.dom.Dom.{Dom}
 use Rattle.html_grammar.specs.declared.dom.DomNode.{DomNode}
 use Rattle.html_grammar.specs.Whole.{is_element}
@@ -11,6 +12,18 @@ parent_at dom n = option_and_then (λ node. node.parent) (slice_get dom.nodes n)
 -- each element stands after the one that it stands in
 abbrev pub ParentsAreEarlier : Dom → Type 0
 ParentsAreEarlier dom = (n p : ℕ) → parent_at dom n ≡ Some p → p < n
+
+-- a node that stands in the first, or in none, stands outside of the second, where that comes after the first
+abbrev pub is_outside : Option ℕ → Option ℕ → Bool
+is_outside own None = false
+is_outside None (Some p) = true
+is_outside (Some m) (Some p) = nat_lt m p
+
+-- where a node after an element stands outside of it, the element has ended, and no node from there on stands in it
+abbrev pub ElementsEnd : Dom → Type 0
+ElementsEnd dom = (p k j : ℕ) (x y : DomNode) → p < k → k ≤ j →
+    slice_get dom.nodes k ≡ Some x → slice_get dom.nodes j ≡ Some y →
+    is_outside x.parent (Some p) ≡ true → y.parent ≡ Some p → ⊥
 
 abbrev pub IsElementAt : Dom → ℕ → Type 0
 IsElementAt dom n = IsSomeAnd (slice_get dom.nodes n) (λ node. IsTrue (is_element node))

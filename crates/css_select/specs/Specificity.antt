@@ -1,6 +1,5 @@
 -- The specificity of a selector (Selectors 3, section 9).
 use Rattle.std.specs.Prelude.{◌+◌, ◌-◌, ◌^◌, List, ℕ, Bool, false, true, Option, None, Some, count_by, min, sum_by}
-use Rattle.css_data.specs.declared.selector.Compound.{Compound}
 use Rattle.css_data.specs.declared.selector.Selector.{Selector}
 use Rattle.css_data.specs.declared.selector.Test.{Test}
 use Rattle.css_data.specs.declared.selector.Test.TheVariants as tests
@@ -54,7 +53,8 @@ abbrev pub classes_of : Selector → ℕ
 classes_of selector = sum_by (λ compound. count_by is_class compound.tests) selector.compounds
 
 abbrev pub types_of : Selector → ℕ
-types_of selector = sum_by (λ compound. types_named compound.element + count_by is_pseudo_element compound.tests) selector.compounds
+types_of selector = sum_by (λ compound. types_named compound.element + count_by is_pseudo_element compound.tests)
+    selector.compounds
 
 -- a count that ends at the greatest number that it may have
 abbrev pub capped : ℕ → ℕ

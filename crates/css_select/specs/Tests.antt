@@ -1,5 +1,6 @@
 -- What each test and each compound selector asks of an element (Selectors 3, sections 4 and 6).
-use Rattle.std.specs.Prelude.{◌≡◌, ◌+◌, ℕ, ℤ, pos, ◌+ℤ◌, ◌*ℤ◌, ◌<ℤ◌, ◌≤ℤ◌, [], All, IfSome, IsSomeAnd, List, None, Some, Option, codes, slice_get}
+use Rattle.std.specs.Prelude.{◌≡◌, ◌+◌, ℕ, ℤ, pos, ◌+ℤ◌, ◌*ℤ◌, ◌<ℤ◌, ◌≤ℤ◌, [], All, IfSome, IsSomeAnd, List, None, codes}
+use Rattle.std.specs.Prelude.{slice_get}
 use Rattle.html_grammar.specs.declared.dom.Attribute.{Attribute}
 use Rattle.html_grammar.specs.declared.dom.Dom.{Dom}
 use Rattle.html_grammar.specs.declared.dom.NodeKind.{NodeKind}
@@ -47,7 +48,8 @@ Passes dom n name attributes tests.PseudoElement = ⊥
 
 -- an element with this number is of the type, if one is given (section 6.1), and passes every test
 abbrev pub KindMeets : Dom → ℕ → Compound → NodeKind → Type 0
-KindMeets dom n compound (kinds.Element name attributes) = IfSome compound.element (λ wanted. IsSameName name wanted) × All (Passes dom n name attributes) compound.tests
+KindMeets dom n compound (kinds.Element name attributes) = IfSome compound.element (λ wanted. IsSameName name wanted)
+    × All (Passes dom n name attributes) compound.tests
 KindMeets dom n compound (kinds.Words text) = ⊥
 
 -- the node with this number is an element that meets the compound selector

@@ -1,5 +1,5 @@
 -- A selector read from the right: what is left of it, and what a walk to the left tells.
-use Rattle.std.specs.Prelude.{◌≡◌, ◌⊎◌, ◌<◌, ◌+◌, ℕ, zero, suc, Bool, true, false, length, IsTrue, IsSomeAnd, Option, None, Some, slice_get}
+use Rattle.std.specs.Prelude.{◌≡◌, ◌⊎◌, ◌<◌, ◌+◌, ℕ, zero, suc, Bool, true, false, length, IsSomeAnd, slice_get}
 use Rattle.html_grammar.specs.declared.dom.Dom.{Dom}
 use Rattle.css_data.specs.declared.selector.Join.{Join}
 use Rattle.css_data.specs.declared.selector.Join.TheVariants as joins
@@ -7,13 +7,14 @@ use Rattle.css_data.specs.declared.selector.Selector.{Selector}
 use Rattle.css_select.specs.declared.walk.Walk.{Walk}
 use Rattle.css_select.specs.declared.walk.Walk.TheVariants as walks
 use Rattle.css_select.specs.Matching.{Stands}
-use Rattle.css_select.specs.Places.{ParentsAreEarlier}
+use Rattle.css_select.specs.Places.{ElementsEnd, ParentsAreEarlier}
 use Rattle.css_select.specs.Tests.{Meets}
 
--- there is one join less than compounds, and parents are earlier
+-- there is one join less than compounds, parents are earlier, and elements end
 pub record IsReady (selector : Selector) (dom : Dom) : Type 0 where
   pub joined : length selector.joins + 1 ≡ length selector.compounds
   pub parents : ParentsAreEarlier dom
+  pub ends : ElementsEnd dom
 
 -- joins to whose left one element at most can stand
 abbrev pub is_near : Join → Bool
@@ -54,7 +55,8 @@ UpTo dom s (suc i) n = (m : ℕ) × MeetsAt dom s (suc i) n × JoinedBy any_join
 -- from the compound i at n a way to the left, over joins that pass the test, comes to the compound q at l
 abbrev pub Comes : (Join → Bool) → Dom → Selector → ℕ → ℕ → ℕ → ℕ → Type 0
 Comes p dom s zero n q l = (q ≡ zero) × (l ≡ n)
-Comes p dom s (suc i) n q l = ((q ≡ suc i) × (l ≡ n)) ⊎ ((m : ℕ) × MeetsAt dom s (suc i) n × JoinedBy p dom s i m n × Comes p dom s i m q l)
+Comes p dom s (suc i) n q l = ((q ≡ suc i) × (l ≡ n))
+    ⊎ ((m : ℕ) × MeetsAt dom s (suc i) n × JoinedBy p dom s i m n × Comes p dom s i m q l)
 
 -- the join before the compound q doesn't pass the test
 abbrev pub StopsAt : (Join → Bool) → Selector → ℕ → Type 0

@@ -3,7 +3,7 @@
 ghost use Rattle.std.specs.Prelude.{◌≡◌, ◌+◌, ◌^◌, ◌<◌, ◌↔◌, All, IsTrue, IfSome, length};
 ghost use Rattle.css_select.specs.Attributes.{IsSameName};
 ghost use Rattle.css_select.specs.Tests.{AreSteps, GoesTheWay, IsStepped, KindMeets, Meets, Passes};
-ghost use Rattle.css_select.specs.Places.{ParentsAreEarlier};
+ghost use Rattle.css_select.specs.Places.{ElementsEnd, ParentsAreEarlier};
 
 use crate::attributes::{has_attribute, same_name};
 use crate::places::{is_first_child, is_last_child, parent_of, siblings_before};
@@ -48,6 +48,7 @@ fn is_stepped(step: i64, offset: i64, before: usize) -> bool
 fn passes(dom: &Dom, node: usize, name: &[u8], attributes: &[Attribute], test: &Test) -> bool
     requires node_in_range { node < length dom.now.nodes }
     requires parents { ParentsAreEarlier dom.now }
+    requires ends { ElementsEnd dom.now }
     ensures { IsTrue result ↔ Passes dom.now node name.now attributes.now test.now }
 {
     match test {
@@ -71,6 +72,7 @@ fn passes(dom: &Dom, node: usize, name: &[u8], attributes: &[Attribute], test: &
 fn passes_all(dom: &Dom, node: usize, name: &[u8], attributes: &[Attribute], tests: &[Test]) -> bool
     requires node_in_range { node < length dom.now.nodes }
     requires parents { ParentsAreEarlier dom.now }
+    requires ends { ElementsEnd dom.now }
     ensures { IsTrue result ↔ All (Passes dom.now node name.now attributes.now) tests.now }
 {
     tests
@@ -90,6 +92,7 @@ fn is_of_type(name: &[u8], wanted: &Option<Text>) -> bool
 fn kind_meets(dom: &Dom, node: usize, compound: &Compound, kind: &NodeKind) -> bool
     requires node_in_range { node < length dom.now.nodes }
     requires parents { ParentsAreEarlier dom.now }
+    requires ends { ElementsEnd dom.now }
     ensures { IsTrue result ↔ KindMeets dom.now node compound.now kind.now }
 {
     match kind {
@@ -111,6 +114,7 @@ fn kind_meets(dom: &Dom, node: usize, compound: &Compound, kind: &NodeKind) -> b
 pub fn meets(dom: &Dom, node: usize, compound: &Compound) -> bool
     requires node_in_range { node < length dom.now.nodes }
     requires parents { ParentsAreEarlier dom.now }
+    requires ends { ElementsEnd dom.now }
     ensures { IsTrue result ↔ Meets dom.now compound.now node }
 {
     kind_meets(dom, node, compound, &dom.nodes.as_slice()[node].kind)

@@ -3,7 +3,7 @@
 ghost use Rattle.std.specs.Prelude.{◌≡◌, ◌<◌, ◌≤◌, ◌↔◌, ℕ, count_by, length, take, IsTrue, MatchOption};
 ghost use Rattle.html_grammar.specs.Whole as whole;
 ghost use Rattle.css_select.specs.Places as places;
-ghost use Rattle.css_select.specs.Places.{IsEarlierSibling, IsPreviousSibling, ParentsAreEarlier};
+ghost use Rattle.css_select.specs.Places.{ElementsEnd, IsEarlierSibling, IsPreviousSibling, ParentsAreEarlier};
 
 use html_grammar::{Dom, DomNode, NodeKind};
 
@@ -110,15 +110,31 @@ pub fn is_first_child(dom: &Dom, node: usize) -> bool
     true
 }
 
-/// Whether no element stands after this node with its parent.
+/// Whether a node with this parent stands outside of an element after that parent.
+fn is_outside(own: Option<u32>, element: Option<usize>) -> bool
+    ensures { result ≡ places.is_outside own element }
+{
+    match (own, element) {
+        (Some(own), Some(element)) => (own as usize) < element,
+        (None, Some(_)) => true,
+        (_, None) => false,
+    }
+}
+
+/// Whether no element stands after this node with its parent. It looks no further than to the first node after its parent.
 pub fn is_last_child(dom: &Dom, node: usize) -> bool
-    requires { node < length dom.now.nodes }
+    requires node_in_range { node < length dom.now.nodes }
+    requires parents { ParentsAreEarlier dom.now }
+    requires ends { ElementsEnd dom.now }
     ensures { IsTrue result ↔ (places.siblings_after dom.now node ≡ 0) }
 {
     let parent = parent_of(dom, node);
     for other in &dom.nodes.as_slice()[node + 1..] {
         if stands_in(other, parent) {
             return false;
+        }
+        if is_outside(other.parent, parent) {
+            return true;
         }
     }
     true

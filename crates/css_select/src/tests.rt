@@ -1,12 +1,14 @@
 //! Selectors in a notation of pieces with spaces: `div #x .a` is one compound selector, and `/`, `>`, `+` and `~` join two.
 
+ghost use Rattle.std.specs.Prelude.{◌^◌, ◌≤◌, length};
 ghost use Rattle.html_subset.specs.WellFormed.{IsWellFormed};
 
 use crate::{Weight, is_element_at, matches, specificity};
 use css_data::{AttrOp, Compound, Join, Selector, Test};
 use html_subset::{Attribute, Dom, DomNode, NodeKind, parse};
-use mc_base::{List, Text};
+use mc_base::{List, Refusal, Text};
 use std::alloc::{AllocError, Global};
+use std::process::Abort;
 use std::str;
 use std::test::Fail;
 
@@ -118,48 +120,55 @@ fn matched(alloc: Global, dom: &Dom, selector: &Selector) -> Result<String, Allo
     Ok(out)
 }
 
-#[test]
-fn selectors_match(rt: HostRuntime) -> Result<(), Fail> {
-    let alloc = rt.alloc();
-    let Ok(dom) = parse(alloc, DOCUMENT) else {
-        return Ok(assert!(rt; false, "no document"));
-    };
-    for (notation, want) in [
-        ("P", "p1 p2 p3 "),
-        ("*", "- - b d1 p1 s p2 k d2 h p3 "),
-        ("#p2", "p2 "),
-        (".a", "d1 p2 "),
-        (".b .a", "d1 "),
-        (".ab", ""),
-        ("div / span", "s "),
-        ("div > span", ""),
-        ("p > span", "s "),
-        ("body / div > p", "p1 p2 p3 "),
-        ("p + p", "p2 "),
-        ("p + a", "k "),
-        ("#p1 + a", ""),
-        ("#p1 ~ a", "k "),
-        ("span ~ p", ""),
-        ("div .b ~ div / p", "p3 "),
-        ("div ~ div / span", ""),
-        ("html > body > #d1 > #p1 + p ~ a", "k "),
-        (":root", "- "),
-        (":first-child", "- - d1 p1 s h "),
-        (":last-child", "- b s k d2 p3 "),
-        (":link", "k "),
-        (":odd", "- - d1 p1 s k h "),
-        (":-n+2", "- - b d1 p1 s p2 d2 h p3 "),
-        (":hover", ""),
-        ("::x", ""),
-    ] {
+/// The ids of the elements of a document that a selector matches.
+fn matched_in(alloc: Global, document: &[u8], selector: &Selector) -> Result<String, Refusal>
+    requires { length document.now ≤ 2 ^ 28 }
+{
+    let dom = parse(alloc, document)?;
+    Ok(matched(alloc, &dom, selector)?)
+}
+
+fn each_matches(rt: &impl Abort, alloc: Global, cases: &[(&str, &str)]) -> Result<(), Fail> {
+    for (notation, wanted) in cases {
         let selector = selector_of(alloc, notation)?;
-        assert_eq!(rt;
-            matched(alloc, &dom, &selector)?.as_str(),
-            want,
-            "at {notation}"
-        );
+        let found = matched_in(alloc, DOCUMENT, &selector)?;
+        assert!(rt; found.as_str() == *wanted, "at {notation}");
     }
     Ok(())
+}
+
+const MATCHES: [(&str, &str); 26] = [
+    ("P", "p1 p2 p3 "),
+    ("*", "- - b d1 p1 s p2 k d2 h p3 "),
+    ("#p2", "p2 "),
+    (".a", "d1 p2 "),
+    (".b .a", "d1 "),
+    (".ab", ""),
+    ("div / span", "s "),
+    ("div > span", ""),
+    ("p > span", "s "),
+    ("body / div > p", "p1 p2 p3 "),
+    ("p + p", "p2 "),
+    ("p + a", "k "),
+    ("#p1 + a", ""),
+    ("#p1 ~ a", "k "),
+    ("span ~ p", ""),
+    ("div .b ~ div / p", "p3 "),
+    ("div ~ div / span", ""),
+    ("html > body > #d1 > #p1 + p ~ a", "k "),
+    (":root", "- "),
+    (":first-child", "- - d1 p1 s h "),
+    (":last-child", "- b s k d2 p3 "),
+    (":link", "k "),
+    (":odd", "- - d1 p1 s k h "),
+    (":-n+2", "- - b d1 p1 s p2 d2 h p3 "),
+    (":hover", ""),
+    ("::x", ""),
+];
+
+#[test]
+fn selectors_match(rt: HostRuntime) -> Result<(), Fail> {
+    each_matches(&rt, rt.alloc(), &MATCHES)
 }
 
 fn attribute_selector(
@@ -185,38 +194,40 @@ fn attribute_selector(
     })
 }
 
-#[test]
-fn attributes_are_compared(rt: HostRuntime) -> Result<(), Fail> {
-    let alloc = rt.alloc();
-    let Ok(dom) = parse(alloc, DOCUMENT) else {
-        return Ok(assert!(rt; false, "no document"));
-    };
-    for (name, op, value, want) in [
-        ("Lang", AttrOp::Has, "", "p1 "),
-        ("title", AttrOp::Equal, "one two", "p2 "),
-        ("title", AttrOp::Equal, "", "p3 "),
-        ("title", AttrOp::Equal, "One two", ""),
-        ("title", AttrOp::Word, "two", "p2 "),
-        ("title", AttrOp::Word, "one two", ""),
-        ("title", AttrOp::Word, "", ""),
-        ("lang", AttrOp::Dash, "en", "p1 "),
-        ("lang", AttrOp::Dash, "en-US", "p1 "),
-        ("lang", AttrOp::Dash, "e", ""),
-        ("title", AttrOp::Prefix, "one ", "p2 "),
-        ("title", AttrOp::Prefix, "", ""),
-        ("title", AttrOp::Suffix, "two", "p2 "),
-        ("title", AttrOp::Suffix, "", ""),
-        ("title", AttrOp::Part, "e t", "p2 "),
-        ("title", AttrOp::Part, "", ""),
-    ] {
-        let selector = attribute_selector(alloc, name, op, value)?;
-        assert_eq!(rt;
-            matched(alloc, &dom, &selector)?.as_str(),
-            want,
-            "at {name} {value}"
-        );
+/// The name of an attribute, how it is compared with a value, and the ids of the elements that have it so.
+type AttributeCase = (&'static str, AttrOp, &'static str, &'static str);
+
+fn each_compares(rt: &impl Abort, alloc: Global, cases: &[AttributeCase]) -> Result<(), Fail> {
+    for (name, op, value, wanted) in cases {
+        let selector = attribute_selector(alloc, name, *op, value)?;
+        let found = matched_in(alloc, DOCUMENT, &selector)?;
+        assert!(rt; found.as_str() == *wanted, "at {name} {value}");
     }
     Ok(())
+}
+
+const ATTRIBUTES: [AttributeCase; 16] = [
+    ("Lang", AttrOp::Has, "", "p1 "),
+    ("title", AttrOp::Equal, "one two", "p2 "),
+    ("title", AttrOp::Equal, "", "p3 "),
+    ("title", AttrOp::Equal, "One two", ""),
+    ("title", AttrOp::Word, "two", "p2 "),
+    ("title", AttrOp::Word, "one two", ""),
+    ("title", AttrOp::Word, "", ""),
+    ("lang", AttrOp::Dash, "en", "p1 "),
+    ("lang", AttrOp::Dash, "en-US", "p1 "),
+    ("lang", AttrOp::Dash, "e", ""),
+    ("title", AttrOp::Prefix, "one ", "p2 "),
+    ("title", AttrOp::Prefix, "", ""),
+    ("title", AttrOp::Suffix, "two", "p2 "),
+    ("title", AttrOp::Suffix, "", ""),
+    ("title", AttrOp::Part, "e t", "p2 "),
+    ("title", AttrOp::Part, "", ""),
+];
+
+#[test]
+fn attributes_are_compared(rt: HostRuntime) -> Result<(), Fail> {
+    each_compares(&rt, rt.alloc(), &ATTRIBUTES)
 }
 
 #[test]

@@ -1,5 +1,5 @@
 -- The number that is read of digits is the one that they write.
-use Rattle.std.proofs.Common.{◌≡◌, ℕ, List, Option, None, Some, refl, sym, ◌∙◌}
+use Rattle.std.proofs.Common.{◌≡◌, ℕ, List, Option, None, Some, refl, sym}
 use Rattle.std.specs.Prelude.{IfSome, IfNone}
 use Rattle.mc_base.specs.declared.decimal.Decimal.{Decimal}
 use Rattle.mc_base.specs.Decimals.{IsDecimal}

@@ -1,3 +1,15 @@
 pub mod RuleLoop
 pub mod PieceLoop
 pub mod DigitsRead
+pub mod Folding
+pub mod BlockFaults
+pub mod Trimming
+pub mod DeclaredForms
+pub mod Pieces
+pub mod StyleTexts
+pub mod Answered
+pub mod SheetFaults
+pub mod ItemFaults
+pub mod ItemsFound
+pub mod SheetTexts
+pub mod SheetAnswered

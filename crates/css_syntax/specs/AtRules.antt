@@ -1,5 +1,5 @@
 -- At-rules (CSS Syntax 3, section 5.4.2): @charset, @font-face, @page and @keyframes are skipped, also with a prefix.
-use Rattle.std.specs.Prelude.{ℕ, ◌==◌, List, [], ◌∷◌, codes, Bool, true, false, if◌then◌else◌, Option, Some, None, unwrap_or}
+use Rattle.std.specs.Prelude.{ℕ, ◌==◌, List, [], ◌∷◌, codes, Bool, if◌then◌else◌, Option, Some, None, unwrap_or}
 use Rattle.std.specs.Option.{option_map}
 use Rattle.css_tokens.specs.declared.lexeme.Lexeme.{Lexeme}
 use Rattle.css_tokens.specs.Facts.{is_word, is_in, is_delim, ident_of, function_of}

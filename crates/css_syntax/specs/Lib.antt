@@ -7,3 +7,5 @@ pub mod Brackets
 pub mod Media
 pub mod Rules
 pub mod Sheets
+pub mod Styling
+pub mod Sheeting

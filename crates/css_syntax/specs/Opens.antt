@@ -1,5 +1,5 @@
 -- What is open, the innermost last.
-use Rattle.std.specs.Prelude.{ℕ, ◌-◌, List, length, take, Option, slice_get}
+use Rattle.std.specs.Prelude.{◌-◌, List, length, take, Option, slice_get}
 use Rattle.css_syntax.specs.declared.brackets.Open.{Open}
 
 abbrev pub innermost : List Open → Option Open

@@ -1,5 +1,5 @@
 -- Tokens of values.
-use Rattle.std.specs.Prelude.{ℕ, ◌==◌, List, Bool, true, false, not, unwrap_or}
+use Rattle.std.specs.Prelude.{ℕ, ◌==◌, List, Bool, false, not, unwrap_or}
 use Rattle.std.specs.List.{list_any}
 use Rattle.mc_base.specs.declared.decimal.Decimal.{Decimal}
 use Rattle.mc_base.specs.DecimalReading.{decimal_at}

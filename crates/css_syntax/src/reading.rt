@@ -3,6 +3,12 @@
 ghost use Rattle.std.specs.Prelude.{◌≡◌, ◌<◌, ◌≤◌, ◌^◌, length};
 ghost use Rattle.css_tokens.specs.Gives.{Gives};
 ghost use Rattle.css_syntax.specs.Sheets as sheets;
+ghost use Rattle.css_syntax.specs.Styling.{IsStyle, IsStyleFault, IsStyleRefusal};
+ghost use Rattle.css_syntax.specs.Sheeting.{IsSheetText, IsTextFault, IsSheetRefusal};
+ghost use Rattle.css_data.specs.declared.rule.RawDeclaration.{RawDeclaration as Declaration};
+ghost use Rattle.css_tokens.specs.declared.lexeme.Fault.{Fault as AFault};
+ghost use Rattle.mc_base.specs.declared.refusal.Refusal.TheVariants.{NoMemory};
+ghost use Rattle.std.specs.Prelude.{List as AList, Ok, Err, IfOk, IfErr, OnOk, ◌⊎◌};
 ghost use Rattle.css_syntax.specs.Answers.{IsUnlessMemory};
 
 use crate::blocks::declarations;
@@ -89,18 +95,11 @@ fn declarations_from(alloc: Global, lexemes: &[Lexeme]) -> Result<List<RawDeclar
     Ok(declarations(alloc, lexemes)?)
 }
 
-/// The style sheet of a text of at most 2^28 bytes (CSS Syntax 3; Selectors 3): its rules in order, those that don't apply
-/// and those that are dropped left out, and the first construct in it that isn't laid out.
-///
-/// `Refusal::Grammar` is the first fault, by the byte where it stands and its rule: `s1` at a U+0000 or a sequence that is
-/// no UTF-8, `s2` at a comment and `s3` at a string that isn't closed, `s4` at a bracket that isn't closed or closes
-/// nothing, and `s5` at a prelude without its block. `Refusal::Limit` comes where the text is on the grammar and has more
-/// than 4,000 style rules, with those that are left out (`rules`). Offsets count the bytes of the text. Out of memory may be
-/// answered for every text.
+/// What the function on lists says of a sheet.
 #[tactic(auto, unfolding(crate::specs::Sheets::sheet_of))]
-pub fn parse_sheet(alloc: Global, text: &[u8]) -> Result<Sheet, Refusal>
+fn sheet_of(alloc: Global, text: &[u8]) -> Result<Sheet, Refusal>
     requires { length text.now ≤ 2 ^ 28 }
-    ensures exact { IsUnlessMemory result (sheets.sheet_of text.now) }
+    ensures { IsUnlessMemory result (sheets.sheet_of text.now) }
 {
     match lexemes(alloc, text) {
         Ok(lexemes) => sheet_from(alloc, lexemes.as_slice()),
@@ -109,18 +108,59 @@ pub fn parse_sheet(alloc: Global, text: &[u8]) -> Result<Sheet, Refusal>
     }
 }
 
-/// The declarations of a style attribute, a text of at most 2^28 bytes, in order.
+/// The style sheet of a text of at most 2^28 bytes (CSS Syntax 3; Selectors 3): its rules in order, those that don't apply
+/// and those that are dropped left out, and the first construct in it that isn't laid out.
 ///
-/// Pieces that are no declaration, and those with a backslash, are left out. `Refusal::Grammar` is the first fault, `s1` to
-/// `s4` as in a sheet. Out of memory may be answered for every text.
-#[tactic(auto, unfolding(crate::specs::Sheets::declarations_in))]
-pub fn parse_declarations(alloc: Global, text: &[u8]) -> Result<List<RawDeclaration>, Refusal>
+/// `Refusal::Grammar` is the first fault, by the byte where it stands and its rule: `s1` at a U+0000 or a sequence that is
+/// no UTF-8, `s2` at a comment and `s3` at a string that isn't closed, `s4` at a bracket that isn't closed or closes
+/// nothing, and `s5` at a prelude without its block. `Refusal::Limit` comes where the text is on the grammar and has more
+/// than 4,000 style rules, with those that are left out (`rules`). Offsets count the bytes of the text. Out of memory may be
+/// answered for every text.
+pub fn parse_sheet(alloc: Global, text: &[u8]) -> Result<Sheet, Refusal>
     requires { length text.now ≤ 2 ^ 28 }
-    ensures exact { IsUnlessMemory result (sheets.declarations_in text.now) }
+    // A text that is answered by a sheet is on the grammar.
+    ensures sound { OnOk result (IsSheetText text.now) }
+    // A refusal has its reason: the first fault, or the limit on a text on the grammar; unless memory ran out.
+    ensures refused { IfErr result (λ e. (e ≡ NoMemory) ⊎ IsSheetRefusal text.now e) }
+    // A text with a first fault is refused by it, unless memory runs out.
+    ensures told { (f : AFault) → IsTextFault text.now f → IsUnlessMemory result (Err (sheets.grammar_refusal f)) }
+    // Which answer it is.
+    ensures exact { IsUnlessMemory result (sheets.sheet_of text.now) }
+{
+    sheet_of(alloc, text)
+}
+
+/// What the function on lists says of a style attribute.
+#[tactic(auto, unfolding(crate::specs::Sheets::declarations_in))]
+fn declarations_in(alloc: Global, text: &[u8]) -> Result<List<RawDeclaration>, Refusal>
+    requires { length text.now ≤ 2 ^ 28 }
+    ensures { IsUnlessMemory result (sheets.declarations_in text.now) }
 {
     match lexemes(alloc, text) {
         Ok(lexemes) => declarations_from(alloc, lexemes.as_slice()),
         Err(ReadError::Memory) => Err(Refusal::NoMemory),
         Err(ReadError::Fault(fault)) => Err(grammar_refusal(fault)),
     }
+}
+
+/// The declarations of a style attribute, a text of at most 2^28 bytes, in order (CSS Syntax 3, section 5.4.5).
+///
+/// Pieces that are no declaration, and those with a backslash, are left out. `Refusal::Grammar` is the first fault, `s1` to
+/// `s4` as in a sheet. Out of memory may be answered for every text.
+pub fn parse_declarations(alloc: Global, text: &[u8]) -> Result<List<RawDeclaration>, Refusal>
+    requires { length text.now ≤ 2 ^ 28 }
+    // What is answered are the declarations that the text says.
+    ensures found { IfOk result (λ all. IsStyle text.now all) }
+    // What the text says is answered, and nothing else, unless memory runs out.
+    ensures only { (all : AList Declaration) → IsStyle text.now all → IsUnlessMemory result (Ok all) }
+    // The text says no others.
+    ensures one { IfOk result (λ all. (other : AList Declaration) → IsStyle text.now other → other ≡ all) }
+    // A refusal has its reason, the first fault, unless memory ran out.
+    ensures refused { IfErr result (λ e. (e ≡ NoMemory) ⊎ IsStyleRefusal text.now e) }
+    // A text with a first fault is refused by it, unless memory runs out.
+    ensures told { (f : AFault) → IsStyleFault text.now f → IsUnlessMemory result (Err (sheets.grammar_refusal f)) }
+    // Which answer it is.
+    ensures exact { IsUnlessMemory result (sheets.declarations_in text.now) }
+{
+    declarations_in(alloc, text)
 }

@@ -1,5 +1,6 @@
 -- What is to be known of lexemes, and of lists of them.
-use Rattle.std.specs.Prelude.{ℕ, ◌+◌, ◌-◌, ◌==◌, List, [], ◌∷◌, map, Bool, true, false, ◌&&◌, ◌||◌, is_some, if◌then◌else◌, Option, Some, None}
+use Rattle.std.specs.Prelude.{ℕ, ◌+◌, ◌-◌, ◌==◌, List, [], ◌∷◌, map, Bool, true, false, ◌&&◌, ◌||◌, is_some, if◌then◌else◌}
+use Rattle.std.specs.Prelude.{Option, Some, None}
 use Rattle.std.specs.Char.{to_ascii_lowercase}
 use Rattle.std.specs.Str.{bytes_eq}
 use Rattle.css_tokens.specs.declared.lexeme.Lexeme.{Lexeme}
@@ -118,7 +119,7 @@ abbrev pub behind_spaces : List Lexeme → List Lexeme
 behind_spaces [] = []
 behind_spaces (x ∷ xs) = if is_space x then behind_spaces xs else (x ∷ xs)
 
--- how many brackets are open behind a lexeme
+-- how many brackets are open after a lexeme
 abbrev pub deeper : ℕ → Lexeme → ℕ
 deeper d x = if is_some (closer_of x) then (d + 1) else (if is_closer x then (d - 1) else d)
 

@@ -1,5 +1,6 @@
 -- The lexeme in front of the places of a text, as it is read: the longest is taken (CSS Syntax 3, section 4.3).
-use Rattle.std.specs.Prelude.{ℕ, zero, suc, ◌==◌, nat_lt, List, [], ◌∷◌, ◌++◌, length, chars, Bool, false, ◌&&◌, ◌||◌, not, if◌then◌else◌, Option, Some, None, option_to_list, Result, Ok, Err, encode_utf8, encode_utf8_all}
+use Rattle.std.specs.Prelude.{ℕ, zero, suc, ◌==◌, nat_lt, List, [], ◌∷◌, ◌++◌, length, chars, Bool, false, ◌&&◌, ◌||◌, not}
+use Rattle.std.specs.Prelude.{if◌then◌else◌, Option, Some, None, option_to_list, Result, Ok, Err, encode_utf8, encode_utf8_all}
 use Rattle.std.specs.Char.{is_ascii_digit}
 use Rattle.mc_base.specs.SoundText.{sound_len}
 use Rattle.html_grammar.specs.declared.place.Place.{Place}
@@ -9,7 +10,8 @@ use Rattle.css_tokens.specs.Characters.{is_name, is_start, is_sign}
 use Rattle.css_tokens.specs.declared.lexeme.Fault.{Fault}
 use Rattle.css_tokens.specs.declared.lexeme.Lexeme.{Lexeme}
 use Rattle.css_tokens.specs.declared.lexeme.Symbol.{Symbol}
-use Rattle.css_tokens.specs.declared.lexeme.Symbol.TheVariants.{Ident, Hash, Quoted, Number, Percent, Dimension, Function, Delim, Space, Broken}
+use Rattle.css_tokens.specs.declared.lexeme.Symbol.TheVariants.{Ident, Hash, Quoted, Number, Percent, Dimension, Function, Delim}
+use Rattle.css_tokens.specs.declared.lexeme.Symbol.TheVariants.{Space, Broken}
 
 -- the first character
 abbrev pub code_or : ℕ → List Place → ℕ
@@ -30,7 +32,7 @@ name_text ps = text_while is_name ps
 abbrev pub behind_name : List Place → List Place
 behind_name ps = behind_while is_name ps
 
--- Numbers: a sign or none, digits or none, and a point with digits or none. Digits stand before the point or behind it.
+-- Numbers: a sign or none, digits or none, and a point with digits or none. Digits stand before the point or after it.
 
 abbrev pub begins_point : List Place → Bool
 begins_point ps = begins 46 ps && begins_with is_ascii_digit (behind_first ps)
@@ -54,7 +56,8 @@ abbrev pub behind_fraction : List Place → List Place
 behind_fraction ps = if begins_point ps then behind_while is_ascii_digit (behind_first ps) else ps
 
 abbrev pub number_text : List Place → List ℕ
-number_text ps = (sign_text ps ++ text_while is_ascii_digit (behind_sign ps)) ++ fraction_text (behind_while is_ascii_digit (behind_sign ps))
+number_text ps = (sign_text ps ++ text_while is_ascii_digit (behind_sign ps)) ++ fraction_text
+    (behind_while is_ascii_digit (behind_sign ps))
 
 abbrev pub behind_number : List Place → List Place
 behind_number ps = behind_fraction (behind_while is_ascii_digit (behind_sign ps))
@@ -69,27 +72,31 @@ ident_at ps =
 unfoldable pub numeric_at : List Place → Symbol × List Place
 numeric_at ps =
     if begins 37 (behind_number ps) then (Percent (number_text ps), behind_first (behind_number ps))
-    else (if begins_ident (behind_number ps) then (Dimension (number_text ps) (name_text (behind_number ps)), behind_name (behind_number ps))
+    else (if begins_ident (behind_number ps) then
+    (Dimension (number_text ps) (name_text (behind_number ps)), behind_name (behind_number ps))
     else (Number (number_text ps), behind_number ps))
 
--- behind a #
+-- after a #
 unfoldable pub hash_at : List Place → Symbol × List Place
 hash_at ps = if begins_with is_name ps then (Hash (name_text ps), behind_name ps) else (Delim 35, ps)
 
--- whether this character isn't the last of a string: the quote and a line feed end it, but not behind a backslash
+-- whether this character isn't the last of a string: the quote and a line feed end it, but not after a backslash
 abbrev pub ends_string : ℕ → Bool → ℕ → Bool
 ends_string q escaped c = not escaped && ((c == q) || (c == 10))
 
 -- the text of a string up to its end, and what stands from there on
 abbrev pub quoted_text : ℕ → Bool → List Place → List ℕ
 quoted_text q escaped [] = []
-quoted_text q escaped (p ∷ ps) = if ends_string q escaped p.character then [] else (encode_utf8 p.character ++ quoted_text q (not escaped && (p.character == 92)) ps)
+quoted_text q escaped (p ∷ ps) =
+    if ends_string q escaped p.character then [] else
+    (encode_utf8 p.character ++ quoted_text q (not escaped && (p.character == 92)) ps)
 
 abbrev pub behind_quoted : ℕ → Bool → List Place → List Place
 behind_quoted q escaped [] = []
-behind_quoted q escaped (p ∷ ps) = if ends_string q escaped p.character then (p ∷ ps) else behind_quoted q (not escaped && (p.character == 92)) ps
+behind_quoted q escaped (p ∷ ps) =
+    if ends_string q escaped p.character then (p ∷ ps) else behind_quoted q (not escaped && (p.character == 92)) ps
 
--- behind an opening quote
+-- after an opening quote
 unfoldable pub string_at : ℕ → List Place → Symbol × List Place
 string_at q ps =
     if begins q (behind_quoted q false ps) then (Quoted (quoted_text q false ps), behind_first (behind_quoted q false ps))
@@ -114,13 +121,13 @@ abbrev pub from_end : List Place → List Place
 from_end [] = []
 from_end (p ∷ ps) = if (p.character == 42) && begins 47 ps then (p ∷ ps) else from_end ps
 
--- a comment behind its /*, which stands at a byte
+-- a comment after its /*, which stands at a byte
 unfoldable pub comment_at : ℕ → List Place → Option Lexeme × List Place
 comment_at at ps =
     if begins 42 (from_end ps) then (None, behind_first (behind_first (from_end ps)))
     else (Some (record { at = at; symbol = Broken 2 }), from_end ps)
 
--- the lexeme in front, or none for a comment, and what stands behind it
+-- the lexeme in front, or none for a comment, and what stands after it
 unfoldable pub piece_at : List Place → Option Lexeme × List Place
 piece_at ps =
     if begins 47 ps && begins 42 (behind_first ps) then comment_at (place_or 0 ps) (behind_first (behind_first ps))

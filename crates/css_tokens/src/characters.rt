@@ -11,7 +11,6 @@ ghost use Rattle.css_tokens.specs.Classes.{test_of};
 use mc_base::Text;
 use std::alloc::AllocError;
 use text_cursor::Cursor;
-
 pub use text_cursor::{begins, offset, push};
 
 /// A kind of characters.

@@ -8,7 +8,8 @@ use Rattle.css_values.specs.declared.name.Barred.{Barred}
 use Rattle.css_values.specs.declared.name.Barred.TheVariants as barred
 use Rattle.css_values.specs.declared.name.Name.TheVariants.{Own, Short, Barred as Bars}
 use Rattle.css_values.specs.Words.{same}
-use Rattle.css_values.specs.Names.{property_name, shorthand_name, barred_name, property_named, shorthand_named, barred_named, named}
+use Rattle.css_values.specs.Names.{property_name, shorthand_name, barred_name, property_named, shorthand_named, barred_named}
+use Rattle.css_values.specs.Names.{named}
 
 pub property_is_known : (name : Property) → named (property_name name) ≡ Some (Own name)
 unfolding same property_name shorthand_name barred_name property_named shorthand_named barred_named

@@ -2,3 +2,4 @@ pub mod Lists
 pub mod Pieces
 pub mod Settings
 pub mod KnownNames
+pub mod KnownPlaces

@@ -8,7 +8,8 @@ abbrev pub with_front : {A : Type 0} → List A → Option (List A) → Option (
 with_front front None = None
 with_front front (Some rest) = Some (front ++ rest)
 
-pub with_front_onto : {A : Type 0} (front : List A) (x : A) (rest : Option (List A)) → with_front (front ++ x ∷ []) rest ≡ with_front front (onto (Some x) rest)
+pub with_front_onto : {A : Type 0} (front : List A) (x : A) (rest : Option (List A))
+    → with_front (front ++ x ∷ []) rest ≡ with_front front (onto (Some x) rest)
 with_front_onto front x None = refl
 with_front_onto front x (Some rest) = ap (λ xs. Some xs) (append_assoc front (x ∷ []) rest)
 

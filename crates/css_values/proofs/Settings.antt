@@ -10,7 +10,9 @@ longhands-none : (properties : List Property) → longhands properties [] ≡ []
 longhands-none [] = refl
 longhands-none (property ∷ rest) = refl
 
-pub no_value_more : (set : List Longhand) (properties : List Property) (values : List Simple) (i : ℕ) → length values ≤ i → set ++ longhands (drop i properties) (drop i values) ≡ longhands properties values → set ≡ longhands properties values
+pub no_value_more : (set : List Longhand) (properties : List Property) (values : List Simple) (i : ℕ) → length values ≤ i
+    → set ++ longhands (drop i properties) (drop i values) ≡ longhands properties values → set ≡ longhands properties values
 no_value_more set properties values i past h =
-    let none : longhands (drop i properties) (drop i values) ≡ [] = ap (λ vs. longhands (drop i properties) vs) (drop_all i values past) ∙ longhands-none (drop i properties) in
+    let none : longhands (drop i properties) (drop i values) ≡ [] =
+    ap (λ vs. longhands (drop i properties) vs) (drop_all i values past) ∙ longhands-none (drop i properties) in
     sym (append-nil set) ∙ (ap (λ more. set ++ more) (sym none) ∙ h)

@@ -3,7 +3,8 @@
 use Rattle.std.specs.Prelude.{ℕ, Bool, true, false, ◌==◌, List, [], ◌∷◌, ◌++◌, Option, Some, None}
 use Rattle.std.specs.List.{slice_split}
 use Rattle.css_data.specs.declared.token.CssToken.{CssToken}
-use Rattle.css_data.specs.declared.token.CssToken.TheVariants.{Ident, Hash, Quoted, Number, Percent, Dimension, Function, Delim, Space}
+use Rattle.css_data.specs.declared.token.CssToken.TheVariants.{Ident, Hash, Quoted, Number, Percent, Dimension, Function, Delim}
+use Rattle.css_data.specs.declared.token.CssToken.TheVariants.{Space}
 use Rattle.css_values.specs.Options.{onto, or_else, ◌>>=◌}
 use Rattle.css_values.specs.Values.{only, significant}
 

@@ -1,7 +1,15 @@
 -- The keywords of values, and the units of lengths (CSS Values and Units 4, sections 6.1 and 6.2), in lower case.
 use Rattle.std.specs.Prelude.{ℕ, List, codes}
 use Rattle.css_values.specs.declared.keyword.Keyword.{Keyword}
-use Rattle.css_values.specs.declared.keyword.Keyword.TheVariants.{All, Always, Auto, Avoid, AvoidColumn, AvoidPage, AvoidRegion, Balance, BalanceAll, Baseline, Block, Bold, Bolder, BorderBox, Center, Clone, Column, ContentBox, Dashed, Dotted, Double, End, Groove, Hidden, HorizontalTb, Inline, Inset, Italic, Justify, Large, Larger, Left, Lighter, ListItem, Ltr, Manual, Medium, None, Normal, Nowrap, Oblique, Outset, Page, Pre, Recto, Region, Relative, Ridge, Right, Slice, Small, Smaller, Solid, Start, Static, Thick, Thin, Verso, Visible, XLarge, XSmall, XxLarge, XxSmall}
+use Rattle.css_values.specs.declared.keyword.Keyword.TheVariants.{All, Always, Auto, Avoid, AvoidColumn, AvoidPage, AvoidRegion}
+use Rattle.css_values.specs.declared.keyword.Keyword.TheVariants.{Balance, BalanceAll, Baseline, Block, Bold, Bolder, BorderBox}
+use Rattle.css_values.specs.declared.keyword.Keyword.TheVariants.{Center, Clone, Column, ContentBox, Dashed, Dotted, Double, End}
+use Rattle.css_values.specs.declared.keyword.Keyword.TheVariants.{Groove, Hidden, HorizontalTb, Inline, Inset, Italic, Justify}
+use Rattle.css_values.specs.declared.keyword.Keyword.TheVariants.{Large, Larger, Left, Lighter, ListItem, Ltr, Manual, Medium}
+use Rattle.css_values.specs.declared.keyword.Keyword.TheVariants.{None, Normal, Nowrap, Oblique, Outset, Page, Pre, Recto, Region}
+use Rattle.css_values.specs.declared.keyword.Keyword.TheVariants.{Relative, Ridge, Right, Slice, Small, Smaller, Solid, Start}
+use Rattle.css_values.specs.declared.keyword.Keyword.TheVariants.{Static, Thick, Thin, Verso, Visible, XLarge, XSmall, XxLarge}
+use Rattle.css_values.specs.declared.keyword.Keyword.TheVariants.{XxSmall}
 use Rattle.css_values.specs.declared.keyword.Unit.{Unit as LengthUnit}
 use Rattle.css_values.specs.declared.keyword.Unit.TheVariants.{Px, Em, Rem, Pt, Pc, In, Cm, Mm}
 

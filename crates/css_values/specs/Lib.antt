@@ -5,5 +5,6 @@ pub mod Names
 pub mod Values
 pub mod Table
 pub mod Shorthands
+pub mod Targets
 pub mod Families
 pub mod Declarations

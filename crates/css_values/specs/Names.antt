@@ -5,9 +5,19 @@ use Rattle.std.specs.Option.{option_map}
 use Rattle.mc_base.specs.declared.refusal.ConstructName.{ConstructName}
 use Rattle.mc_base.specs.declared.refusal.ConstructName.TheVariants as constructs
 use Rattle.css_values.specs.declared.declared.Property.{Property}
-use Rattle.css_values.specs.declared.declared.Property.TheVariants.{Display, FontSize, FontFamily, FontWeight, FontStyle, LineHeight, WhiteSpace, Hyphens, TextAlign, Orphans, Widows, MarginTop, MarginRight, MarginBottom, MarginLeft, PaddingTop, PaddingRight, PaddingBottom, PaddingLeft, BorderTopWidth, BorderRightWidth, BorderBottomWidth, BorderLeftWidth, BorderTopStyle, BorderRightStyle, BorderBottomStyle, BorderLeftStyle, Width, MaxWidth, Height, BoxSizing, ColumnWidth, ColumnCount, ColumnGap, ColumnFill, ColumnSpan, BreakBefore, BreakAfter, BreakInside, BoxDecorationBreak}
+use Rattle.css_values.specs.declared.declared.Property.TheVariants.{Display, FontSize, FontFamily, FontWeight, FontStyle}
+use Rattle.css_values.specs.declared.declared.Property.TheVariants.{LineHeight, WhiteSpace, Hyphens, TextAlign, Orphans, Widows}
+use Rattle.css_values.specs.declared.declared.Property.TheVariants.{MarginTop, MarginRight, MarginBottom, MarginLeft, PaddingTop}
+use Rattle.css_values.specs.declared.declared.Property.TheVariants.{PaddingRight, PaddingBottom, PaddingLeft, BorderTopWidth}
+use Rattle.css_values.specs.declared.declared.Property.TheVariants.{BorderRightWidth, BorderBottomWidth, BorderLeftWidth}
+use Rattle.css_values.specs.declared.declared.Property.TheVariants.{BorderTopStyle, BorderRightStyle, BorderBottomStyle}
+use Rattle.css_values.specs.declared.declared.Property.TheVariants.{BorderLeftStyle, Width, MaxWidth, Height, BoxSizing}
+use Rattle.css_values.specs.declared.declared.Property.TheVariants.{ColumnWidth, ColumnCount, ColumnGap, ColumnFill, ColumnSpan}
+use Rattle.css_values.specs.declared.declared.Property.TheVariants.{BreakBefore, BreakAfter, BreakInside, BoxDecorationBreak}
 use Rattle.css_values.specs.declared.name.Shorthand.{Shorthand}
-use Rattle.css_values.specs.declared.name.Shorthand.TheVariants.{Margin, Padding, BorderWidth, BorderStyle, Border, BorderTop, BorderRight, BorderBottom, BorderLeft, Columns, Gap, PageBreakBefore, PageBreakAfter, PageBreakInside}
+use Rattle.css_values.specs.declared.name.Shorthand.TheVariants.{Margin, Padding, BorderWidth, BorderStyle, Border, BorderTop}
+use Rattle.css_values.specs.declared.name.Shorthand.TheVariants.{BorderRight, BorderBottom, BorderLeft, Columns, Gap}
+use Rattle.css_values.specs.declared.name.Shorthand.TheVariants.{PageBreakBefore, PageBreakAfter, PageBreakInside}
 use Rattle.css_values.specs.declared.name.Barred.{Barred}
 use Rattle.css_values.specs.declared.name.Barred.TheVariants as barred
 use Rattle.css_values.specs.declared.name.Name.{Name}

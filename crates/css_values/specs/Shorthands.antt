@@ -1,11 +1,19 @@
 -- Shorthands: the properties that each sets, and the values that it gives them, in the same order.
-use Rattle.std.specs.Prelude.{ℕ, ◌+◌, ◌-◌, Bool, true, false, ◌==◌, ◌||◌, not, if◌then◌else◌, List, [], ◌∷◌, codes, Option, Some, None, is_some, unwrap_or}
+use Rattle.std.specs.Prelude.{ℕ, ◌+◌, ◌-◌, Bool, true, false, ◌==◌, ◌||◌, not, if◌then◌else◌, List, [], ◌∷◌, codes, Option, Some}
+use Rattle.std.specs.Prelude.{None, is_some, unwrap_or}
 use Rattle.css_data.specs.declared.token.CssToken.{CssToken}
 use Rattle.css_data.specs.declared.token.CssToken.TheVariants as tokens
 use Rattle.css_values.specs.declared.declared.Property.{Property}
-use Rattle.css_values.specs.declared.declared.Property.TheVariants.{MarginTop, MarginRight, MarginBottom, MarginLeft, PaddingTop, PaddingRight, PaddingBottom, PaddingLeft, BorderTopWidth, BorderRightWidth, BorderBottomWidth, BorderLeftWidth, BorderTopStyle, BorderRightStyle, BorderBottomStyle, BorderLeftStyle, ColumnWidth, ColumnCount, ColumnGap, BreakBefore, BreakAfter, BreakInside}
+use Rattle.css_values.specs.declared.declared.Property.TheVariants.{MarginTop, MarginRight, MarginBottom, MarginLeft, PaddingTop}
+use Rattle.css_values.specs.declared.declared.Property.TheVariants.{PaddingRight, PaddingBottom, PaddingLeft, BorderTopWidth}
+use Rattle.css_values.specs.declared.declared.Property.TheVariants.{BorderRightWidth, BorderBottomWidth, BorderLeftWidth}
+use Rattle.css_values.specs.declared.declared.Property.TheVariants.{BorderTopStyle, BorderRightStyle, BorderBottomStyle}
+use Rattle.css_values.specs.declared.declared.Property.TheVariants.{BorderLeftStyle, ColumnWidth, ColumnCount, ColumnGap}
+use Rattle.css_values.specs.declared.declared.Property.TheVariants.{BreakBefore, BreakAfter, BreakInside}
 use Rattle.css_values.specs.declared.name.Shorthand.{Shorthand}
-use Rattle.css_values.specs.declared.name.Shorthand.TheVariants.{Margin, Padding, BorderWidth, BorderStyle, Border, BorderTop, BorderRight, BorderBottom, BorderLeft, Columns, Gap, PageBreakBefore, PageBreakAfter, PageBreakInside}
+use Rattle.css_values.specs.declared.name.Shorthand.TheVariants.{Margin, Padding, BorderWidth, BorderStyle, Border, BorderTop}
+use Rattle.css_values.specs.declared.name.Shorthand.TheVariants.{BorderRight, BorderBottom, BorderLeft, Columns, Gap}
+use Rattle.css_values.specs.declared.name.Shorthand.TheVariants.{PageBreakBefore, PageBreakAfter, PageBreakInside}
 use Rattle.css_values.specs.declared.keyword.Keyword.TheVariants.{Auto}
 use Rattle.css_values.specs.declared.form.Form.{Form}
 use Rattle.css_values.specs.declared.form.Simple.{Simple}
@@ -14,7 +22,8 @@ use Rattle.css_values.specs.declared.border.Line.{Line}
 use Rattle.css_values.specs.Words.{same}
 use Rattle.css_values.specs.Options.{◌>>=◌}
 use Rattle.css_values.specs.Values.{one_of, values_of, wide_at}
-use Rattle.css_values.specs.Table.{margin, padding, border_width, border_style, column_gap, columns, page_break, page_break_inside}
+use Rattle.css_values.specs.Table.{margin, padding, border_width, border_style, column_gap, columns, page_break}
+use Rattle.css_values.specs.Table.{page_break_inside}
 
 -- the properties that a shorthand sets, in the order of the table
 unfoldable pub longhands_of : Shorthand → List Property

@@ -7,10 +7,19 @@ use Rattle.css_values.specs.declared.declared.Property.{Property}
 use Rattle.css_values.specs.declared.declared.Property.TheVariants as properties
 use Rattle.css_values.specs.declared.name.Barred.{Barred}
 use Rattle.css_values.specs.declared.name.Barred.TheVariants as barred
-use Rattle.css_values.specs.declared.keyword.Keyword.TheVariants.{All, Always, Auto, Avoid, AvoidColumn, AvoidPage, AvoidRegion, Balance, BalanceAll, Baseline, Block, Bold, Bolder, BorderBox, Center, Clone, Column, ContentBox, Dashed, Dotted, Double, End, Groove, Hidden, HorizontalTb, Inline, Inset, Italic, Justify, Large, Larger, Left, Lighter, ListItem, Ltr, Manual, Medium, None, Normal, Nowrap, Oblique, Outset, Page, Pre, Recto, Region, Relative, Ridge, Right, Slice, Small, Smaller, Solid, Start, Static, Thick, Thin, Verso, Visible, XLarge, XSmall, XxLarge, XxSmall}
+use Rattle.css_values.specs.declared.keyword.Keyword.TheVariants.{All, Always, Auto, Avoid, AvoidColumn, AvoidPage, AvoidRegion}
+use Rattle.css_values.specs.declared.keyword.Keyword.TheVariants.{Balance, BalanceAll, Baseline, Block, Bold, Bolder, BorderBox}
+use Rattle.css_values.specs.declared.keyword.Keyword.TheVariants.{Center, Clone, Column, ContentBox, Dashed, Dotted, Double, End}
+use Rattle.css_values.specs.declared.keyword.Keyword.TheVariants.{Groove, Hidden, HorizontalTb, Inline, Inset, Italic, Justify}
+use Rattle.css_values.specs.declared.keyword.Keyword.TheVariants.{Large, Larger, Left, Lighter, ListItem, Ltr, Manual, Medium}
+use Rattle.css_values.specs.declared.keyword.Keyword.TheVariants.{None, Normal, Nowrap, Oblique, Outset, Page, Pre, Recto, Region}
+use Rattle.css_values.specs.declared.keyword.Keyword.TheVariants.{Relative, Ridge, Right, Slice, Small, Smaller, Solid, Start}
+use Rattle.css_values.specs.declared.keyword.Keyword.TheVariants.{Static, Thick, Thin, Verso, Visible, XLarge, XSmall, XxLarge}
+use Rattle.css_values.specs.declared.keyword.Keyword.TheVariants.{XxSmall}
 use Rattle.css_values.specs.declared.keyword.Unit.TheVariants.{Px, Em}
 use Rattle.css_values.specs.declared.form.Form.{Form}
-use Rattle.css_values.specs.declared.form.Form.TheVariants.{Is, As, AsLength, AsNumber, Length, Percent, PercentAs, Number, Whole, Weight, SignedLength, SignedPercent, Zero}
+use Rattle.css_values.specs.declared.form.Form.TheVariants.{Is, As, AsLength, AsNumber, Length, Percent, PercentAs, Number, Whole}
+use Rattle.css_values.specs.declared.form.Form.TheVariants.{Weight, SignedLength, SignedPercent, Zero}
 
 -- a margin
 abbrev pub margin : List Form

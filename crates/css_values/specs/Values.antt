@@ -1,5 +1,6 @@
 -- One token as a value (CSS Values and Units 4, sections 4 to 6): keywords, lengths, percentages and numbers.
-use Rattle.std.specs.Prelude.{ℕ, ◌*◌, ◌^◌, Bool, true, false, ◌==◌, nat_le, ◌&&◌, ◌||◌, not, if◌then◌else◌, List, [], ◌∷◌, length, codes, find, filter, Option, Some, None}
+use Rattle.std.specs.Prelude.{ℕ, ◌*◌, ◌^◌, Bool, true, false, ◌==◌, nat_le, ◌&&◌, ◌||◌, not, if◌then◌else◌, List, [], ◌∷◌, length}
+use Rattle.std.specs.Prelude.{codes, find, filter, Option, Some, None}
 use Rattle.std.specs.Option.{option_map}
 use Rattle.mc_base.specs.declared.decimal.Decimal.{Decimal}
 use Rattle.css_data.specs.declared.token.CssToken.{CssToken}

@@ -2,7 +2,8 @@
 //! out.
 //!
 //! It stands on css_data and mc_base. The table of properties is `specs/Table.antt`, and `specs/Declarations.antt` says
-//! what a declaration says by it; `parse_declaration` is exactly that.
+//! what a declaration says by it; `parse_declaration` is exactly that. `targets_of` says which properties a name is about, also
+//! where its value is refused.
 #![tactic(auto)]
 
 mod accept;
@@ -16,6 +17,7 @@ mod laws;
 mod name;
 mod shorthand;
 mod table;
+mod target;
 #[cfg(test)]
 mod tests;
 mod text;
@@ -23,3 +25,5 @@ mod text;
 pub use declaration::parse_declaration;
 pub use declared::{Declared, Longhand, Property, Value};
 pub use laws::names_are_known;
+pub use name::Barred;
+pub use target::{Target, places_are_known, property_place, target_place, targets_of};

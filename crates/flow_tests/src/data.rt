@@ -1,89 +1,71 @@
-//! Data that is sound or not, and data that is sealed.
+//! Data that is sound or not.
 
 use flow_data::{
     AtomKind, Bound, BoxInfo, Edge, Flow, FlowsData, Item, RowInfo, Seam, Stack, sound,
 };
-use flow_list::{Flows, flow_counts, opened_in};
 use mc_base::{Level, List, NoMemory, Units};
-use std::alloc::Global;
+use std::alloc::{AllocError, Global};
+use std::process::Abort;
 use std::test::Fail;
 
-/// What can differ in a layout of two rows: the columns of the outer row, the number of the row that stands in it and
-/// whether that is `auto`, the boxes that start and end there, the amount after the second start, and the height of the
-/// stack that an atom names.
-#[derive(Clone, Copy)]
-struct Layout {
-    columns: u32,
-    inner: u32,
-    auto: bool,
-    starts: (u32, u32),
-    cloned: Units,
-    ends: (u32, u32),
-    height: Units,
-}
+/// A layout of two rows, the columns of the outer one and the number of the row in it, and whether the inner one is
+/// `auto`; the boxes that start in the outer one, the amount after their starts, the boxes that end there; and the height
+/// of the stack that an atom of 200 there names. Last whether it is sound.
+type Case = (u32, u32, bool, (u32, u32), Units, (u32, u32), Units, bool);
 
-const SOUND: Layout = Layout {
-    columns: 3,
-    inner: 1,
-    auto: false,
-    starts: (1, 0),
-    cloned: 5,
-    ends: (0, 1),
-    height: 200,
-};
-
-fn seam(tail: Vec<Edge>, head: Vec<Edge>) -> Seam {
-    Seam {
-        tail: List::of(tail),
-        head: List::of(head),
+/// A seam with these edges.
+fn seam(alloc: Global, tail: &[Edge], head: &[Edge]) -> Result<Seam, AllocError> {
+    Ok(Seam {
+        tail: List::of(Vec::from_slice(alloc, tail)?),
+        head: List::of(Vec::from_slice(alloc, head)?),
         level: Level::L0,
-    }
-}
-
-fn no_edges(alloc: Global) -> Seam {
-    seam(Vec::new(alloc), Vec::new(alloc))
-}
-
-/// A flow of this item alone, without edges.
-fn flow_of_one(alloc: Global, item: Item) -> Result<Flow, NoMemory> {
-    Ok(Flow {
-        opened: List::new(alloc),
-        items: List::of(vec![in alloc; item]?),
-        seams: List::of(vec![in alloc; no_edges(alloc), no_edges(alloc)]?),
     })
 }
 
-/// The flow of the outer row: a row and an atom that names stack 1, both in two boxes.
-fn outer_flow(alloc: Global, layout: Layout) -> Result<Flow, NoMemory> {
-    let Layout {
-        inner,
-        starts,
-        cloned,
-        ends,
-        ..
-    } = layout;
-    let stack = AtomKind::Bounded {
+/// A flow of these items, with edges at its start and its end alone.
+fn flow(alloc: Global, items: &[Item], head: &[Edge], tail: &[Edge]) -> Result<Flow, AllocError> {
+    let mut seams = vec![in alloc; seam(alloc, &[], head)?]?;
+    for _ in 1..items.len() {
+        seams.push(seam(alloc, &[], &[])?)?;
+    }
+    seams.push(seam(alloc, tail, &[])?)?;
+    Ok(Flow {
+        opened: List::new(alloc),
+        items: List::of(Vec::from_slice(alloc, items)?),
+        seams: List::of(seams),
+    })
+}
+
+const PLAIN: Item = Item::Atom {
+    height: 10,
+    kind: AtomKind::Plain,
+};
+
+/// The atom that names stack 1.
+const NAMING: Item = Item::Atom {
+    height: 200,
+    kind: AtomKind::Bounded {
         owner: 0,
         stack: 1,
         x: 0,
-    };
-    let atom = Item::Atom {
-        height: 200,
-        kind: stack,
-    };
-    let head = vec![in alloc;
+    },
+};
+
+/// The flows of stack 0, of the outer row and of the inner one, and that of stack 1.
+fn flows_of(alloc: Global, case: &Case) -> Result<List<Flow>, NoMemory> {
+    let (_, inner, _, starts, cloned, ends, ..) = *case;
+    let head = [
         Edge::Start(starts.0),
         Edge::Start(starts.1),
         Edge::Solid(cloned),
-    ]?;
-    let tail = vec![in alloc; Edge::End(ends.0), Edge::End(ends.1)]?;
-    let first = seam(Vec::new(alloc), head);
-    let last = seam(tail, Vec::new(alloc));
-    Ok(Flow {
-        opened: List::new(alloc),
-        items: List::of(vec![in alloc; Item::Row(inner), atom]?),
-        seams: List::of(vec![in alloc; first, no_edges(alloc), last]?),
-    })
+    ];
+    let tail = [Edge::End(ends.0), Edge::End(ends.1)];
+    let mut flows = List::new(alloc);
+    flows.push(flow(alloc, &[Item::Row(0)], &[], &[])?)?;
+    flows.push(flow(alloc, &[Item::Row(inner), NAMING], &head, &tail)?)?;
+    flows.push(flow(alloc, &[PLAIN], &[], &[])?)?;
+    flows.push(flow(alloc, &[PLAIN], &[], &[])?)?;
+    Ok(flows)
 }
 
 fn row(flow: u32, n: u32, auto: bool) -> RowInfo {
@@ -97,7 +79,7 @@ fn row(flow: u32, n: u32, auto: bool) -> RowInfo {
     }
 }
 
-/// A box whose upper amount this is.
+/// A box with this upper amount at each break.
 fn box_with(top: Units) -> BoxInfo {
     BoxInfo {
         x: 0,
@@ -116,147 +98,50 @@ fn stack(flow: u32, bound: Bound) -> Stack {
     }
 }
 
-fn layout_data(alloc: Global, layout: Layout) -> Result<FlowsData, NoMemory> {
-    let plain = Item::Atom {
-        height: 10,
-        kind: AtomKind::Plain,
-    };
-    let mut flows = List::new(alloc);
-    flows.push(flow_of_one(alloc, Item::Row(0))?)?;
-    flows.push(outer_flow(alloc, layout)?)?;
-    flows.push(flow_of_one(alloc, plain)?)?;
-    flows.push(flow_of_one(alloc, plain)?)?;
-    let rows = vec![in alloc; row(1, layout.columns, false), row(2, 2, layout.auto)]?;
-    let boxes = vec![in alloc; box_with(5), box_with(0)]?;
-    let own = Bound::Left(layout.height);
-    let stacks = vec![in alloc; stack(0, Bound::Free), stack(3, own)]?;
+fn layout(alloc: Global, case: &Case) -> Result<FlowsData, NoMemory> {
+    let (columns, _, auto, _, _, _, height, _) = *case;
+    let rows = [row(1, columns, false), row(2, 2, auto)];
+    let boxes = [box_with(5), box_with(0)];
+    let stacks = [stack(0, Bound::Free), stack(3, Bound::Left(height))];
     Ok(FlowsData {
-        flows,
-        rows: List::of(rows),
-        boxes: List::of(boxes),
-        stacks: List::of(stacks),
+        flows: flows_of(alloc, case)?,
+        rows: List::of(Vec::from_slice(alloc, &rows)?),
+        boxes: List::of(Vec::from_slice(alloc, &boxes)?),
+        stacks: List::of(Vec::from_slice(alloc, &stacks)?),
     })
+}
+
+fn is_sound(alloc: Global, case: &Case) -> Result<bool, NoMemory> {
+    let parts = layout(alloc, case)?;
+    sound(alloc, &parts)
+}
+
+fn each_is_told(rt: &impl Abort, alloc: Global, cases: &[Case]) -> Result<(), Fail> {
+    for case in cases {
+        let found = is_sound(alloc, case)?;
+        assert!(rt; found == case.7);
+    }
+    Ok(())
 }
 
 /// Two rows one in the other are sound, but not where the outer one has 33 columns or none, names no row or itself, or the
 /// inner one is `auto`; nor where boxes cross or one stands there twice, where a cloned edge is missing, or where an atom
 /// is less high than its stack.
+const LAYOUTS: [Case; 11] = [
+    (3, 1, false, (1, 0), 5, (0, 1), 200, true),
+    (32, 1, false, (1, 0), 5, (0, 1), 200, true),
+    (33, 1, false, (1, 0), 5, (0, 1), 200, false),
+    (0, 1, false, (1, 0), 5, (0, 1), 200, false),
+    (3, 2, false, (1, 0), 5, (0, 1), 200, false),
+    (3, 0, false, (1, 0), 5, (0, 1), 200, false),
+    (3, 1, true, (1, 0), 5, (0, 1), 200, false),
+    (3, 1, false, (1, 0), 5, (1, 0), 200, false),
+    (3, 1, false, (1, 1), 5, (1, 1), 200, false),
+    (3, 1, false, (1, 0), 4, (0, 1), 200, false),
+    (3, 1, false, (1, 0), 5, (0, 1), 201, false),
+];
+
 #[test]
 fn sound_data_is_told_from_other_data(rt: HostRuntime) -> Result<(), Fail> {
-    let cases = [
-        (SOUND, true),
-        (
-            Layout {
-                columns: 32,
-                ..SOUND
-            },
-            true,
-        ),
-        (
-            Layout {
-                columns: 33,
-                ..SOUND
-            },
-            false,
-        ),
-        (
-            Layout {
-                columns: 0,
-                ..SOUND
-            },
-            false,
-        ),
-        (Layout { inner: 2, ..SOUND }, false),
-        (Layout { inner: 0, ..SOUND }, false),
-        (
-            Layout {
-                auto: true,
-                ..SOUND
-            },
-            false,
-        ),
-        (
-            Layout {
-                ends: (1, 0),
-                ..SOUND
-            },
-            false,
-        ),
-        (
-            Layout {
-                starts: (1, 1),
-                ends: (1, 1),
-                ..SOUND
-            },
-            false,
-        ),
-        (Layout { cloned: 4, ..SOUND }, false),
-        (
-            Layout {
-                height: 201,
-                ..SOUND
-            },
-            false,
-        ),
-    ];
-    for (layout, expected) in cases {
-        let parts = layout_data(rt.alloc(), layout)
-            .ok()
-            .ok_or("memory is ample")?;
-        let found = sound(rt.alloc(), &parts).ok().ok_or("memory is ample")?;
-        assert_eq!(rt; found, expected);
-    }
-    Ok(())
-}
-
-/// A stack of an atom that stands in a box from the flow's start on.
-fn opened_data(alloc: Global) -> Result<FlowsData, NoMemory> {
-    let atom = Item::Atom {
-        height: 10,
-        kind: AtomKind::Plain,
-    };
-    let info = BoxInfo {
-        x: 0,
-        w: 90,
-        avoid: false,
-        top: 0,
-        bottom: 0,
-    };
-    let first = Seam {
-        tail: List::new(alloc),
-        head: List::new(alloc),
-        level: Level::L0,
-    };
-    let last = Seam {
-        tail: List::of(vec![in alloc; Edge::End(0)]?),
-        head: List::new(alloc),
-        level: Level::L0,
-    };
-    let flow = Flow {
-        opened: List::of(vec![in alloc; 0u32]?),
-        items: List::of(vec![in alloc; atom]?),
-        seams: List::of(vec![in alloc; first, last]?),
-    };
-    let stack = Stack {
-        flow: 0,
-        w: 90,
-        bound: Bound::Free,
-    };
-    Ok(FlowsData {
-        flows: List::of(vec![in alloc; flow]?),
-        rows: List::new(alloc),
-        boxes: List::of(vec![in alloc; info]?),
-        stacks: List::of(vec![in alloc; stack]?),
-    })
-}
-
-#[test]
-fn sound_data_is_sealed_with_its_open_boxes(rt: HostRuntime) -> Result<(), Fail> {
-    let parts = opened_data(rt.alloc()).ok().ok_or("memory is ample")?;
-    let found = sound(rt.alloc(), &parts).ok().ok_or("memory is ample")?;
-    assert!(rt; found);
-    let flows = Flows::seal(parts);
-    assert_eq!(rt; flow_counts(&flows).flows, 1);
-    assert_eq!(rt; opened_in(&flows, 0).as_slice(), [0].as_slice());
-    Ok(())
+    each_is_told(&rt, rt.alloc(), &LAYOUTS)
 }

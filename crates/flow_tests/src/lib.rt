@@ -3,21 +3,16 @@
 //! It stands on the crates that it calls, which so are proved once, and without their tests. What a command can show is a
 //! line of the file `cases` of mc_cases instead. Each public call that can answer out of memory, and that no such line
 //! reaches, is reached here with ample memory, and its answer compared with one from outside.
+//!
+//! The tables are constants, and each test goes over one by a function that says nothing of its result: so no proof looks
+//! into a table, nor at what the contracts say of texts that are known.
 #![tactic(auto)]
 
 #[cfg(test)]
-mod columns;
-#[cfg(test)]
-mod commands;
+mod calls;
 #[cfg(test)]
 mod data;
 #[cfg(test)]
-mod outside;
-#[cfg(test)]
-mod parts;
+mod memory;
 #[cfg(test)]
 mod places;
-#[cfg(test)]
-mod printed;
-#[cfg(test)]
-mod reading;

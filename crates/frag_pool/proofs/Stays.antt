@@ -1,5 +1,5 @@
 -- What a live id stands for stays the same where the region grows, and where trial nodes above it are given up.
-use Rattle.std.proofs.Common.{◌≡◌, List, [], ◌∷◌, ◌++◌, Some}
+use Rattle.std.proofs.Common.{◌≡◌, List, [], ◌∷◌, Some}
 use Rattle.mc_base.specs.PlainTree.{PlainTree, PlainTrees, atom, piece, row_piece, column, no_trees, more_trees}
 use Rattle.mc_base.specs.declared.fragment.FragId.{FragId}
 use Rattle.mc_base.specs.declared.fragment.FragId.TheVariants.{Kept, Trial}

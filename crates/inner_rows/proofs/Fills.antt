@@ -1,5 +1,5 @@
 -- What is answered of a row that is filled is what a flow around it is told of the row.
-use Rattle.std.proofs.Common.{◌≡◌, ℕ, sym, ◌∙◌, ap}
+use Rattle.std.proofs.Common.{◌≡◌, ℕ}
 use Rattle.flow_data.specs.declared.data.FlowsData.{FlowsData}
 use Rattle.flow_list.specs.Column.{Filled}
 use Rattle.flow_list.specs.Folds.{fill_told, shortage}

@@ -47,7 +47,7 @@ pub trait InnerRows {
     /// The size of a row from a place before its end on: the least height that fits. The book gets it with the sizes that it
     /// uses, where they aren't there. The region's trial nodes are as they were.
     ///
-    /// Want of memory: the book may have further true entries.
+    /// Out of memory: the book may have further true entries.
     fn size(
         &mut self,
         flows: &Flows,
@@ -72,7 +72,7 @@ pub trait InnerRows {
     /// What a row makes of a height from a place before its end on, in units. The book gets the sizes that its columns use,
     /// where they aren't there. What was live in the region stays as it was.
     ///
-    /// Want of memory: the region's trial nodes are as they were, and the book may have further true entries.
+    /// Out of memory: the region's trial nodes are as they were, and the book may have further true entries.
     fn fill(
         &mut self,
         flows: &Flows,

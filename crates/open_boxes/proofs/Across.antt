@@ -288,7 +288,7 @@ module _ (d : FlowsData) (f : Flow) (sound : IsSoundFlow d f) where
       flat_map-append ended (flat_map both (take i f.seams)) (seam_of f i).tail
       ∙ rw (ends-both (take i f.seams) (take-none (λ (s : Seam). flat_map ended s.head ≡ []) f.seams i no-ends)) refl
 
-  -- the boxes that are open behind the tail of seam i
+  -- the boxes that are open after the tail of seam i
   open-to : (i : ℕ) → i < length f.seams → after_edges (reverse f.opened) (edges_to i)
       ≡ reverse (less (flat_map ended (seam_of f i).tail) (less (ends_in (take i f.seams))
       (f.opened ++ starts_in (take i f.seams))))
@@ -366,7 +366,7 @@ module _ (d : FlowsData) (f : Flow) (sound : IsSoundFlow d f) where
   from-once i lt = subst (λ (boxes : List ℕ). AreOnce boxes (flat_map started (edges_from i))) (across-after i lt)
       (once-after (reverse f.opened) (edges_to i) (edges_from i) (split-nested i lt) (split-once i lt))
 
-  -- the boxes that are open at item k, and the edges behind the head before it
+  -- the boxes that are open at item k, and the edges after the head before it
   at-split : (k : ℕ) → flat_map both f.seams ≡ flat_map both (take (k + 1) f.seams) ++ flat_map both (drop (k + 1) f.seams)
   at-split k = ap (flat_map both) (sym (take-append-drop (k + 1) f.seams)) ∙ flat_map-append both (take (k + 1) f.seams)
       (drop (k + 1) f.seams)

@@ -20,7 +20,7 @@ one-latest : (p q : Place) (n : ℕ) → slice_get (p ∷ []) n ≡ Some q → 0
 one-latest p q zero e lt = absurd (omega arith)
 one-latest p q (suc n) e lt = absurd cc
 
--- where a place stands once there is one more behind the first
+-- where a place stands once there is one more after the first
 abbrev moved : ℕ → ℕ
 moved zero = zero
 moved (suc k) = suc (suc k)

@@ -1,15 +1,19 @@
 -- Where a column ends is the best place where it may end.
-use Rattle.std.proofs.Common.{◌≡◌, ℕ, zero, suc, ◌+◌, ◌<◌, ◌≤◌, Bool, true, false, cond, List, [], ◌∷◌, ◌++◌, length, Option, Some, None, refl, sym, ◌∙◌, ap, subst, arith, ◌⊎◌, inl, inr}
+use Rattle.std.proofs.Common.{◌≡◌, ℕ, zero, suc, ◌+◌, ◌<◌, ◌≤◌, Bool, true, false, cond, List, [], ◌∷◌, ◌++◌, length, Option}
+use Rattle.std.proofs.Common.{Some, None, refl, sym, ◌∙◌, ap, subst, arith, ◌⊎◌, inl, inr}
 use Rattle.std.specs.Prelude.{nat_lt, slice_get}
 use Rattle.std.proofs.lemmas.Bool.Decides.{nat_tests}
 use Rattle.std.proofs.lemmas.List.{length-append}
 use Rattle.flow_list.specs.Data.{Flow, FlowsData}
 use Rattle.flow_list.specs.Tokens.{Token}
-use Rattle.flow_list.specs.Column.{alone_place, avoids_at, best, choose, Column, column, ColumnLine, column_up_to, Cut, cut, fill_in_room, inside, inside_place, Inner, last_place, longer, no_place, Place, place_in, room, seams_between, Step, steps_from, whole_place}
+use Rattle.flow_list.specs.Column.{alone_place, avoids_at, best, choose, Column, column, ColumnLine, column_up_to, Cut, cut}
+use Rattle.flow_list.specs.Column.{fill_in_room, inside, inside_place, Inner, last_place, longer, no_place, Place, place_in, room}
+use Rattle.flow_list.specs.Column.{seams_between, Step, steps_from, whole_place}
 use Rattle.piece_laws.specs.Choice.{AllFit, ColumnIsChosen, IsAlone, IsBest, IsCandidate, IsStop}
 use Rattle.piece_laws.proofs.Best.{best-choice, IsChoice}
 use Rattle.piece_laws.proofs.Items.{column-items}
-use Rattle.piece_laws.proofs.SeamPlaces.{between-from, between-length, between-to, cut-is, get-left, get-right, get-which, inside-from, inside-to, prefix-from, prefix-length, prefix-to, up_to}
+use Rattle.piece_laws.proofs.SeamPlaces.{between-from, between-length, between-to, cut-is, get-left, get-right, get-which}
+use Rattle.piece_laws.proofs.SeamPlaces.{inside-from, inside-to, prefix-from, prefix-length, prefix-to, up_to}
 
 -- ---- a column with a stop
 

@@ -1,10 +1,13 @@
 mod Best
+mod Between
 mod Chosen
 mod Items
-mod Openings
+mod Leads
+mod Nested
 mod Pieces
 mod SeamPlaces
 mod Shapes
 mod StackLines
-mod Started
+mod Stacks
 mod TreeLines
+mod Walking

@@ -1,9 +1,11 @@
 -- What stands in the list of the places where a column may end: the seams between its items, and the place inside its stop.
-use Rattle.std.proofs.Common.{◌≡◌, ℕ, zero, suc, ◌+◌, ◌≤◌, Bool, true, false, cond, not, ◌&&◌, List, [], ◌∷◌, ◌++◌, length, take, Option, Some, None, refl, sym, ◌∙◌, ap, subst, arith, ◌⊎◌, inl, inr}
+use Rattle.std.proofs.Common.{◌≡◌, ℕ, zero, suc, ◌+◌, ◌≤◌, Bool, true, false, cond, not, ◌&&◌, List, [], ◌∷◌, ◌++◌, length, take}
+use Rattle.std.proofs.Common.{Option, Some, None, refl, sym, ◌∙◌, ap, subst, arith, ◌⊎◌, inl, inr}
 use Rattle.std.specs.Prelude.{nat_lt, nat_le, slice_get}
 use Rattle.std.proofs.lemmas.Bool.Decides.{nat_tests}
 use Rattle.flow_list.specs.Tokens.{Token}
-use Rattle.flow_list.specs.Column.{Cut, cut, fill_in_room, inside, inside_place, Inner, is_cut, longer, Place, room, seams_before, seams_between, Step}
+use Rattle.flow_list.specs.Column.{Cut, cut, fill_in_room, inside, inside_place, Inner, is_cut, longer, Place, room, seams_before}
+use Rattle.flow_list.specs.Column.{seams_between, Step}
 use Rattle.piece_laws.specs.Choice.{IsInside, IsStop, seam_place}
 
 -- ---- lists

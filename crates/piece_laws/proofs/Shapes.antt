@@ -1,8 +1,10 @@
 -- The trees of columns are whole: columns stand in rows and nowhere else, and what stands as an atom is one.
-use Rattle.std.proofs.Common.{◌≡◌, ℕ, zero, suc, ◌+◌, ◌-◌, ◌==◌, Bool, true, false, cond, not, ◌||◌, ◌&&◌, List, [], ◌∷◌, ◌++◌, length, get_or, Option, Some, None, refl, sym, subst}
+use Rattle.std.proofs.Common.{◌≡◌, ℕ, zero, suc, ◌+◌, ◌-◌, ◌==◌, Bool, true, false, cond, not, ◌||◌, ◌&&◌, List, [], ◌∷◌, ◌++◌}
+use Rattle.std.proofs.Common.{length, get_or, Option, Some, None, refl, sym, subst}
 use Rattle.std.specs.List.{AllByRecursion as Each, flat_map}
 use Rattle.std.proofs.lemmas.List.Concat.{flat_map-append}
-use Rattle.mc_base.specs.PlainTree.{PlainTree, PlainTrees, atom as atom_tree, piece, row_piece, column as column_tree, no_trees, more_trees, plain_trees}
+use Rattle.mc_base.specs.PlainTree.{PlainTree, PlainTrees, atom as atom_tree, piece, row_piece, column as column_tree, no_trees}
+use Rattle.mc_base.specs.PlainTree.{more_trees, plain_trees}
 use Rattle.flow_list.specs.Data.{AtomKind, Bound, Edge, Flow, FlowsData, Item, Plain, Line, Void, Image, Bounded, Atom, Row}
 use Rattle.flow_data.specs.Flows.{flow_in, flow_of, item_of, no_item, row_of, seam_of, stack_of}
 use Rattle.flow_list.specs.ClonedEdges.{open_across, tops}
@@ -10,10 +12,14 @@ use Rattle.flow_list.specs.Strip.{Strip, strip_at, put, lay_all, begins}
 use Rattle.flow_list.specs.RowHeights.{balanced_height, row_height, size_of}
 use Rattle.flow_list.specs.Stacks.{available_to, height_in_stack, stack_strip}
 use Rattle.flow_list.specs.Tokens.{Token, item_number, row_start, within}
-use Rattle.flow_list.specs.Column.{Column, height_of, Inner, room, row_from, start_strip, Step, steps_from, strip_behind, is_forced}
+use Rattle.flow_list.specs.Column.{Column, height_of, Inner, room, row_from, start_strip, Step, steps_from, strip_behind}
+use Rattle.flow_list.specs.Column.{is_forced}
 use Rattle.flow_list.specs.Rows.{columns_by, rows_to}
 use Rattle.flow_list.specs.Placing.{RowLaid, Laid, laid_edges, places_from}
-use Rattle.flow_list.specs.Fragments.{all_trees, column_made, columns_wanted, continued_from, continuing, filled_row, fills_item, fragment_of, fragments_from, laid_before, laid_filled, laid_in_stack, laid_item, laid_items, laid_start, laid_to, places_in, row_fragments, stack_fragment, stack_laid, stop_of, strip_after, strip_filled}
+use Rattle.flow_list.specs.Fragments.{all_trees, column_made, columns_wanted, continued_from, continuing, filled_row, fills_item}
+use Rattle.flow_list.specs.Fragments.{fragment_of, fragments_from, laid_before, laid_filled, laid_in_stack, laid_item, laid_items}
+use Rattle.flow_list.specs.Fragments.{laid_start, laid_to, places_in, row_fragments, stack_fragment, stack_laid, stop_of}
+use Rattle.flow_list.specs.Fragments.{strip_after, strip_filled}
 use Rattle.flow_list.proofs.ColumnParts.{OfStop, steps-each, cut-stop}
 use Rattle.flow_list.proofs.PlaceBounds.{Each-append}
 use Rattle.flow_laws.proofs.HoldingTrees.{of_laid, Reads, column-reads, edges-none}

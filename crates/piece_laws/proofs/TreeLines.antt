@@ -1,10 +1,12 @@
 -- The lines of a tree that is whole are its nodes.
 use Rattle.std.proofs.Common.{◌≡◌, ℕ, ◌+◌, List, [], ◌∷◌, ◌++◌, drop, refl, ◌∙◌, ap}
 use Rattle.std.specs.Prelude.{is_some}
-use Rattle.mc_base.specs.PlainTree.{PlainTree, PlainTrees, atom as atom_tree, piece, row_piece, column as column_tree, no_trees, more_trees}
+use Rattle.mc_base.specs.PlainTree.{PlainTree, PlainTrees, atom as atom_tree, piece, row_piece, column as column_tree, no_trees}
+use Rattle.mc_base.specs.PlainTree.{more_trees}
 use Rattle.flow_list.specs.Data.{AtomKind, Flow, FlowsData, Item, RowInfo, Plain, Line, Void, Image, Bounded, Atom, Row}
 use Rattle.flow_data.specs.Flows.{box_of, flow_in, flow_of, item_of, row_of}
-use Rattle.flow_list.specs.Tree.{atom_lines, column_frame, Frame, in_box, item_lines, lines_of_column, lines_of_columns, lines_of_tree, lines_of_trees, piece_height, TreeKind, TreeLine, box, col, row}
+use Rattle.flow_list.specs.Tree.{atom_lines, column_frame, Frame, in_box, item_lines, lines_of_column, lines_of_columns}
+use Rattle.flow_list.specs.Tree.{lines_of_tree, lines_of_trees, piece_height, TreeKind, TreeLine, box, col, row}
 use Rattle.piece_laws.specs.Lines.{atom_nodes, item_nodes, kinds_of, nodes_of_tree, nodes_of_trees}
 use Rattle.piece_laws.proofs.Shapes.{AllColumns, AllIn, AtomOk, In, IsColumn, NamesOk}
 

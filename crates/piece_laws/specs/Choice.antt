@@ -4,7 +4,8 @@ use Rattle.std.specs.Prelude.{◌≡◌, ℕ, suc, ◌+◌, ◌<◌, ◌≤◌, 
 use Rattle.flow_list.specs.Data.{Flow, FlowsData}
 use Rattle.flow_data.specs.Flows.{seam_of}
 use Rattle.flow_list.specs.Tokens.{Token, item_number}
-use Rattle.flow_list.specs.Column.{avoids_at, column, ColumnLine, Inner, inside_place, is_forced, Place, place_in, rank, room, Step, steps_from, whole_place}
+use Rattle.flow_list.specs.Column.{avoids_at, column, ColumnLine, Inner, inside_place, is_forced, Place, place_in, rank, room}
+use Rattle.flow_list.specs.Column.{Step, steps_from, whole_place}
 
 -- ---- the items of a column, and its stop
 

@@ -1,3 +1,4 @@
 pub mod Boxes
 pub mod Choice
 pub mod Lines
+pub mod Nesting

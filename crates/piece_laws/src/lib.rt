@@ -10,7 +10,7 @@ ghost use Rattle.flow_data.specs.declared.data.FlowsData.{FlowsData};
 ghost use Rattle.flow_list.specs.Column.{Inner};
 ghost use Rattle.flow_list.specs.Tokens.{Token};
 ghost use Rattle.flow_data.specs.Soundness.{IsSound};
-ghost use Rattle.piece_laws.specs.Boxes.{BoxesHavePieces};
+ghost use Rattle.piece_laws.specs.Boxes.{BoxesHavePieces, StackHasPieces};
 ghost use Rattle.piece_laws.specs.Choice.{ColumnIsChosen};
 ghost use Rattle.piece_laws.specs.Lines.{LinesAreNodes};
 
@@ -28,9 +28,12 @@ pub fn lines_are_nodes()
     ensures { (d : FlowsData) → IsSound d → LinesAreNodes d }
 {}
 
-/// In sound flows the pieces of boxes in the tree of a column are one for each box that continues there from an earlier column,
-/// and then one for each box that starts between the column's place and its end, in order, and each says which of both it is.
-/// No box has two.
+/// In sound flows the tree of a column has one piece for each box that continues there from an earlier column, and then one for
+/// each box that starts between the column's place and its end, in order. Each piece says whether its box starts there, and has
+/// a bottom exactly where its box ends there. No box has two. The pieces stand one in another as their boxes do: a walk of the
+/// tree, into each piece and out of it, passes the starts and ends of boxes in the order of the flow. This holds of the columns
+/// of each flow, from each place on, and of the tree of each stack.
 pub fn boxes_have_pieces()
-    ensures { (d : FlowsData) → IsSound d → (r : ℕ) → r < length d.rows → BoxesHavePieces d r }
+    ensures columns { (d : FlowsData) → IsSound d → (f : ℕ) → f < length d.flows → BoxesHavePieces d f }
+    ensures stacks { (d : FlowsData) → IsSound d → (s : ℕ) → s < length d.stacks → StackHasPieces d s }
 {}

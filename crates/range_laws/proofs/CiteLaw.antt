@@ -1,5 +1,6 @@
 -- The law that each line of a range cites sizes that stand before it.
-use Rattle.std.proofs.Common.{◌≡◌, ℕ, ◌==◌, ◌⊎◌, inl, inr, false, cond, List, [], ◌∷◌, length, refl, subst, sym, ◌∙◌, ap, arith, Option}
+use Rattle.std.proofs.Common.{◌≡◌, ℕ, ◌==◌, ◌⊎◌, inl, inr, false, cond, List, [], ◌∷◌, length, refl, subst, sym, ◌∙◌, ap, arith}
+use Rattle.std.proofs.Common.{Option}
 use Rattle.std.specs.Prelude.{All}
 use Rattle.std.specs.List.{flat_map}
 use Rattle.std.proofs.lemmas.Bool.Decides.{nat_tests}

@@ -1,11 +1,13 @@
 -- There is one list of sizes for each line of columns.
-use Rattle.std.proofs.Common.{◌≡◌, ℕ, zero, suc, Bool, true, false, cond, List, [], ◌∷◌, length, refl, subst, sym, ◌∙◌, ap, arith, Option, Some, None, length-append}
+use Rattle.std.proofs.Common.{◌≡◌, ℕ, zero, suc, Bool, true, false, cond, List, [], ◌∷◌, length, refl, subst, sym, ◌∙◌, ap, arith}
+use Rattle.std.proofs.Common.{Option, Some, None, length-append}
 use Rattle.std.proofs.lemmas.List.{length-map}
 use Rattle.flow_list.specs.Data.{Flow, FlowsData}
 use Rattle.flow_data.specs.Flows.{row_of, flow_in}
 use Rattle.flow_laws.proofs.RowsAdvance.{by-zero}
 use Rattle.flow_list.specs.Certificate.{Use, Owned, owned_in_fill, owned_by, column_owned, columns_owned, owned_to}
-use Rattle.flow_list.specs.Column.{Column, Inner, Step, cut, steps_from, room, is_cut, fill_in_room, inner_lines, deeper, column, column_up_to, avoids_at}
+use Rattle.flow_list.specs.Column.{Column, Inner, Step, cut, steps_from, room, is_cut, fill_in_room, inner_lines, deeper, column}
+use Rattle.flow_list.specs.Column.{column_up_to, avoids_at}
 use Rattle.flow_list.specs.Ranges.{lines_of}
 use Rattle.flow_list.specs.Rows.{columns_by, up_to, fill_in, rows_to}
 use Rattle.flow_list.specs.Tokens.{Token, is_end}

@@ -1,12 +1,14 @@
 -- The sizes that the lines of columns cite are among those that the columns use.
-use Rattle.std.proofs.Common.{◌≡◌, ℕ, zero, suc, ◌+◌, refl, Bool, true, false, cond, List, [], ◌∷◌, ◌++◌, subst, sym, Option, Some, None}
+use Rattle.std.proofs.Common.{◌≡◌, ℕ, zero, suc, ◌+◌, refl, Bool, true, false, cond, List, [], ◌∷◌, ◌++◌, subst, sym, Option}
+use Rattle.std.proofs.Common.{Some, None}
 use Rattle.std.specs.Prelude.{nat_lt, nat_le}
 use Rattle.std.proofs.lemmas.Bool.{and_parts}
 use Rattle.flow_list.specs.Data.{Flow, FlowsData}
 use Rattle.flow_data.specs.Flows.{row_of, flow_in}
 use Rattle.flow_laws.proofs.RowsAdvance.{by-zero}
 use Rattle.flow_list.specs.Certificate.{Use, Owned, owned_in_fill, owned_by, column_owned, columns_owned, owned_to, uses_of}
-use Rattle.flow_list.specs.Column.{Column, Inner, Step, cut, steps_from, room, is_cut, fills, fill_in_room, inner_uses, rows_among, column, column_up_to, avoids_at}
+use Rattle.flow_list.specs.Column.{Column, Inner, Step, cut, steps_from, room, is_cut, fills, fill_in_room, inner_uses}
+use Rattle.flow_list.specs.Column.{rows_among, column, column_up_to, avoids_at}
 use Rattle.flow_list.specs.Rows.{columns, columns_by, up_to, fill_in, rows_to}
 use Rattle.flow_list.specs.Tokens.{Token, is_end}
 use Rattle.flow_list.proofs.Fitting.{columns_by-step, columns_by-past}

@@ -1,5 +1,6 @@
 -- Each size that is entered stands once, after the sizes that it uses.
-use Rattle.std.proofs.Common.{◌≡◌, ℕ, zero, suc, ◌+◌, ◌<◌, ◌≤◌, Bool, true, false, cond, List, [], ◌∷◌, ◌++◌, subst, sym, refl, ◌∙◌, ap, arith}
+use Rattle.std.proofs.Common.{◌≡◌, ℕ, zero, suc, ◌+◌, ◌<◌, ◌≤◌, Bool, true, false, cond, List, [], ◌∷◌, ◌++◌, subst, sym, refl}
+use Rattle.std.proofs.Common.{◌∙◌, ap, arith}
 use Rattle.std.proofs.lemmas.Bool.{or_from}
 use Rattle.std.proofs.lemmas.List.{append_assoc, append-nil}
 use Rattle.std.proofs.lemmas.List.Folds.{list_any-append}
@@ -48,7 +49,7 @@ module _ (d : FlowsData) (n : ℕ) (deeper : (u : Use) → u.0 < n → Above (u.
             (follow-append d book one.more (u ∷ []) one.follow (stand, subst (λ xs. stands_in xs u ≡ false) one.is fresh, tt))
             (subst (λ xs. Follow d xs rest.more) at rest.follow);
         above = above-append b n (one.more ++ u ∷ []) rest.more
-            (above-append b n one.more (u ∷ []) (above-less b (u.0 + 1) n one.more (omega arith) one.above) (le, lt, tt))
+            (above-append b n one.more (u ∷ []) (above-less b (u.0 + 1) n one.more (omega arith) one.above) ((le, lt), tt))
             rest.above;
       }
 
@@ -67,20 +68,20 @@ module _ (d : FlowsData) (n : ℕ) (deeper : (u : Use) → u.0 < n → Above (u.
       ((book : List Use) (u : Use) → b ≤ u.0 → u.0 < n → Entered d (u.0 + 1) n book (size_uses d u) (first book u)) →
       (book us : List Use) → Above b n us → Entered d b n book us (entered_with first book us)
   with-first first b each book [] a = record { more = []; is = sym (append-nil book); stand = tt; follow = tt; above = tt }
-  with-first first b each book (u ∷ us) a = go (stands_in book u) refl (λ bs. with-first first b each bs us a.2)
+  with-first first b each book (u ∷ us) a = go (stands_in book u) refl (λ bs. with-first first b each bs us a.1)
     where
       go : (x : Bool) → stands_in book u ≡ x → ((bs : List Use) → Entered d b n bs us (entered_with first bs us)) →
           Entered d b n book (u ∷ us) (entered_with first (cond x book (first book u ++ u ∷ [])) us)
       go true e later = none-entered b book us u (entered_with first book us) e (later book)
-      go false e later = one-entered b book us u (first book u) (entered_with first (first book u ++ u ∷ []) us) a.0 a.1 e
-          (each book u a.0 a.1) (later (first book u ++ u ∷ []))
+      go false e later = one-entered b book us u (first book u) (entered_with first (first book u ++ u ∷ []) us) a.0.0 a.0.1 e
+          (each book u a.0.0 a.0.1) (later (first book u ++ u ∷ []))
 
   -- sizes of rows from b on, entered to a depth that holds all rows after
   pub entered-follow : (depth b : ℕ) → n ≤ b + depth → (book us : List Use) → Above b n us →
       Entered d b n book us (entered d depth book us)
   unfolding entered
   entered-follow zero b le book [] a = record { more = []; is = sym (append-nil book); stand = tt; follow = tt; above = tt }
-  entered-follow zero b le book (u ∷ us) a = let k = a.0 in let m = a.1 in absurd (omega arith)
+  entered-follow zero b le book (u ∷ us) a = let k = a.0.0 in let m = a.0.1 in absurd (omega arith)
   entered-follow (suc depth) b le book us a =
       with-first (λ c u. entered d depth c (size_uses d u)) b
       (λ c u from lt. entered-follow depth (u.0 + 1) (omega arith) c (size_uses d u) (deeper u lt)) book us a

@@ -1,5 +1,6 @@
 -- The entries of the certificate: their sizes are the book, and each stands after the sizes that it uses.
-use Rattle.std.proofs.Common.{◌≡◌, ◌+◌, ◌<◌, arith, ◌⊎◌, inl, inr, Bool, true, false, cond, List, [], ◌∷◌, ◌++◌, length, map, drop, refl, sym, ◌∙◌, ap}
+use Rattle.std.proofs.Common.{◌≡◌, ◌+◌, ◌<◌, arith, ◌⊎◌, inl, inr, Bool, true, false, cond, List, [], ◌∷◌, ◌++◌, length, map}
+use Rattle.std.proofs.Common.{drop, refl, sym, ◌∙◌, ap}
 use Rattle.std.specs.Prelude.{All}
 use Rattle.std.specs.List.{flat_map}
 use Rattle.std.proofs.lemmas.List.{append_assoc, append-nil}
@@ -9,9 +10,12 @@ use Rattle.flow_list.specs.Data.{FlowsData}
 use Rattle.flow_data.specs.Flows.{row_of}
 use Rattle.flow_data.specs.Soundness.{IsSound, count_of}
 use Rattle.flow_list.specs.Book.{AllStand, IsTrueBook, after_uses}
-use Rattle.flow_list.specs.Certificate.{Use, StackRow, Entry, size_entry, row_entry, auto_entry, entry_of, range_uses, range_owned, size_ranges, row_ranges, size_uses, row_uses, row_book, entries_behind, book_behind, rows_in_stacks, certificate, book_of}
+use Rattle.flow_list.specs.Certificate.{Use, StackRow, Entry, size_entry, row_entry, auto_entry, entry_of, range_uses}
+use Rattle.flow_list.specs.Certificate.{range_owned, size_ranges, row_ranges, size_uses, row_uses, row_book, entries_behind}
+use Rattle.flow_list.specs.Certificate.{book_behind, rows_in_stacks, certificate, book_of}
 use Rattle.range_laws.specs.Entering.{Extends}
-use Rattle.range_laws.specs.Entries.{size_in_entry, row_in_entry, sizes_in_entries, rows_in_entries, entry_uses, place_in_entry, ranges_in_entry, LinesCiteIn, EntriesStandOnce}
+use Rattle.range_laws.specs.Entries.{size_in_entry, row_in_entry, sizes_in_entries, rows_in_entries, entry_uses, place_in_entry}
+use Rattle.range_laws.specs.Entries.{ranges_in_entry, LinesCiteIn, EntriesStandOnce}
 use Rattle.range_laws.proofs.Above.{above-less}
 use Rattle.range_laws.proofs.Entering.{uses-enter}
 use Rattle.range_laws.proofs.CiteLaw.{lines-cite-in}

@@ -1,8 +1,10 @@
 -- The lines of columns one after another: each column's own line, and deeper ones after it.
-use Rattle.std.proofs.Common.{◌≡◌, ℕ, ◌+◌, Bool, true, false, List, [], ◌∷◌, ◌++◌, map, refl, sym, ◌∙◌, ap, arith, Option, Some, None}
+use Rattle.std.proofs.Common.{◌≡◌, ℕ, ◌+◌, Bool, true, false, List, [], ◌∷◌, ◌++◌, map, refl, sym, ◌∙◌, ap, arith, Option, Some}
+use Rattle.std.proofs.Common.{None}
 use Rattle.flow_list.specs.Data.{Flow, FlowsData}
 use Rattle.flow_list.specs.Tokens.{Token}
-use Rattle.flow_list.specs.Column.{ColumnLine, Filled, Inner, Step, cut, steps_from, room, is_cut, fill_in_room, inner_lines, deeper, column, column_up_to, avoids_at}
+use Rattle.flow_list.specs.Column.{ColumnLine, Filled, Inner, Step, cut, steps_from, room, is_cut, fill_in_room, inner_lines}
+use Rattle.flow_list.specs.Column.{deeper, column, column_up_to, avoids_at}
 
 -- the lines of one column: its own, and deeper ones
 abbrev pub Block : List ColumnLine → Type 0

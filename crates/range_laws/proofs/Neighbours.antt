@@ -1,12 +1,15 @@
 -- Neighbours among the ranges of a row differ in their reasons or their lines.
-use Rattle.std.proofs.Common.{◌≡◌, ℕ, zero, suc, ◌+◌, ◌<◌, ◌≤◌, ◌⊎◌, inl, inr, Bool, true, false, cond, List, [], ◌∷◌, ◌++◌, min, max, refl, subst, sym, ◌∙◌, ap, arith, Option, Some, None}
+use Rattle.std.proofs.Common.{◌≡◌, ℕ, zero, suc, ◌+◌, ◌<◌, ◌≤◌, ◌⊎◌, inl, inr, Bool, true, false, cond, List, [], ◌∷◌, ◌++◌, min}
+use Rattle.std.proofs.Common.{max, refl, subst, sym, ◌∙◌, ap, arith, Option, Some, None}
 use Rattle.std.specs.Prelude.{nat_lt, IfSome}
 use Rattle.flow_list.specs.Data.{Flow, FlowsData}
 use Rattle.flow_data.specs.Flows.{row_of, flow_in}
 use Rattle.flow_laws.proofs.AllRanges.{least-above}
 use Rattle.flow_laws.proofs.BoundsAbove.{judged-above}
 use Rattle.flow_list.specs.Column.{Column}
-use Rattle.flow_list.specs.Ranges.{Range, Reason, tall, area, left, bad, over, judged, bounds_of, lines_of, reason_of, least_bound, is_past, searched, range_up_to, top_of, ranges, tallest_from, spread, atoms_height}
+use Rattle.flow_list.specs.Ranges.{Range, Reason, tall, area, left, bad, over, judged, bounds_of, lines_of, reason_of}
+use Rattle.flow_list.specs.Ranges.{least_bound, is_past, searched, range_up_to, top_of, ranges, tallest_from, spread}
+use Rattle.flow_list.specs.Ranges.{atoms_height}
 use Rattle.flow_list.specs.Rows.{all_rows, most_columns, reach}
 use Rattle.flow_list.specs.Tokens.{Token, is_end}
 use Rattle.range_laws.specs.Neighbours.{Differ, NeighboursDiffer}

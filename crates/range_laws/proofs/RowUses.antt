@@ -8,8 +8,9 @@ use Rattle.flow_list.specs.Column.{Inner, endless_column}
 use Rattle.flow_list.specs.RowHeights.{column_within, row_columns, columns_of_row}
 use Rattle.flow_list.specs.Rows.{left_in, rows_to, all_rows}
 use Rattle.flow_list.specs.Tokens.{Token, row_start}
-use Rattle.range_laws.proofs.Above.{Above, above-append}
-use Rattle.range_laws.proofs.LaterRows.{HoldsAbove, steps-above, columns-above, column-above, fills-above, ranges-use}
+use Rattle.column_laws.proofs.Uses.{columns-use}
+use Rattle.range_laws.proofs.Above.{Above, above-append, Later}
+use Rattle.range_laws.proofs.LaterRows.{HoldsAbove, steps-above, column-above, fills-above, ranges-use}
 
 endless-above : (inner : Inner) (d : FlowsData) (f : Flow) (b n : ℕ) → HoldsAbove b n f → (t : Token) →
     Above b n (endless_column inner d f t).uses
@@ -25,7 +26,7 @@ module _ (d : FlowsData) (n : ℕ) (later : (r : ℕ) → r < n → HoldsAbove (
 
   row-columns-above : (r : ℕ) → r < n → (h : Option ℕ) → Above (r + 1) n (uses_of (row_columns d r h))
   unfolding row_columns
-  row-columns-above r lt h = columns-above (r + 1) n (column_within d (flow_in d r) h) (flow_in d r) (within-above r lt h)
+  row-columns-above r lt h = columns-use (Later (r + 1) n) (column_within d (flow_in d r) h) (flow_in d r) (within-above r lt h)
       (left_in (all_rows d) (flow_in d r) row_start) row_start
 
   pub row-above : (r : ℕ) → r < n → (available : Option ℕ) → Above (r + 1) n (row_uses d r available)

@@ -1,11 +1,13 @@
 -- At its least bound the lines of a column change.
-use Rattle.std.proofs.Common.{◌≡◌, ℕ, ◌+◌, ◌-◌, ◌<◌, ◌≤◌, ◌⊎◌, inl, inr, Bool, true, false, ◌&&◌, cond, List, [], ◌∷◌, ◌++◌, length, map, refl, subst, sym, ◌∙◌, ap, arith, Option, Some, None}
+use Rattle.std.proofs.Common.{◌≡◌, ℕ, ◌+◌, ◌-◌, ◌<◌, ◌≤◌, ◌⊎◌, inl, inr, Bool, true, false, ◌&&◌, cond, List, [], ◌∷◌, ◌++◌}
+use Rattle.std.proofs.Common.{length, map, refl, subst, sym, ◌∙◌, ap, arith, Option, Some, None}
 use Rattle.std.specs.Prelude.{nat_lt, nat_le}
 use Rattle.std.proofs.lemmas.Bool.{cases_lt, and_parts, and_left, and_right}
 use Rattle.std.proofs.lemmas.Bool.Decides.{nat_tests}
 use Rattle.flow_list.specs.Data.{Flow, FlowsData}
 use Rattle.flow_list.specs.Tokens.{Token, item_number, within}
-use Rattle.flow_list.specs.Column.{ColumnLine, Filled, Inner, Step, Cut, cut, steps_from, start_strip, room, is_cut, fill_in_room, inner_lines, deeper, bounds_at, column, column_up_to, avoids_at}
+use Rattle.flow_list.specs.Column.{ColumnLine, Filled, Inner, Step, Cut, cut, steps_from, start_strip, room, is_cut, fill_in_room}
+use Rattle.flow_list.specs.Column.{inner_lines, deeper, bounds_at, column, column_up_to, avoids_at}
 use Rattle.flow_laws.proofs.StopStays.{cut-from, cut-room}
 use Rattle.range_laws.proofs.Bounds.{Has, NoneBelow, has-one, has-rest, has-moved, below-moved}
 use Rattle.range_laws.proofs.LineBlocks.{deeper-same, deeper-none}

@@ -1,17 +1,18 @@
 -- A true book stays true when sizes are entered, at any depth that is enough.
-use Rattle.std.proofs.Common.{◌≡◌, ℕ, zero, suc, ◌+◌, ◌<◌, ◌≤◌, ◌⊎◌, inl, inr, false, cond, List, [], ◌∷◌, ◌++◌, length, get_or, refl, subst, sym, ◌∙◌, ap, arith}
+use Rattle.std.proofs.Common.{◌≡◌, ℕ, zero, suc, ◌+◌, ◌<◌, ◌≤◌, ◌⊎◌, inl, inr, false, cond, List, [], ◌∷◌, ◌++◌, length}
+use Rattle.std.proofs.Common.{refl, subst, sym, ◌∙◌, ap, arith}
 use Rattle.std.specs.Prelude.{All}
-use Rattle.std.specs.List.{flat_map}
 use Rattle.std.proofs.lemmas.Bool.{or_from}
 use Rattle.std.proofs.lemmas.List.{append_assoc, append-nil}
 use Rattle.std.proofs.lemmas.List.Elements.{All-nil, All-cons, All-head, All-tail}
 use Rattle.std.proofs.lemmas.List.Folds.{list_any-append}
-use Rattle.flow_list.specs.Data.{Atom, FlowsData, Item, Row}
-use Rattle.flow_data.specs.Flows.{row_of, flow_in, row_in, no_item, no_row, no_flow}
+use Rattle.flow_list.specs.Data.{FlowsData}
+use Rattle.flow_data.specs.Flows.{row_of, flow_in, no_row, no_flow}
 use Rattle.flow_data.specs.Soundness.{IsSound, IsInnerRow}
 use Rattle.flow_laws.proofs.SoundRows.{rows-in-range}
 use Rattle.flow_list.specs.Book.{AllStand, IsTrueBook, after_uses}
 use Rattle.flow_list.specs.Certificate.{Use, same_use, stands_in, size_uses, entered, entered_with}
+use Rattle.column_laws.proofs.Uses.{rows-at}
 use Rattle.range_laws.specs.Entering.{BookStaysTrue}
 use Rattle.range_laws.proofs.Above.{Above, not-above}
 use Rattle.range_laws.proofs.EnteredOnce.{Entered, Follow, entered-follow}
@@ -70,39 +71,28 @@ none-true d = record {
 rows-above : (n : ℕ) (us : List Use) → All (λ (u : Use). u.0 < n) us → Above 0 n us
 rows-above n [] all = tt
 rows-above n (u ∷ us) all =
-    (omega arith, All-head (λ (u : Use). u.0 < n) u us all, rows-above n us (All-tail (λ (u : Use). u.0 < n) u us all))
+    ((omega arith, All-head (λ (u : Use). u.0 < n) u us all), rows-above n us (All-tail (λ (u : Use). u.0 < n) u us all))
 
 pub above-rows : (b n : ℕ) (us : List Use) → Above b n us → All (λ (u : Use). u.0 < n) us
 above-rows b n [] a = All-nil (λ (u : Use). u.0 < n)
-above-rows b n (u ∷ us) a = All-cons (λ (u : Use). u.0 < n) u us a.1 (above-rows b n us a.2)
+above-rows b n (u ∷ us) a = All-cons (λ (u : Use). u.0 < n) u us a.0.1 (above-rows b n us a.1)
 
 above-later : (k n : ℕ) (us : List Use) → Above (k + 1) n us → All (λ (v : Use). (k < v.0) × (v.0 < n)) us
 above-later k n [] a = All-nil (λ (v : Use). (k < v.0) × (v.0 < n))
 above-later k n (u ∷ us) a = All-cons (λ (v : Use). (k < v.0) × (v.0 < n)) u us (
-  let le = a.0 in
+  let le = a.0.0 in
       omega arith,
-  a.1,
-) (above-later k n us a.2)
-
--- what is so of the rows among items is so of each item that is a row
-each-row : (P : ℕ → Type 0) (items : List Item) → All P (flat_map row_in items) → (k r : ℕ) → get_or items k no_item ≡ Row r → P r
-each-row P [] all k r e = absurd (no-row e)
-  where
-    no-row : no_item ≡ Row r → ⊥
-    no-row e = cc
-each-row P (Atom height kind ∷ items) all zero r e = absurd cc
-each-row P (Atom height kind ∷ items) all (suc k) r e = each-row P items all k r e
-each-row P (Row s ∷ items) all zero r e = let same : s ≡ r = cc in subst P same (All-head P s (flat_map row_in items) all)
-each-row P (Row s ∷ items) all (suc k) r e = each-row P items (All-tail P s (flat_map row_in items) all) k r e
+  a.0.1,
+) (above-later k n us a.1)
 
 -- in sound data the rows in a row have greater numbers
 pub later-rows : (d : FlowsData) → IsSound d → (r : ℕ) → r < length d.rows → HoldsAbove (r + 1) (length d.rows) (flow_in d r)
 later-rows d sound r lt k s e =
     let row = sound.rows r no_row lt in
     let flow = sound.flows (row_of d r).flow no_flow row.flow in
-    let inner = each-row (IsInnerRow d r) (flow_in d r).items (sound.inner_rows r lt) k s e in
+    let inner = rows-at (IsInnerRow d r) (flow_in d r).items (sound.inner_rows r lt) k s e in
     let later = inner.later in
-    (omega arith, each-row (λ r. r < length d.rows) (flow_in d r).items (rows-in-range d (flow_in d r).items flow.items) k s e)
+    (omega arith, rows-at (λ r. r < length d.rows) (flow_in d r).items (rows-in-range d (flow_in d r).items flow.items) k s e)
 
 -- ---- depth
 
@@ -112,8 +102,8 @@ module _ (d : FlowsData) (n : ℕ) (deeper : (u : Use) → u.0 < n → Above (u.
       entered_with x book us ≡ entered_with y book us
   with-alike x y b same book [] a = refl
   with-alike x y b same book (u ∷ us) a =
-      ap (λ first. entered_with x (cond (stands_in book u) book (first ++ u ∷ [])) us) (same book u a.0 a.1)
-      ∙ with-alike x y b same (cond (stands_in book u) book (y book u ++ u ∷ [])) us a.2
+      ap (λ first. entered_with x (cond (stands_in book u) book (first ++ u ∷ [])) us) (same book u a.0.0 a.0.1)
+      ∙ with-alike x y b same (cond (stands_in book u) book (y book u ++ u ∷ [])) us a.1
 
   -- sizes of rows from b on, entered to depths that both hold all rows after
   entered-alike : (k m b : ℕ) → n ≤ b + k → n ≤ b + m → (book us : List Use) → Above b n us →
@@ -121,9 +111,9 @@ module _ (d : FlowsData) (n : ℕ) (deeper : (u : Use) → u.0 < n → Above (u.
   unfolding entered
   entered-alike zero zero b le ge book us a = refl
   entered-alike zero (suc m) b le ge book [] a = refl
-  entered-alike zero (suc m) b le ge book (u ∷ us) a = let from = a.0 in let lt = a.1 in absurd (omega arith)
+  entered-alike zero (suc m) b le ge book (u ∷ us) a = let from = a.0.0 in let lt = a.0.1 in absurd (omega arith)
   entered-alike (suc k) zero b le ge book [] a = refl
-  entered-alike (suc k) zero b le ge book (u ∷ us) a = let from = a.0 in let lt = a.1 in absurd (omega arith)
+  entered-alike (suc k) zero b le ge book (u ∷ us) a = let from = a.0.0 in let lt = a.0.1 in absurd (omega arith)
   entered-alike (suc k) (suc m) b le ge book us a =
       with-alike (λ c u. entered d k c (size_uses d u)) (λ c u. entered d m c (size_uses d u)) b
       (λ c u from lt. entered-alike k m (u.0 + 1) (omega arith) (omega arith) c (size_uses d u) (deeper u lt)) book us a

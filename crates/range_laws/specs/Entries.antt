@@ -5,7 +5,8 @@ use Rattle.std.specs.List.{flat_map}
 use Rattle.flow_list.specs.Data.{FlowsData, Row}
 use Rattle.flow_data.specs.Flows.{flow_of, stack_of, item_of}
 use Rattle.flow_data.specs.Soundness.{count_of}
-use Rattle.flow_list.specs.Certificate.{Use, Entry, size_entry, row_entry, auto_entry, size_ranges, row_ranges, range_owned, size_uses, row_uses, certificate, book_of}
+use Rattle.flow_list.specs.Certificate.{Use, Entry, size_entry, row_entry, auto_entry, size_ranges, row_ranges, range_owned}
+use Rattle.flow_list.specs.Certificate.{size_uses, row_uses, certificate, book_of}
 use Rattle.flow_list.specs.Ranges.{Range}
 use Rattle.flow_list.specs.Tokens.{row_start}
 use Rattle.flow_list.specs.Book.{AllStand, IsTrueBook}

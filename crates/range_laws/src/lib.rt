@@ -1,6 +1,7 @@
 //! Laws of ranges of heights, and of the book of sizes that they rest on.
 //!
-//! It stands on flow_laws, flow_list and flow_data. Each function promises one law, does nothing, and takes no memory.
+//! It stands on column_laws, flow_laws, flow_list and flow_data. Each function promises one law, does nothing, and takes no
+//! memory.
 #![tactic(auto)]
 
 ghost use Rattle.std.specs.Prelude.{ℕ, ◌<◌, length, Option};

@@ -3,7 +3,12 @@
 use break_rules::{BreakValue, LineCounts, SeamBoxes, level};
 use mc_base::{Level, List};
 use std::alloc::{AllocError, Global};
+use std::process::Abort;
 use std::test::Fail;
+
+/// The values after and before a seam, whether a box avoids a break inside, between lines the counts of lines before and
+/// after it, in a block container with `orphans` 2 and `widows` 3, and the level.
+type Case = (&'static str, &'static str, bool, Option<(u32, u32)>, Level);
 
 fn values(alloc: Global, text: &str) -> Result<List<BreakValue>, AllocError> {
     let mut values = Vec::new(alloc);
@@ -17,8 +22,8 @@ fn values(alloc: Global, text: &str) -> Result<List<BreakValue>, AllocError> {
     Ok(List::of(values))
 }
 
-/// Between two lines of a block container with `orphans` 2 and `widows` 3.
-fn lines(before: u32, after: u32) -> Option<LineCounts> {
+fn lines(counts: Option<(u32, u32)>) -> Option<LineCounts> {
+    let (before, after) = counts?;
     Some(LineCounts {
         before,
         after,
@@ -27,32 +32,44 @@ fn lines(before: u32, after: u32) -> Option<LineCounts> {
     })
 }
 
-#[test]
-fn ranks_seams(rt: HostRuntime) -> Result<(), Fail> {
-    for (after, before, inside_avoid, lines, want) in [
-        ("", "", false, None, Level::L0),
-        ("-", "--", false, None, Level::L0),
-        ("-a", "", false, None, Level::L2),
-        ("", "a", false, None, Level::L2),
-        ("", "", true, None, Level::L2),
-        ("a", "-c", true, None, Level::Forced),
-        ("ca", "a", false, None, Level::Forced),
-        ("", "", false, lines(1, 4), Level::L1),
-        ("", "", false, lines(2, 3), Level::L0),
-        ("", "", false, lines(3, 2), Level::L1),
-        ("", "", false, lines(1, 1), Level::L1),
-        ("a", "a", false, lines(2, 3), Level::L0),
-        ("a", "", false, lines(1, 3), Level::L1),
-        ("", "", true, lines(1, 1), Level::L2),
-        ("c", "", false, lines(1, 1), Level::Forced),
-    ] {
-        let seam = SeamBoxes {
-            after: values(rt.alloc(), after)?,
-            before: values(rt.alloc(), before)?,
-            inside_avoid,
-            lines,
-        };
-        assert_eq!(rt; level(&seam), want, "at {after} {before}");
+fn level_of(alloc: Global, case: &Case) -> Result<Level, AllocError> {
+    let (after, before, inside_avoid, counts, _) = *case;
+    let seam = SeamBoxes {
+        after: values(alloc, after)?,
+        before: values(alloc, before)?,
+        inside_avoid,
+        lines: lines(counts),
+    };
+    Ok(level(&seam))
+}
+
+fn each_is_ranked(rt: &impl Abort, alloc: Global, cases: &[Case]) -> Result<(), Fail> {
+    for case in cases {
+        let found = level_of(alloc, case)?;
+        assert!(rt; found == case.4, "at {} {}", case.0, case.1);
     }
     Ok(())
+}
+
+const SEAMS: [Case; 15] = [
+    ("", "", false, None, Level::L0),
+    ("-", "--", false, None, Level::L0),
+    ("-a", "", false, None, Level::L2),
+    ("", "a", false, None, Level::L2),
+    ("", "", true, None, Level::L2),
+    ("a", "-c", true, None, Level::Forced),
+    ("ca", "a", false, None, Level::Forced),
+    ("", "", false, Some((1, 4)), Level::L1),
+    ("", "", false, Some((2, 3)), Level::L0),
+    ("", "", false, Some((3, 2)), Level::L1),
+    ("", "", false, Some((1, 1)), Level::L1),
+    ("a", "a", false, Some((2, 3)), Level::L0),
+    ("a", "", false, Some((1, 3)), Level::L1),
+    ("", "", true, Some((1, 1)), Level::L2),
+    ("c", "", false, Some((1, 1)), Level::Forced),
+];
+
+#[test]
+fn seams_are_ranked(rt: HostRuntime) -> Result<(), Fail> {
+    each_is_ranked(&rt, rt.alloc(), &SEAMS)
 }

@@ -2,6 +2,9 @@
 //!
 //! It stands on the crates that it calls, which so are proved once, and without their tests. Each of their public calls that
 //! can answer out of memory is reached here with ample memory, and its answer compared with one from outside.
+//!
+//! The tables are constants, and each test goes over one by a function that says nothing of its result: so no proof looks
+//! into a table, nor at what the contracts say of texts that are known.
 #![tactic(auto)]
 
 #[cfg(test)]
@@ -14,5 +17,7 @@ mod documents;
 mod faces;
 #[cfg(test)]
 mod lines;
+#[cfg(test)]
+mod runs;
 #[cfg(test)]
 mod white_space;

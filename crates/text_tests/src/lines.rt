@@ -1,78 +1,23 @@
-//! Runs in a notation of one character a piece: `<` is a `wbr`, `|` a forced break and `#` an image of 40 by 30 px. `{` and
-//! `}` stand around text whose white space is kept. Each character is 512 units wide.
+//! Runs cut into lines. Each character is 512 units wide.
 
-ghost use Rattle.std.specs.Prelude.{◌≡◌, ◌<◌, IfOk, List, length};
-ghost use Rattle.std.specs.List.{All};
-ghost use Rattle.font_table.specs.declared.fonts.Face.{Face};
-ghost use Rattle.inline_text.specs.declared.content.RunStyle.{RunStyle};
-ghost use Rattle.inline_text.specs.WhiteSpace.{HasStyle};
-ghost use Rattle.line_breaker.specs.Lines.{IsMeasurable, IsStyle};
+ghost use Rattle.std.specs.Prelude.{◌^◌, ◌≤◌, length};
 
-use font_table::{FaceId, read_fonts};
-use inline_text::{Piece, RunStyle, Runs};
+use crate::runs::run;
+use font_table::read_fonts;
 use line_breaker::{Line, break_lines};
 use mc_base::{List, Refusal, Units};
 use std::alloc::{AllocError, Global};
 use std::fmt::Write;
+use std::process::Abort;
 use std::test::Fail;
 
 const METRICS: &[u8] = b"metrics 1\nface a 400 normal 800 200 500\n";
 
-fn style(face: FaceId, wrap: bool) -> RunStyle
-    ensures { (faces : List Face) → face < length faces → IsStyle faces result }
+/// The lines of a run in its notation, in these metrics.
+fn lines_of(alloc: Global, metrics: &[u8], text: &str, width: Units) -> Result<List<Line>, Refusal>
+    requires { length metrics.now ≤ 2 ^ 28 }
 {
-    RunStyle {
-        face,
-        size: 1024,
-        line: 1280,
-        wrap,
-        keep: !wrap,
-        hyphens: true,
-    }
-}
-
-fn piece(ch: char, style: u32) -> Piece
-    requires { style < 2 }
-    ensures named { (styles : List RunStyle) → length styles ≡ 2 → HasStyle styles result }
-    ensures measurable { IsMeasurable result }
-{
-    match ch {
-        '<' => Piece::Chance,
-        '|' => Piece::Forced,
-        '#' => Piece::Image {
-            w: 2560,
-            h: 1920,
-            style,
-        },
-        _ => Piece::Char { ch, style },
-    }
-}
-
-fn run(alloc: Global, face: FaceId, text: &str) -> Result<Runs, AllocError>
-    ensures count { IfOk result (λ runs. length runs.styles ≡ 2) }
-    ensures styles { IfOk result (λ runs. (faces : List Face) → face < length faces → All (IsStyle faces) runs.styles) }
-    ensures named { IfOk result (λ runs. All (HasStyle runs.styles) runs.pieces) }
-    ensures measurable { IfOk result (λ runs. All IsMeasurable runs.pieces) }
-{
-    let styles = vec![in alloc; style(face, true), style(face, false)]?;
-    let mut pieces = Vec::new(alloc);
-    let mut style_now = 0;
-    for ch in text.chars() {
-        match ch {
-            '{' => style_now = 1,
-            '}' => style_now = 0,
-            _ => pieces.push(piece(ch, style_now))?,
-        }
-    }
-    Ok(Runs {
-        pieces: List::of(pieces),
-        styles: List::of(styles),
-    })
-}
-
-/// The lines of a run in the notation above.
-fn lines_of(alloc: Global, text: &str, width: Units) -> Result<List<Line>, Refusal> {
-    let fonts = read_fonts(alloc, METRICS)?;
+    let fonts = read_fonts(alloc, metrics)?;
     let runs = run(alloc, fonts.face(&[], 400, false), text)?;
     if runs.pieces.len() > 1_000_000 {
         return Err(Refusal::NoMemory);
@@ -90,43 +35,53 @@ fn written(alloc: Global, lines: &[Line]) -> Result<String, AllocError> {
     Ok(text)
 }
 
-#[test]
-fn cuts_runs_into_lines(rt: HostRuntime) -> Result<(), Fail> {
-    for (text, width, want) in [
-        (
-            "aaa bbb-ccc dddd\u{ad}dddd",
-            3840,
-            "4 1536 1280;12 3584 1280;17 2560 1280;21 2048 1280;",
-        ),
-        ("#", 64, "1 2560 2253;"),
-        ("a # b", 4096, "4 3584 2253;5 512 1280;"),
-        ("<<", 64, ""),
-        ("a|<", 640, "2 512 1280;"),
-        ("a||b", 640, "2 512 1280;3 0 1280;4 512 1280;"),
-        ("{aa  b }", 512, "6 3072 1280;"),
-        ("aaaa bb", 512, "5 2048 1280;7 1024 1280;"),
-        ("<aaaa", 512, "5 2048 1280;"),
-        ("aaa\u{ad}b", 1536, "4 2048 1280;5 512 1280;"),
-        ("a\u{ad}#", 2560, "2 1024 1280;3 2560 2253;"),
-        ("a\u{ad}<b", 512, "3 512 1280;4 512 1280;"),
-    ] {
-        let lines = lines_of(rt.alloc(), text, width)?;
-        assert_eq!(rt;
-            written(rt.alloc(), lines.as_slice())?.as_str(),
-            want,
-            "of {text}"
-        );
+/// A run, a width, and the lines.
+type Case = (&'static str, Units, &'static str);
+
+fn each_is_cut(rt: &impl Abort, alloc: Global, cases: &[Case]) -> Result<(), Fail> {
+    for (text, width, wanted) in cases {
+        let lines = lines_of(alloc, METRICS, text, *width)?;
+        let found = written(alloc, lines.as_slice())?;
+        assert!(rt; found.as_str() == *wanted, "of {text}");
     }
     Ok(())
 }
 
+const CUT: [Case; 12] = [
+    (
+        "aaa bbb-ccc dddd\u{ad}dddd",
+        3840,
+        "4 1536 1280;12 3584 1280;17 2560 1280;21 2048 1280;",
+    ),
+    ("#", 64, "1 2560 2253;"),
+    ("a # b", 4096, "4 3584 2253;5 512 1280;"),
+    ("<<", 64, ""),
+    ("a|<", 640, "2 512 1280;"),
+    ("a||b", 640, "2 512 1280;3 0 1280;4 512 1280;"),
+    ("{aa  b }", 512, "6 3072 1280;"),
+    ("aaaa bb", 512, "5 2048 1280;7 1024 1280;"),
+    ("<aaaa", 512, "5 2048 1280;"),
+    ("aaa\u{ad}b", 1536, "4 2048 1280;5 512 1280;"),
+    ("a\u{ad}#", 2560, "2 1024 1280;3 2560 2253;"),
+    ("a\u{ad}<b", 512, "3 512 1280;4 512 1280;"),
+];
+
 #[test]
-fn cuts_a_million_pieces(rt: HostRuntime) -> Result<(), Fail> {
-    let mut text = String::new(rt.alloc());
-    for _ in 0..250_000 {
+fn runs_are_cut_into_lines(rt: HostRuntime) -> Result<(), Fail> {
+    each_is_cut(&rt, rt.alloc(), &CUT)
+}
+
+/// How many lines a run has that is `aaa ` so often.
+fn count_of_lines(alloc: Global, words: u32, width: Units) -> Result<usize, Refusal> {
+    let mut text = String::new(alloc);
+    for _ in 0..words {
         text.push_str("aaa ")?;
     }
-    let lines = lines_of(rt.alloc(), text.as_str(), 3840)?;
-    assert_eq!(rt; lines.len(), 125_000);
+    Ok(lines_of(alloc, METRICS, text.as_str(), width)?.len())
+}
+
+#[test]
+fn a_million_pieces_are_cut(rt: HostRuntime) -> Result<(), Fail> {
+    assert_eq!(rt; count_of_lines(rt.alloc(), 250_000, 3840)?, 125_000);
     Ok(())
 }

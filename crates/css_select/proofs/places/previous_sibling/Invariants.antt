@@ -1,4 +1,4 @@
-use Rattle.std.proofs.Common.{◌≡◌, ◌<◌, ◌≤◌, ℕ, length}
+use Rattle.std.proofs.Common.{◌≤◌, ℕ}
 use Rattle.css_select.specs.Places.{IsEarlierSibling}
 use Rattle.css_select.proofs.places.previous_sibling.Given as goal
 

@@ -1,4 +1,4 @@
-use Rattle.std.proofs.Common.{◌+◌, ◌-◌, ℕ, Option, None, Some}
+use Rattle.std.proofs.Common.{◌-◌}
 use Rattle.css_data.specs.declared.selector.Join.TheVariants.{Later}
 use Rattle.css_select.proofs.Searches.{IsSearching, end_of}
 use Rattle.css_select.proofs.walk.search_siblings.Given as goal

@@ -1,4 +1,4 @@
-use Rattle.std.proofs.Common.{◌≡◌, ℕ, ap, subst, arith}
+use Rattle.std.proofs.Common.{ap, subst, arith}
 use Rattle.css_select.specs.declared.walk.Walk.{Walk}
 use Rattle.css_select.specs.Walking.{is_near, is_level, Tells, place_of}
 use Rattle.css_select.proofs.Searches.{tells_level, tells_on}
@@ -6,7 +6,8 @@ use Rattle.css_select.proofs.walk.walk_level.Goals as goal
 
 pub loop-walk-init : goal.loop-walk-init
 loop-walk-init c = record {
-  tells = tells_level c.args.dom.now c.args.selector.now is_near c.args.start c.args.node c.walk_near-walk.result c.walk_near-walk.ensures.tells;
+  tells = tells_level c.args.dom.now c.args.selector.now is_near c.args.start c.args.node c.walk_near-walk.result
+      c.walk_near-walk.ensures.tells;
   within = c.walk_near-walk.ensures.less;
 }
 
@@ -18,6 +19,7 @@ loop-walk-preserved c =
     let within = c.loop-walk.invariant.within in
     let less = c.search_siblings-walk.ensures.less in
     record {
-      tells = tells_on c.args.dom.now c.args.selector.now is_level is_near c.args.start c.args.node c.in-At.place c.in-At.at c.search_siblings-walk.result here.0 c.search_siblings-walk.ensures.tells;
+      tells = tells_on c.args.dom.now c.args.selector.now is_level is_near c.args.start c.args.node c.in-At.place c.in-At.at
+          c.search_siblings-walk.result here.0 c.search_siblings-walk.ensures.tells;
       within = omega arith;
     }

@@ -1,6 +1,5 @@
 use Rattle.std.proofs.Common.{◌≡◌, take}
 use Rattle.css_select.specs.Specificity.{capped, ids_of, classes_of, types_of}
-use Rattle.css_select.specs.Specificity as count
 use Rattle.css_select.proofs.weight.specificity.Given as goal
 
 abbrev pub invariant-loop-compound : goal.invariant-loop-compound

@@ -1,4 +1,4 @@
-use Rattle.std.proofs.Common.{length, ◌-◌, arith}
+use Rattle.std.proofs.Common.{length, arith}
 use Rattle.css_syntax.specs.Rules.{no_rules, rules_from}
 use Rattle.css_syntax.proofs.RuleLoop.{goes_on, is_over}
 use Rattle.css_syntax.proofs.rules.sheet_rules.Goals as goal

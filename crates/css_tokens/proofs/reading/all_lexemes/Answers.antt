@@ -12,7 +12,9 @@ returns-in_default c =
 pub loop-preserved : goal.loop-preserved
 loop-preserved c =
     let some : first c.loop.cursor ≡ Some c.in-Some._place = sym c.peek.ensures ∙ c.in-Some.is in
-    goes_on (length c.args.text.now) c.loop.counter c.loop.all c.push_piece.new.all (lexemes_from (length c.args.text.now) (places_of (chars c.args.text.now))) c.loop.cursor c.piece.new.cursor c.in-Some._place c.in_ok-next.next c.loop-test.true some c.in_ok-next.ensures c.in_ok-push_piece.ensures c.loop.invariant
+    goes_on (length c.args.text.now) c.loop.counter c.loop.all c.push_piece.new.all
+    (lexemes_from (length c.args.text.now) (places_of (chars c.args.text.now))) c.loop.cursor c.piece.new.cursor
+    c.in-Some._place c.in_ok-next.next c.loop-test.true some c.in_ok-next.ensures c.in_ok-push_piece.ensures c.loop.invariant
 
 pub returns : goal.returns
 returns c = no_turn_left (length c.args.text.now) c.loop.counter c.loop.all _ c.loop.cursor c.loop-test.false c.loop.invariant

@@ -3,4 +3,5 @@ use Rattle.css_values.specs.Declarations.{is_one_of}
 use Rattle.css_values.proofs.declaration.is_one_of.Given as goal
 
 abbrev pub invariant-loop-word : goal.invariant-loop-word
-invariant-loop-word l = is_one_of (map (λ word. word.now) (drop l.word-index l.words)) l.text ≡ is_one_of (map (λ word. word.now) l.words) l.text
+invariant-loop-word l = is_one_of (map (λ word. word.now) (drop l.word-index l.words)) l.text
+    ≡ is_one_of (map (λ word. word.now) l.words) l.text

@@ -1,4 +1,4 @@
-use Rattle.std.proofs.Common.{◌≡◌, refl, sym, ◌∙◌, ap}
+use Rattle.std.proofs.Common.{refl, ◌∙◌}
 use Rattle.flow_list.proofs.BookEntries.{found-by-place}
 use Rattle.flow_list.proofs.book.Book.find.Goals as goal
 

@@ -1,0 +1,3 @@
+pub mod BoxSteps
+pub mod OpenSums
+pub mod Rooms

@@ -1,0 +1,4 @@
+pub mod PlaceLemmas
+pub mod WonLemmas
+pub mod EntryLemmas
+pub mod AttributeLemmas

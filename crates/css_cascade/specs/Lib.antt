@@ -1,0 +1,4 @@
+pub mod Entries
+pub mod Won
+pub mod Attributes
+pub mod Cascaded

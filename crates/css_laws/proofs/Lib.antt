@@ -1,0 +1,4 @@
+pub mod Runs
+pub mod Found
+pub mod Reach
+pub mod Whole

@@ -1,0 +1,10 @@
+pub mod AmongLemmas
+pub mod OrderLemmas
+pub mod ClaimLemmas
+pub mod BestLemmas
+pub mod FilingLemmas
+pub mod KeyLemmas
+pub mod RuleLemmas
+pub mod WinnerLemmas
+pub mod LawLemmas
+pub mod OwnLemmas

@@ -1,0 +1,12 @@
+pub mod Among
+pub mod Settings
+pub mod Precedences
+pub mod BuiltIn
+pub mod Filing
+pub mod Keys
+pub mod Applying
+pub mod Best
+pub mod Own
+pub mod Rules
+pub mod Winners
+pub mod Laws
