@@ -4,4 +4,5 @@ pub mod Ending
 pub mod Parts
 pub mod Rooms
 pub mod Rows
+pub mod Sizes
 pub mod Walks

@@ -5,18 +5,18 @@ use Rattle.mc_base.specs.PlainTree.{PlainTree, plain_trees}
 use Rattle.mc_base.specs.declared.fragment.FragId.{FragId}
 use Rattle.flow_list.specs.Data.{Flow, FlowsData, Item, Atom, Row}
 use Rattle.flow_data.specs.Flows.{flow_in, flow_of, item_of, seam_of}
-use Rattle.flow_list.specs.Column.{Step, room}
+use Rattle.flow_list.specs.Column.{Step, room, row_from, row_list}
 use Rattle.flow_list.specs.Fragments.{fills_item, fragment_of, laid_start, laid_to, places_in, row_fragments, stop_of}
 use Rattle.flow_list.specs.Placing.{Placed as AnyPlaced, Laid, RowLaid, laid_edges, row}
 use Rattle.flow_list.specs.Strip.{Strip, begins, strip_at}
 use Rattle.flow_list.specs.Rows.{all_rows}
-use Rattle.flow_list.specs.Tokens.{Token, IsPlaceBefore}
+use Rattle.flow_list.specs.Tokens.{Token, IsPlaceBefore, item_number, within}
 use Rattle.frag_pool.specs.Nodes.{Nodes}
 use Rattle.frag_pool.specs.Standing.{StandsFor}
 use Rattle.frag_maker.specs.Building.{IsMade, laid_row}
 use Rattle.frag_maker.specs.declared.placed.MadeRow.{MadeRow}
 use Rattle.inner_rows.specs.Filling.{fill_tree}
-use Rattle.column_maker.specs.Walking.{item_laid}
+use Rattle.column_maker.specs.Walking.{item_laid, whole_rows}
 use Rattle.column_maker.specs.declared.place.Cut.{Cut}
 
 -- the trees of the columns of a row that stands in a column
@@ -53,6 +53,10 @@ abbrev pub last_item : Token → ℕ
 last_item [] = 0
 last_item (e ∷ []) = e - 1
 last_item (e ∷ (j ∷ rest)) = e
+
+-- how many items stand in the column that begins at t
+abbrev pub items_in : Token → (end : Token) → ℕ
+items_in t end = last_item end + 1 - item_number t
 
 -- whether the last item of the column is its stop, a row that is filled
 abbrev pub ends_filled : FlowsData → Flow → Token → (h : ℕ) → (end : Token) → Bool
@@ -102,3 +106,15 @@ cut_room cut = cut.room
 abbrev pub last_laid : FlowsData → Flow → (k : ℕ) → Option ℕ → (reached : Bool) → Strip → Token → List Laid
 last_laid d f k None reached s q = item_laid (all_rows d) f s k q
 last_laid d f k (Some a) reached s q = cut_laid f k a reached s q
+
+-- ---- the rows that stand whole
+
+-- the last item, where it is one and isn't filled
+abbrev pub last_rows : Flow → (k : ℕ) → Option ℕ → Token → List (ℕ × Token)
+last_rows f k None q = row_list (row_from (item_of f k) q)
+last_rows f k (Some a) q = []
+
+-- those in the column that begins at t, in order, with the places from which they are taken
+abbrev pub rows_in_column : Flow → Token → (end : Token) → Option ℕ → List (ℕ × Token)
+rows_in_column f t end None = whole_rows f (item_number t) (within t) (items_in t end)
+rows_in_column f t end (Some a) = whole_rows f (item_number t) (within t) (last_item end - item_number t)

@@ -1,9 +1,9 @@
 -- What is laid in a column, item by item: each with the tail after it and the head before the next one.
-use Rattle.std.specs.Prelude.{ℕ, zero, suc, ◌+◌, ◌<◌, ◌^◌, List, ◌∷◌, ◌++◌, drop}
+use Rattle.std.specs.Prelude.{ℕ, zero, suc, ◌+◌, ◌<◌, ◌^◌, List, [], ◌∷◌, ◌++◌, drop}
 use Rattle.flow_list.specs.Data.{Flow, FlowsData}
 use Rattle.flow_data.specs.Flows.{boxes_in, item_of, seam_of}
 use Rattle.flow_list.specs.ClonedEdges.{bottoms}
-use Rattle.flow_list.specs.Column.{Inner, height_of, strip_behind}
+use Rattle.flow_list.specs.Column.{Inner, height_of, row_from, row_list, strip_behind}
 use Rattle.flow_list.specs.Fragments.{laid_item}
 use Rattle.flow_list.specs.Placing.{Laid, laid_edges}
 use Rattle.flow_list.specs.Rows.{all_rows, amounts_in, heights_from}
@@ -34,6 +34,11 @@ unfoldable pub walk_laid : Inner → Flow → (Strip → Token → List Laid) �
 walk_laid inner f last s k q zero = last s q
 walk_laid inner f last s k q (suc n) =
     item_passed inner f s k q ++ walk_laid inner f last (strip_next inner f s k q) (k + 1) row_start n
+
+-- the rows among n items from item k on, the first of them taken from q, with the places from which they are taken
+unfoldable pub whole_rows : Flow → ℕ → Token → ℕ → List (ℕ × Token)
+whole_rows f k q zero = []
+whole_rows f k q (suc n) = row_list (row_from (item_of f k) q) ++ whole_rows f (k + 1) row_start n
 
 -- the strip before item k leaves room for the rest of the flow: all that may stand after it reaches less than 2^60
 abbrev pub HasRoom : FlowsData → Flow → ℕ → Token → Strip → Type 0

@@ -3,8 +3,10 @@
 ghost use Rattle.std.specs.Prelude.{◌≡◌, ◌+◌, ◌<◌, ◌≤◌, ◌^◌, ◌∷◌, ◌++◌, [], All, IfOk, OnOk, length, drop};
 ghost use Rattle.flow_data.specs.Flows.{flow_of, item_of, row_in, rows_in};
 ghost use Rattle.flow_data.specs.Soundness.{NestsAtMost};
-ghost use Rattle.flow_list.specs.Column.{height_of, strip_behind};
+ghost use Rattle.flow_list.specs.Column.{height_of, row_from, row_list, strip_behind};
+ghost use Rattle.flow_list.specs.Book.{after_uses};
 ghost use Rattle.flow_list.specs.Counts.{raised};
+ghost use Rattle.flow_list.specs.Entries.{uses_in};
 ghost use Rattle.flow_list.specs.Fragments.{laid_item};
 ghost use Rattle.flow_list.specs.Rows.{all_rows};
 ghost use Rattle.flow_list.specs.Strip.{put};
@@ -21,6 +23,7 @@ use frag_maker::MadeRow;
 use frag_pool::Pool;
 use inner_rows::InnerRows;
 use mc_base::{NoMemory, Token};
+use range_laws::uses_enter;
 use std::alloc::Global;
 
 /// Lays an item, which is taken from a place.
@@ -47,11 +50,14 @@ fn stand_one<I: InnerRows>(
     ensures leads { OnOk result (Leads at.old (laid_item (all_rows flows.now) item k from.now ∷ [])
         (put (strip_of at.old) (height_of (all_rows flows.now) item from.now)) at.new) }
     ensures made { OnOk result (AllHaveColumns flows.now pool.new (rows_of at.new)) }
+    ensures uses { OnOk result (uses_in book.new
+        ≡ after_uses flows.now (uses_in book.old) (row_list (row_from item from.now))) }
     ensures depth { I.depth inner.new ≡ I.depth inner.old }
     ensures engine { I.is_true inner.new flows.now book.new pool.new }
     ensures book { BookAfter flows.now book.old book.new }
     ensures grown { Grows pool.old pool.new }
 {
+    uses_enter();
     match item {
         Item::Atom { height, .. } => {
             at.stand(alloc, k, height)?;
@@ -102,6 +108,8 @@ pub fn stand_item<I: InnerRows, C: Tally>(
         (item_laid (all_rows flows.now) (flow_of flows.now flow) (strip_of at.old) k from.now)
         (strip_behind (all_rows flows.now) (flow_of flows.now flow) (strip_of at.old) k from.now) at.new) }
     ensures made { OnOk result (AllHaveColumns flows.now pool.new (rows_of at.new)) }
+    ensures uses { OnOk result (uses_in book.new ≡ after_uses flows.now (uses_in book.old)
+        (row_list (row_from (item_of (flow_of flows.now flow) k) from.now))) }
     ensures depth { I.depth inner.new ≡ I.depth inner.old }
     ensures engine { I.is_true inner.new flows.now book.new pool.new }
     ensures book { BookAfter flows.now book.old book.new }
@@ -166,6 +174,8 @@ pub fn pass_item<I: InnerRows, C: Tally>(
         (item_passed (all_rows flows.now) (flow_of flows.now flow) (strip_of at.old) k from.now)
         (strip_next (all_rows flows.now) (flow_of flows.now flow) (strip_of at.old) k from.now) at.new) }
     ensures made { OnOk result (AllHaveColumns flows.now pool.new (rows_of at.new)) }
+    ensures uses { OnOk result (uses_in book.new ≡ after_uses flows.now (uses_in book.old)
+        (row_list (row_from (item_of (flow_of flows.now flow) k) from.now))) }
     ensures depth { I.depth inner.new ≡ I.depth inner.old }
     ensures engine { I.is_true inner.new flows.now book.new pool.new }
     ensures book { BookAfter flows.now book.old book.new }

@@ -1,15 +1,18 @@
 //! The fragment of a column that was decided.
 
-ghost use Rattle.std.specs.Prelude.{◌≡◌, ◌<◌, All, IfOk, length};
+ghost use Rattle.std.specs.Prelude.{◌≡◌, ◌+◌, ◌<◌, ◌≤◌, All, IfOk, OnOk, length};
+ghost use Rattle.std.specs.Option.{option_map};
 ghost use Rattle.flow_data.specs.Flows.{flow_in, flow_of, rows_in};
 ghost use Rattle.flow_data.specs.Soundness.{NestsAtMost};
 ghost use Rattle.flow_list.specs.Column.{column};
+ghost use Rattle.flow_list.specs.Book.{after_uses};
+ghost use Rattle.flow_list.specs.Entries.{uses_in};
 ghost use Rattle.flow_list.specs.Rows.{all_rows};
 ghost use Rattle.flow_list.specs.Tokens.{IsPlaceBefore};
 ghost use Rattle.frag_pool.specs.Growing.{Grows};
 ghost use Rattle.frag_pool.specs.Standing.{StandsFor};
 ghost use Rattle.inner_rows.specs.TrueBook.{AreTrue, BookAfter};
-ghost use Rattle.column_maker.specs.Making.{IsEnding, tree_of_column};
+ghost use Rattle.column_maker.specs.Making.{IsEnding, cut_room, items_in, rows_in_column, tree_of_column};
 
 use crate::place::{Cut, place_column};
 use flow_list::{Book, Flows, Tally};
@@ -55,6 +58,9 @@ pub fn make_column<I: InnerRows, C: Tally>(
         ≡ (column (all_rows flows.now) flows.now (flow_of flows.now flow) from.now height).extent }
     requires cut { IsEnding flows.now pool.old (flow_of flows.now flow) from.now height decided.now.end decided.now.cut }
     ensures frag { IfOk result (λ id. StandsFor pool.new id (tree_of_column flows.now flow from.now height)) }
+    ensures uses { OnOk result (uses_in book.new ≡ after_uses flows.now (uses_in book.old)
+        (rows_in_column (flow_of flows.now flow) from.now decided.now.end (option_map cut_room decided.now.cut))) }
+    ensures reads { C.read_count tally.new ≤ C.read_count tally.old + items_in from.now decided.now.end }
     ensures depth { I.depth inner.new ≡ I.depth inner.old }
     ensures engine { I.is_true inner.new flows.now book.new pool.new }
     ensures book { BookAfter flows.now book.old book.new }

@@ -5,7 +5,9 @@ ghost use Rattle.std.specs.Option.{option_map};
 ghost use Rattle.flow_data.specs.Flows.{flow_in, flow_of, item_of, rows_in};
 ghost use Rattle.flow_data.specs.Soundness.{NestsAtMost};
 ghost use Rattle.flow_list.specs.Column.{column, height_of};
+ghost use Rattle.flow_list.specs.Book.{after_uses};
 ghost use Rattle.flow_list.specs.Counts.{raised};
+ghost use Rattle.flow_list.specs.Entries.{uses_in};
 ghost use Rattle.flow_list.specs.Placing.{Laid};
 ghost use Rattle.flow_list.specs.Rows.{all_rows};
 ghost use Rattle.flow_list.specs.Tokens.{IsPlaceBefore, within};
@@ -14,7 +16,8 @@ ghost use Rattle.frag_maker.specs.Building.{RowsAreMade, placed_as};
 ghost use Rattle.column_places.specs.Placing.{HasMargin, rows_of, strip_of, with_more};
 ghost use Rattle.inner_rows.specs.TrueBook.{AreTrue, BookAfter};
 ghost use Rattle.column_maker.specs.Making.{AllHaveColumns, HasColumns, IsEnding, IsTakenFrom, columns_in, cut_laid, cut_room};
-ghost use Rattle.column_maker.specs.Making.{cut_row, ends_at_seam, last_item, last_laid, placed_to, row_number};
+ghost use Rattle.column_maker.specs.Making.{cut_row, ends_at_seam, items_in, last_item, last_laid, last_rows};
+ghost use Rattle.column_maker.specs.Making.{placed_to, row_number, rows_in_column};
 ghost use Rattle.column_maker.specs.Walking.{HasRoom};
 
 use crate::begin::begin_column;
@@ -25,6 +28,7 @@ use frag_maker::{MadeRow, Placed};
 use frag_pool::Pool;
 use inner_rows::InnerRows;
 use mc_base::{FragId, NoMemory, Token, Units};
+use range_laws::uses_enter;
 use std::alloc::Global;
 
 /// A row that is filled where a column ends: the room that it has, in units, and a fragment of what it makes of that.
@@ -151,6 +155,8 @@ fn stand_last<I: InnerRows, C: Tally>(
     ensures margin { OnOk result (HasMargin at.new) }
     ensures room { OnOk result (at.new.y + at.new.margin < 2 ^ 63) }
     ensures made { OnOk result (AllHaveColumns flows.now pool.new (rows_of at.new)) }
+    ensures uses { OnOk result (uses_in book.new ≡ after_uses flows.now (uses_in book.old)
+        (last_rows (flow_of flows.now flow) k (option_map cut_room cut) from.now)) }
     ensures depth { I.depth inner.new ≡ I.depth inner.old }
     ensures engine { I.is_true inner.new flows.now book.new pool.new }
     ensures book { BookAfter flows.now book.old book.new }
@@ -160,6 +166,7 @@ fn stand_last<I: InnerRows, C: Tally>(
 {
     match cut {
         Some(cut) => {
+            uses_enter();
             stand_cut(alloc, flows, flow, k, from, cut, reached, at, tally)?;
             Ok(())
         }
@@ -199,6 +206,9 @@ pub fn place_column<I: InnerRows, C: Tally>(
     ensures placed { IfOk result (λ placed.
         map placed_as placed.items ≡ placed_to flows.now (flow_of flows.now flow) from.now height end.now) }
     ensures made { IfOk result (λ placed. RowsAreMade pool.new (columns_in flows.now) placed.items) }
+    ensures uses { OnOk result (uses_in book.new ≡ after_uses flows.now (uses_in book.old)
+        (rows_in_column (flow_of flows.now flow) from.now end.now (option_map cut_room cut))) }
+    ensures reads { C.read_count tally.new ≤ C.read_count tally.old + items_in from.now end.now }
     ensures depth { I.depth inner.new ≡ I.depth inner.old }
     ensures engine { I.is_true inner.new flows.now book.new pool.new }
     ensures book { BookAfter flows.now book.old book.new }
@@ -207,6 +217,7 @@ pub fn place_column<I: InnerRows, C: Tally>(
 {
     // Sealed flows are sound.
     let _counts = flow_counts(flows);
+    uses_enter();
     let mut at = begin_column(alloc, flows, flow, from)?;
     let last = last_of(end);
     let mut taken = taken_first(alloc, from);

@@ -1,9 +1,11 @@
 //! A row that stands whole in a column.
 
 ghost use Rattle.std.specs.Prelude.{◌≡◌, ℕ, ◌<◌, ◌++◌, IfOk, IfSome, List, MatchOption, None, OnOk};
-ghost use Rattle.std.specs.Prelude.{length};
+ghost use Rattle.std.specs.Prelude.{length, true};
 ghost use Rattle.flow_data.specs.Flows.{flow_in};
 ghost use Rattle.flow_data.specs.Soundness.{NestsAtMost};
+ghost use Rattle.flow_list.specs.Certificate.{Use, stands_in};
+ghost use Rattle.flow_list.specs.Entries.{uses_in};
 ghost use Rattle.flow_list.specs.Rows.{all_rows, left_in};
 ghost use Rattle.flow_list.specs.Tokens.{IsPlaceBefore};
 ghost use Rattle.frag_pool.specs.Growing.{Grows};
@@ -18,6 +20,7 @@ use frag_maker::{add_node, ids_in};
 use frag_pool::Pool;
 use inner_rows::InnerRows;
 use mc_base::{FragId, List, NoMemory, Node, Token, Units};
+use range_laws::uses_enter;
 use std::alloc::Global;
 
 /// Adds these ids.
@@ -48,10 +51,12 @@ fn add_fill<I: InnerRows>(
     requires nests { NestsAtMost flows.now (I.depth inner.old) row }
     requires engine { I.is_true inner.old flows.now book.old pool.old }
     requires book { AreTrue flows.now book.old }
-    ensures columns { (from : List ℕ) → IsPart flows.now row from height pool.old columns.old at.now →
+    ensures columns { (from : List ℕ) (stand : List Use) → IsPart flows.now row from height stand pool.old columns.old at.now →
         IfOk result (λ next. MatchOption next
         (AllStandFor pool.new columns.new (plain_trees (columns_in flows.now (whole_at flows.now row from height))))
-        (λ t. IsPart flows.now row from height pool.new columns.new t)) }
+        (λ t. IsPart flows.now row from height stand pool.new columns.new t)) }
+    ensures uses { (from : List ℕ) → IsPart flows.now row from height (uses_in book.old) pool.old columns.old at.now →
+        OnOk result (uses_in book.new ≡ uses_in book.old) }
     ensures place { IfOk result (λ next. IfSome next (λ t. IsPlaceBefore flows.now (flow_in flows.now row) t)) }
     ensures fewer { IfOk result (λ next. IfSome next (λ t.
         left_in (all_rows flows.now) (flow_in flows.now row) t < left_in (all_rows flows.now) (flow_in flows.now row) at.now)) }
@@ -62,6 +67,7 @@ fn add_fill<I: InnerRows>(
 {
     // Sealed flows are sound.
     let _counts = flow_counts(flows);
+    uses_enter();
     let filled = inner.fill(flows, row, at, height, book, pool, tally)?;
     push_all(columns, ids_in(pool.get(filled.frag)))?;
     if filled.at_end {
@@ -71,7 +77,9 @@ fn add_fill<I: InnerRows>(
     }
 }
 
-/// A piece of a row that has all its columns from a place on, at this height: those of its fills, one after another.
+/// A piece of a row that has all its columns from a place on, at its size, which stands in the book: those of its fills, one
+/// after
+/// another.
 pub fn whole_row<I: InnerRows>(
     alloc: Global,
     inner: &mut I,
@@ -88,8 +96,11 @@ pub fn whole_row<I: InnerRows>(
     requires nests { NestsAtMost flows.now (I.depth inner.old) row }
     requires engine { I.is_true inner.old flows.now book.old pool.old }
     requires book { AreTrue flows.now book.old }
+    requires size { height ≡ (all_rows flows.now).size row from.now }
+    requires stands { stands_in (uses_in book.old) (row, from.now) ≡ true }
     ensures frag { IfOk result (λ id. StandsFor pool.new id (row_piece row from.now 0 None
         (plain_trees (columns_in flows.now (whole_at flows.now row from.now height))))) }
+    ensures uses { OnOk result (uses_in book.new ≡ uses_in book.old) }
     ensures depth { I.depth inner.new ≡ I.depth inner.old }
     ensures engine { I.is_true inner.new flows.now book.new pool.new }
     ensures book { BookAfter flows.now book.old book.new }

@@ -174,8 +174,8 @@ within-more placed i n rest lt is le =
 -- the piece of a row, over the ids in what is made of it
 pub piece-stands : (p q : Nodes) (r : MadeRow) (y : ℕ) (node : Node) (from : List ℕ) (ids : List FragId)
     (height : Option ℕ) → node_of p r.made ≡ Some node → from ≡ r.from → ids ≡ ids_of node →
-    height ≡ cond r.filled None (Some r.height) → q ≡ trial_more p (RowNode r.row from y height ids) → (columns : PlainTrees) →
-    IsMade p columns r →
+    height ≡ cond r.filled None (Some r.height) → q ≡ trial_more p (RowNode r.row from y height ids) → (columns : PlainTrees)
+    → IsMade p columns r →
     StandsFor q (Trial (length p.trial)) (piece_at r y columns)
 unfolding StandsFor
 piece-stands p q r y node from ids height at start is tall more columns made =

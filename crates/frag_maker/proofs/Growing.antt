@@ -55,5 +55,5 @@ unfolding StandsFor
 they-live p [] no_trees s = All-nil (IsLive p)
 they-live p [] (more_trees first rest) s = absurd s
 they-live p (id ∷ ids) no_trees s = absurd s
-they-live p (id ∷ ids) (more_trees first rest) s = All-cons (IsLive p) id ids (stands-live p id first s.0)
-    (they-live p ids rest s.1)
+they-live p (id ∷ ids) (more_trees first rest) s =
+    All-cons (IsLive p) id ids (stands-live p id first s.0) (they-live p ids rest s.1)

@@ -1,17 +1,23 @@
-use Rattle.std.proofs.Common.{◌≡◌, ℕ, ◌+◌, ◌≤◌, ◌∙◌, Bool, [], ◌++◌, refl, sym, subst, ap, arith}
+use Rattle.std.proofs.Common.{◌≡◌, ℕ, true, ◌+◌, ◌-◌, ◌≤◌, ◌∙◌, Bool, [], ◌++◌, refl, sym, subst, ap, arith}
 use Rattle.std.specs.Option.{option_map}
 use Rattle.std.proofs.lemmas.List.{append-nil}
 use Rattle.std.proofs.lemmas.List.Elements.{All-nil}
-use Rattle.flow_data.specs.Flows.{flow_of}
+use Rattle.flow_data.specs.Flows.{flow_of, item_of}
+use Rattle.flow_list.specs.Book.{after_uses}
+use Rattle.flow_list.specs.Certificate.{stands_in}
+use Rattle.flow_list.specs.Column.{row_from, row_list}
+use Rattle.flow_list.specs.Entries.{uses_in}
+use Rattle.flow_list.specs.Tokens.{item_number, within}
 use Rattle.column_places.specs.Placing.{strip_of, with_more}
 use Rattle.frag_pool.proofs.Growth.{grows-refl, grows-trans}
 use Rattle.inner_rows.proofs.Calls.{book-refl, book-trans}
-use Rattle.column_maker.specs.Making.{HasColumns, cut_room, ends_at_seam, last_laid}
-use Rattle.column_maker.specs.Walking.{HasRoom}
+use Rattle.column_maker.specs.Making.{HasColumns, cut_room, ends_at_seam, last_laid, last_rows}
+use Rattle.column_maker.specs.Walking.{HasRoom, whole_rows}
 use Rattle.column_maker.proofs.Columns.{at-last, begins-there, cut-there, goes-on, last-known, place-there, starts}
 use Rattle.column_maker.proofs.Ending.{first-taken, next-taken, taken_of}
 use Rattle.column_maker.proofs.Rooms.{first-room, next-room, room-same}
 use Rattle.column_maker.proofs.Rows.{made-placed}
+use Rattle.column_maker.proofs.Sizes.{rows-end, rows-next, rows-none}
 use Rattle.column_maker.proofs.place.place_column.Goals as goal
 
 -- the loop ends at the last item
@@ -42,6 +48,11 @@ loop-k-init g c =
       engine = c.requires.engine;
       book = book-refl d c.args.book.now c.requires.book;
       grown = grows-refl c.args.pool.now;
+      uses = sym (ap (after_uses d (uses_in c.args.book.now)) (rows-none f (item_number t) (within t) _
+          (rw c.item-k.ensures (omega arith)))
+          ∙ (c.uses_enter.ensures d).none_new (uses_in c.args.book.now) [] (All-nil (λ u. stands_in (uses_in c.args.book.now) u
+          ≡ true)));
+      reads = omega arith;
       folds = refl;
     }
 
@@ -82,6 +93,10 @@ loop-k-preserved g c =
       engine = step.engine;
       book = book-trans d c.args.book.now c.loop-k.book c.pass_item.new.book before.book step.book;
       grown = grows-trans c.args.pool.now c.loop-k.pool c.pass_item.new.pool before.grown step.grown;
+      uses = step.uses ∙ ap (λ b. after_uses d b (row_list (row_from (item_of f c.loop-k.k) c.loop-k.taken))) before.uses
+          ∙ (c.uses_enter.ensures d).one_list (uses_in c.args.book.now) _ _
+          ∙ ap (after_uses d (uses_in c.args.book.now)) (rows-next f t c.loop-k.k c.loop-k.taken before.later before.taken);
+      reads = let r = before.reads in let s = step.reads in omega arith;
       folds = step.folds ∙ before.folds;
     }
 
@@ -153,3 +168,58 @@ pub returns-clause-made : goal.returns-clause-made
 returns-clause-made g c =
     made-placed c.args.flows.now c.stand_last.new.pool c.finish.new.self.placed.items
     (rw c.in_ok-finish.ensures.rows c.in_ok-stand_last.ensures.made)
+
+pub returns-clause-uses : goal.returns-clause-uses
+returns-clause-uses g c =
+    let d = c.args.flows.now in
+    let f = flow_of d c.args.flow in
+    let from_there = begins-there d c.args.flow c.flow_counts-counts.ensures.sound c.requires.flow c.args.from.now
+    c.requires.place c.requires.some c.args.pool.now c.args.height c.args.end.now c.args.cut c.requires.end c.requires.cut
+    c.last_of-last.result c.last_of-last.ensures in
+    let is = there c.loop-k.k c.last_of-last.result c.item-k.result c.loop-k-test.false (rw c.item-k.ensures from_there)
+    c.loop-k.auto.k-end in
+    c.in_ok-stand_last.ensures.uses
+    ∙ ap (λ b. after_uses d b (last_rows f c.last_of-last.result (option_map cut_room c.args.cut) c.loop-k.taken))
+    c.loop-k.invariant.uses
+    ∙ (c.uses_enter.ensures d).one_list (uses_in c.args.book.now) _ _
+    ∙ ap (after_uses d (uses_in c.args.book.now))
+    (ap (λ m. whole_rows f (item_number c.args.from.now) (within c.args.from.now) (m - item_number c.args.from.now)
+    ++ last_rows f c.last_of-last.result (option_map cut_room c.args.cut) c.loop-k.taken) is
+    ∙ rows-end f c.args.from.now c.args.end.now (option_map cut_room c.args.cut) c.last_of-last.result c.loop-k.taken
+    c.last_of-last.ensures from_there (c.loop-k.invariant.taken ∙ ap (taken_of d f c.args.from.now) is))
+
+pub returns-in_err-stand_last-clause-reads : goal.returns-in_err-stand_last-clause-reads
+returns-in_err-stand_last-clause-reads g c =
+    let from_there = begins-there c.args.flows.now c.args.flow c.flow_counts-counts.ensures.sound c.requires.flow
+    c.args.from.now c.requires.place c.requires.some c.args.pool.now c.args.height c.args.end.now c.args.cut c.requires.end
+    c.requires.cut c.last_of-last.result c.last_of-last.ensures in
+    let is = there c.loop-k.k c.last_of-last.result c.item-k.result c.loop-k-test.false (rw c.item-k.ensures from_there)
+    c.loop-k.auto.k-end in
+    let so_far = c.loop-k.invariant.reads in
+    let one = c.in_err-stand_last.ensures.reads in
+    let end = c.last_of-last.ensures in
+    omega (arith, from_there, is, so_far, one, end)
+
+pub returns-in_err-finish-clause-reads : goal.returns-in_err-finish-clause-reads
+returns-in_err-finish-clause-reads g c =
+    let from_there = begins-there c.args.flows.now c.args.flow c.flow_counts-counts.ensures.sound c.requires.flow
+    c.args.from.now c.requires.place c.requires.some c.args.pool.now c.args.height c.args.end.now c.args.cut c.requires.end
+    c.requires.cut c.last_of-last.result c.last_of-last.ensures in
+    let is = there c.loop-k.k c.last_of-last.result c.item-k.result c.loop-k-test.false (rw c.item-k.ensures from_there)
+    c.loop-k.auto.k-end in
+    let so_far = c.loop-k.invariant.reads in
+    let one = c.in_ok-stand_last.ensures.reads in
+    let end = c.last_of-last.ensures in
+    omega (arith, from_there, is, so_far, one, end)
+
+pub returns-clause-reads : goal.returns-clause-reads
+returns-clause-reads g c =
+    let from_there = begins-there c.args.flows.now c.args.flow c.flow_counts-counts.ensures.sound c.requires.flow
+    c.args.from.now c.requires.place c.requires.some c.args.pool.now c.args.height c.args.end.now c.args.cut c.requires.end
+    c.requires.cut c.last_of-last.result c.last_of-last.ensures in
+    let is = there c.loop-k.k c.last_of-last.result c.item-k.result c.loop-k-test.false (rw c.item-k.ensures from_there)
+    c.loop-k.auto.k-end in
+    let so_far = c.loop-k.invariant.reads in
+    let one = c.in_ok-stand_last.ensures.reads in
+    let end = c.last_of-last.ensures in
+    omega (arith, from_there, is, so_far, one, end)

@@ -1,5 +1,6 @@
 use Rattle.std.proofs.Common.{◌≡◌}
 use Rattle.flow_data.specs.Flows.{flow_in}
+use Rattle.flow_list.specs.Entries.{uses_in}
 use Rattle.flow_list.specs.Rows.{all_rows, left_in}
 use Rattle.flow_list.specs.Tokens.{IsPlaceBefore}
 use Rattle.frag_pool.specs.Growing.{Grows}
@@ -10,7 +11,8 @@ use Rattle.column_maker.proofs.whole.whole_row.Given as goal
 abbrev pub invariant-loop-at : goal.invariant-loop-at
 invariant-loop-at g l = record {
   place : IsPlaceBefore l.flows (flow_in l.flows l.row) l.at;
-  part : IsPart l.flows l.row l.from l.height l.pool l.columns l.at;
+  part : IsPart l.flows l.row l.from l.height (uses_in l.fn.book) l.pool l.columns l.at;
+  uses : uses_in l.book ≡ uses_in l.fn.book;
   depth : g.I.InnerRows.depth l.inner ≡ g.I.InnerRows.depth l.fn.inner;
   engine : g.I.InnerRows.is_true l.inner l.flows l.book l.pool;
   book : BookAfter l.flows l.fn.book l.book;
