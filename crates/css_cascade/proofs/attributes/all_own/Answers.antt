@@ -15,16 +15,16 @@ returns-in-Err-clause-refused c = elim c.in-Err.ensures [
   | inr e ↦
       let nodes = c.as_slice-nodes.result.now in
       let at = slice_get_read nodes (length nodes) c.loop-node.node-index c.node-item.result refl c.loop-node-test.true
-          c.node-item.is in
+      c.node-item.is in
       inr (subst (λ ns. IsFirstFault ns c.in-Err.refusal) c.as_slice-nodes.ensures
       (fault_is_first c.loop-node.found nodes c.loop-node.node-index c.node-item.result c.in-Err.refusal c.loop-node.invariant at
-              (sym e)))
+      (sym e)))
 ]
 
 pub loop-node-preserved : goal.loop-node-preserved
 loop-node-preserved c =
     read_more c.loop-node.found c.as_slice-nodes.result.now c.loop-node.node-index c.node-item.result c.in-Ok.settings
-        c.push.new.self
+    c.push.new.self
     c.loop-node-test.true c.node-item.is c.loop-node.invariant
     (was_read c.in-Ok.settings (own_settings c.node-item.result) c.in-Ok.ensures) c.in_ok-push-in-Ok.ensures.ok
 
