@@ -78,8 +78,7 @@ fn add_fill<I: InnerRows>(
 }
 
 /// A piece of a row that has all its columns from a place on, at its size, which stands in the book: those of its fills, one
-/// after
-/// another.
+/// after another.
 pub fn whole_row<I: InnerRows>(
     alloc: Global,
     inner: &mut I,
