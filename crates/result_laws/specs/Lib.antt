@@ -2,6 +2,7 @@ pub mod Clauses
 pub mod Failure
 pub mod Given
 pub mod Laws
+pub mod OneReading
 pub mod OwnEntries
 pub mod Reading
 pub mod Testing

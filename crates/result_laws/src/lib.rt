@@ -5,11 +5,12 @@
 //! memory.
 #![tactic(auto)]
 
-ghost use Rattle.std.specs.Prelude.{ℕ, ◌<◌, length};
+ghost use Rattle.std.specs.Prelude.{ℕ, ◌<◌, List, length};
 ghost use Rattle.flow_data.specs.Soundness.{IsSound};
 ghost use Rattle.flow_data.specs.declared.data.FlowsData.{FlowsData};
 ghost use Rattle.result_laws.specs.Laws.{ValidTells};
 ghost use Rattle.result_laws.specs.OwnEntries.{OwnEntriesPass};
+ghost use Rattle.result_laws.specs.OneReading.{OneReading};
 ghost use Rattle.result_laws.specs.Testing.{HugeColumnsAreEndless, TestsFollow};
 
 /// In sound flows a valid result tells the layout, whoever made it: each entry has the size or the height that is the row's, and
@@ -36,4 +37,9 @@ pub fn tests_follow()
 /// heights.
 pub fn huge_columns_are_endless()
     ensures { (d : FlowsData) → IsSound d → (r : ℕ) → r < length d.rows → HugeColumnsAreEndless d r }
+{}
+
+/// A text says a result exactly where that result is read in it, so a text says at most one.
+pub fn one_reading()
+    ensures { (text : List ℕ) → OneReading text }
 {}
