@@ -1,0 +1,8 @@
+-- what stands there, and the lines to come
+use Rattle.std.proofs.Common.{◌≡◌, ◌++◌, drop}
+use Rattle.flow_list.specs.TreeText.{tree_text}
+use Rattle.tree_lines.specs.Lines.{lines_of}
+use Rattle.tree_lines.proofs.text.tree_text.Given as goal
+
+abbrev pub invariant-loop-line : goal.invariant-loop-line
+invariant-loop-line l = l.out ++ tree_text (lines_of (drop l.line-index l.line-items)) ≡ tree_text (lines_of l.line-items)
