@@ -1,7 +1,7 @@
 //! Columns of a row one after another, and the height of a row.
 //!
-//! It stands on flow_laws, flow_list, flow_data and mc_base. It promises the columns, the heights that fit and the row
-//! heights that the definitions of flow_list give, for rows whose flow holds atoms alone.
+//! It stands on column_strip, whose strip it lays, flow_laws, flow_list, flow_data and mc_base. It promises the columns, the
+//! heights that fit and the row heights that the definitions of flow_list give, for rows whose flow holds atoms alone.
 #![tactic(auto)]
 
 mod bounds;
@@ -10,6 +10,5 @@ mod column;
 mod columns;
 mod passing;
 mod rows;
-mod strip;
 
 pub use rows::{FlatColumns, flat_columns, flat_row};

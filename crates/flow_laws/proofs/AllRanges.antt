@@ -27,17 +27,17 @@ use Rattle.flow_laws.proofs.BoundsAbove.{judged-above}
 -- ---- the reason of columns
 
 -- of these columns, of which the first is column c, number k is the last and the first that breaks a rule
-record FailsFrom (cs : List Column) (c k : ℕ) (overflows : Bool) : Type 0 where
-  before : List Column
-  column : Column
-  judged_are : cs ≡ before ++ column ∷ []
-  number : k ≡ length before + c
-  fail : fails column ≡ true
-  overflow : column.overflow ≡ overflows
+pub record FailsFrom (cs : List Column) (c k : ℕ) (overflows : Bool) : Type 0 where
+  pub before : List Column
+  pub column : Column
+  pub judged_are : cs ≡ before ++ column ∷ []
+  pub number : k ≡ length before + c
+  pub fail : fails column ≡ true
+  pub overflow : column.overflow ≡ overflows
 
 -- what this reason says of columns from a place on, of which the first is column c; without one they break no rule and reach the
 -- end
-abbrev IsJudged : Flow → ℕ → Token → List Column → Option Reason → Type 0
+abbrev pub IsJudged : Flow → ℕ → Token → List Column → Option Reason → Type 0
 IsJudged f c q cs None = (list_any fails cs ≡ false) × (is_end f (end_of q cs) ≡ true)
 IsJudged f c q cs (Some (tall k)) = ⊥
 IsJudged f c q cs (Some area) = ⊥
@@ -68,7 +68,7 @@ judged-more f c q x cs fine (Some (left at)) j =
 judged-more f c q x cs fine (Some (bad k)) j = fails-later c k x cs false j
 judged-more f c q x cs fine (Some (over k)) j = fails-later c k x cs true j
 
-judged-by : (f : Flow) (c : ℕ) (q : Token) (cs : List Column) → IsJudged f c q (up_to fails cs) (reason_of f c q (up_to fails cs))
+pub judged-by : (f : Flow) (c : ℕ) (q : Token) (cs : List Column) → IsJudged f c q (up_to fails cs) (reason_of f c q (up_to fails cs))
 judged-by f c q [] = go (is_end f q) refl
   where
     go : (b : Bool) → is_end f q ≡ b → IsJudged f c q [] (cond b None (Some (left q)))
@@ -85,7 +85,7 @@ judged-by f c q (x ∷ xs) = go x.overflow refl (nat_lt 0 x.level) refl (judged-
     go false e false is j = judged-more f c q x (up_to fails xs) (or_from x.overflow (nat_lt 0 x.level) e is)
         (reason_of f (c + 1) x.end (up_to fails xs)) j
 
-first-fails : (cs : List Column) (k : ℕ) (o : Bool) → FailsFrom cs 1 k o → FailsAt cs k o
+pub first-fails : (cs : List Column) (k : ℕ) (o : Bool) → FailsFrom cs 1 k o → FailsAt cs k o
 first-fails cs k o f = record {
   before = f.before;
   column = f.column;

@@ -24,7 +24,8 @@ use Rattle.result_laws.specs.Clauses.{ends_differ, number, long, reason, is_reas
 use Rattle.result_laws.specs.Clauses.{given_lines, need_from, atom_need, as_range}
 use Rattle.result_laws.specs.OwnEntries.{Tells, RestHolds}
 use Rattle.result_laws.specs.Verdict.{column_tests, range_tests, ranges_tests}
-use Rattle.result_laws.proofs.Passing.{IsJudged, FailsFrom, reason-tells}
+use Rattle.flow_laws.proofs.AllRanges.{IsJudged, FailsFrom}
+use Rattle.result_laws.proofs.Passing.{reason-tells}
 
 pub unless-holds : (b : Bool) (f : Failure) → b ≡ true → unless b f ≡ None
 unless-holds true f e = refl

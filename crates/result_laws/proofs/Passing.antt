@@ -2,20 +2,21 @@
 use Rattle.std.proofs.Common.{◌≡◌, ℕ, ◌+◌, ◌-◌, ◌*◌, ◌==◌, ◌<◌, ◌≤◌, Bool, true, false, ◌&&◌, ◌||◌, cond, List, [], ◌∷◌, ◌++◌}
 use Rattle.std.proofs.Common.{length, map, refl, subst, ap, arith, Option, Some, None}
 use Rattle.std.specs.Prelude.{All, nat_lt, nat_le}
-use Rattle.std.specs.List.{list_all, list_any}
-use Rattle.std.proofs.lemmas.Bool.{and_parts, or_from, or_left, or_right}
+use Rattle.std.specs.List.{list_all}
+use Rattle.std.proofs.lemmas.Bool.{and_parts}
 use Rattle.std.proofs.lemmas.Bool.Decides.{nat_tests}
 use Rattle.std.proofs.lemmas.List.Elements.{All-nil, All-cons}
 use Rattle.flow_list.specs.Data.{Flow, FlowsData, Item, Atom, Row}
 use Rattle.flow_data.specs.Flows.{row_of, flow_in, item_of}
-use Rattle.flow_list.specs.Tokens.{Token, item_number, is_end}
+use Rattle.flow_list.specs.Tokens.{Token, item_number}
 use Rattle.flow_list.specs.Atoms.{IsAtom}
-use Rattle.flow_list.specs.Column.{Column, loose_need}
-use Rattle.flow_list.specs.Rows.{end_of, fails, most_columns, up_to, all_rows, columns}
-use Rattle.flow_list.specs.Ranges.{Range, Reason, tall, area, left, bad, over, FailsAt, LeavesRest, RangeRejects, judged}
+use Rattle.flow_list.specs.Column.{loose_need}
+use Rattle.flow_list.specs.Rows.{most_columns, all_rows, columns}
+use Rattle.flow_list.specs.Ranges.{Range, Reason, tall, area, left, bad, over, RangeRejects, judged}
 use Rattle.flow_list.specs.Ranges.{bounds_of, atoms_height, reason_of}
 use Rattle.flow_list.specs.Certificate.{same_token}
 use Rattle.flow_laws.specs.RangeLaws.{FollowOn}
+use Rattle.flow_laws.proofs.AllRanges.{IsJudged, judged-by, first-fails}
 use Rattle.result_laws.specs.Failure.{Pass, Failure, unless, first_of}
 use Rattle.result_laws.specs.Given.{GivenRange, GivenEntry}
 use Rattle.result_laws.specs.Clauses.{hole, empty, tall_fails, tall_for, area_fails, area_for, tells, long, reason, is_reason}
@@ -136,73 +137,6 @@ reason-pass d r q x e = go (reason_of (flow_in d r) 1 q (judged (all_rows d) d r
     go (Some a) e = ap Some (reason-same a x.reason e)
 
 -- ---- the reason of columns
-
--- of these columns, of which the first is column c, number k is the last and the first that breaks a rule
-pub record FailsFrom (cs : List Column) (c k : ℕ) (overflows : Bool) : Type 0 where
-  pub before : List Column
-  pub column : Column
-  pub judged_are : cs ≡ before ++ column ∷ []
-  pub number : k ≡ length before + c
-  pub fail : fails column ≡ true
-  pub overflow : column.overflow ≡ overflows
-
-abbrev pub IsJudged : Flow → ℕ → Token → List Column → Option Reason → Type 0
-IsJudged f c q cs None = (list_any fails cs ≡ false) × (is_end f (end_of q cs) ≡ true)
-IsJudged f c q cs (Some (tall k)) = ⊥
-IsJudged f c q cs (Some area) = ⊥
-IsJudged f c q cs (Some (left at)) = LeavesRest f q cs at
-IsJudged f c q cs (Some (bad k)) = FailsFrom cs c k false
-IsJudged f c q cs (Some (over k)) = FailsFrom cs c k true
-
-fails-here : (c : ℕ) (x : Column) (o : Bool) → fails x ≡ true → x.overflow ≡ o → FailsFrom (x ∷ []) c c o
-fails-here c x o e is = record { before = []; column = x; judged_are = refl; number = omega arith; fail = e; overflow = is }
-
-fails-later : (c k : ℕ) (x : Column) (cs : List Column) (o : Bool) → FailsFrom cs (c + 1) k o → FailsFrom (x ∷ cs) c k o
-fails-later c k x cs o f = record {
-  before = x ∷ f.before;
-  column = f.column;
-  judged_are = ap (λ xs. x ∷ xs) f.judged_are;
-  number = let e = f.number in omega arith;
-  fail = f.fail;
-  overflow = f.overflow;
-}
-
-judged-more : (f : Flow) (c : ℕ) (q : Token) (x : Column) (cs : List Column) → fails x ≡ false → (o : Option Reason)
-    → IsJudged f (c + 1) x.end cs o → IsJudged f c q (x ∷ cs) o
-judged-more f c q x cs fine None j = (or_from (fails x) (list_any fails cs) fine j.0, j.1)
-judged-more f c q x cs fine (Some (tall k)) j = j
-judged-more f c q x cs fine (Some area) j = j
-judged-more f c q x cs fine (Some (left at)) j =
-    record { none_fails = All-cons (λ y. fails y ≡ false) x cs fine j.none_fails; place = j.place; rest = j.rest }
-judged-more f c q x cs fine (Some (bad k)) j = fails-later c k x cs false j
-judged-more f c q x cs fine (Some (over k)) j = fails-later c k x cs true j
-
-judged-by : (f : Flow) (c : ℕ) (q : Token) (cs : List Column) → IsJudged f c q (up_to fails cs) (reason_of f c q (up_to fails cs))
-judged-by f c q [] = go (is_end f q) refl
-  where
-    go : (b : Bool) → is_end f q ≡ b → IsJudged f c q [] (cond b None (Some (left q)))
-    go true e = (refl, e)
-    go false e = record { none_fails = All-nil (λ y. fails y ≡ false); place = refl; rest = e }
-judged-by f c q (x ∷ xs) = go x.overflow refl (nat_lt 0 x.level) refl (judged-by f (c + 1) x.end xs)
-  where
-    go : (o : Bool) → x.overflow ≡ o → (l : Bool) → nat_lt 0 x.level ≡ l
-        → IsJudged f (c + 1) x.end (up_to fails xs) (reason_of f (c + 1) x.end (up_to fails xs)) →
-        IsJudged f c q (x ∷ cond (o || l) [] (up_to fails xs))
-        (cond o (Some (over c)) (cond l (Some (bad c)) (reason_of f (c + 1) x.end (cond (o || l) [] (up_to fails xs)))))
-    go true e l is j = fails-here c x true (or_left x.overflow (nat_lt 0 x.level) e) e
-    go false e true is j = fails-here c x false (or_right x.overflow (nat_lt 0 x.level) is) e
-    go false e false is j = judged-more f c q x (up_to fails xs) (or_from x.overflow (nat_lt 0 x.level) e is)
-        (reason_of f (c + 1) x.end (up_to fails xs)) j
-
-first-fails : (cs : List Column) (k : ℕ) (o : Bool) → FailsFrom cs 1 k o → FailsAt cs k o
-first-fails cs k o f = record {
-  before = f.before;
-  column = f.column;
-  judged_are = f.judged_are;
-  number = f.number;
-  fail = f.fail;
-  overflow = f.overflow;
-}
 
 -- ---- a range rejects
 

@@ -1,25 +1,23 @@
 -- What the node of an id says of its lines: what may be written, and which lines they are.
-use Rattle.std.proofs.Common.{◌≡◌, ℕ, ◌+◌, ◌-◌, ◌*◌, ◌<◌, ◌^◌, max, Bool, List, [], ◌∷◌, ◌++◌, Option, Some, None, All, refl}
+use Rattle.std.proofs.Common.{◌≡◌, ℕ, ◌+◌, ◌-◌, ◌<◌, Bool, List, ◌∷◌, Option, Some, None, All, refl}
 use Rattle.std.proofs.Common.{sym, ap, subst}
-use Rattle.std.proofs.Common.{arith, length, is_some, ◌∙◌}
+use Rattle.std.proofs.Common.{arith, length, is_some}
 use Rattle.std.proofs.lemmas.List.Elements.{All-head, All-tail}
-use Rattle.mc_base.specs.PlainTree.{PlainTree, PlainTrees, atom, piece, row_piece, column, no_trees, more_trees}
+use Rattle.mc_base.specs.PlainTree.{atom, piece, row_piece}
 use Rattle.mc_base.specs.declared.fragment.FragId.{FragId}
 use Rattle.mc_base.specs.declared.fragment.Node.TheVariants.{Atom, Piece, RowPiece, Column as ColumnNode}
-use Rattle.flow_list.specs.Data.{FlowsData, BoxInfo, RowInfo}
+use Rattle.flow_list.specs.Data.{FlowsData, RowInfo}
 use Rattle.flow_data.specs.Flows.{box_of, row_of, flow_of, item_of}
 use Rattle.flow_list.specs.declared.laid.Laid.{Laid}
-use Rattle.flow_list.specs.Tree.{TreeLine, Frame, box, row, col, row_width, in_box, piece_bottom, piece_height, item_lines}
-use Rattle.flow_list.specs.Tree.{column_frame}
-use Rattle.flow_list.specs.Tree.{lines_of_tree, lines_of_trees, lines_of_columns, lines_of_column}
+use Rattle.flow_list.specs.Tree.{TreeLine, Frame, box, row, row_width, in_box, piece_bottom, piece_height, item_lines}
+use Rattle.flow_list.specs.Tree.{lines_of_tree}
 use Rattle.frag_pool.specs.Nodes.{Nodes, node_of}
-use Rattle.frag_pool.specs.Standing.{StandsFor, AllStandFor}
 use Rattle.tree_lines.specs.declared.place.Place.{Place}
 use Rattle.tree_lines.specs.declared.place.RowPlace.{RowPlace}
-use Rattle.tree_lines.specs.Standing.{IsAt, IsRowAt, bottom_at}
-use Rattle.tree_lines.specs.Shown.{Given, given_lines, Fits, IsInside, AreInside, ItemFits, Tree, TreeFits, tree_lines, Trees}
+use Rattle.tree_lines.specs.Standing.{IsAt, bottom_at}
+use Rattle.tree_lines.specs.Shown.{given_lines, Fits, IsInside, ItemFits, Tree, TreeFits, tree_lines, Trees}
 use Rattle.tree_lines.specs.Shown.{TreesFit}
-use Rattle.tree_lines.specs.Shown.{trees_lines, Column, ColumnFits, column_lines, Columns, ColumnsFit, columns_lines}
+use Rattle.tree_lines.specs.Shown.{trees_lines, Columns, ColumnsFit, columns_lines}
 use Rattle.tree_lines.proofs.AtNodes.{at-atom, at-piece, at-row, at-column}
 
 -- the place inside a box, and that of a piece of a row

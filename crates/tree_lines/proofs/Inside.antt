@@ -1,26 +1,26 @@
 -- Items and stacks: what may be written, and which lines they have.
-use Rattle.std.proofs.Common.{◌≡◌, ℕ, zero, suc, ◌+◌, ◌-◌, ◌<◌, ◌≤◌, ◌^◌, max, List, [], ◌∷◌, ◌++◌, All, refl, sym, ap, subst}
+use Rattle.std.proofs.Common.{◌≡◌, ℕ, suc, ◌+◌, ◌-◌, ◌<◌, ◌^◌, max, List, [], ◌∷◌, All, refl, sym, ap, subst}
 use Rattle.std.proofs.Common.{arith}
-use Rattle.std.proofs.Common.{Some, Option, slice_get, length, ◌∙◌}
+use Rattle.std.proofs.Common.{Some, slice_get, length}
 use Rattle.std.proofs.lemmas.List.Elements.{All-head, All-tail}
 use Rattle.std.proofs.lemmas.Option.{slice_get_within}
-use Rattle.mc_base.specs.PlainTree.{PlainTree, PlainTrees, atom, piece, row_piece, column}
+use Rattle.mc_base.specs.PlainTree.{PlainTree, atom, piece, row_piece, column}
 use Rattle.mc_base.specs.declared.fragment.FragId.{FragId}
 use Rattle.mc_base.specs.declared.fragment.FragId.TheVariants.{Kept, Trial}
 use Rattle.mc_base.specs.declared.fragment.Node.{Node}
 use Rattle.mc_base.specs.declared.fragment.Node.TheVariants.{Atom as NodeAtom, Piece, RowPiece, Column as ColumnNode}
 use Rattle.flow_list.specs.Data.{FlowsData, Item, AtomKind, Plain, Line, Void, Image, Bounded, Atom, Row}
-use Rattle.flow_data.specs.Flows.{flow_of, stack_of}
+use Rattle.flow_data.specs.Flows.{stack_of}
 use Rattle.flow_data.specs.Soundness.{kind_x}
 use Rattle.flow_list.specs.declared.laid.Laid.{Laid}
 use Rattle.flow_list.specs.declared.laid.LaidStack.{LaidStack}
-use Rattle.flow_list.specs.Tree.{TreeLine, Frame, stack, extent_of, item_lines, atom_lines, lines_of_tree}
+use Rattle.flow_list.specs.Tree.{TreeLine, Frame, stack, extent_of, item_lines}
 use Rattle.flow_list.specs.Tree.{atom as atom_kind, line as line_kind, void as void_kind, image as image_kind}
 use Rattle.frag_pool.specs.Nodes.{Nodes, node_of, IsLive}
 use Rattle.frag_pool.specs.Standing.{StandsFor}
 use Rattle.tree_lines.specs.declared.place.Place.{Place}
 use Rattle.tree_lines.specs.Standing.{IsAt, atom_line}
-use Rattle.tree_lines.specs.Shown.{Given, given_lines, stack_lines, Fits, IsInside, ItemFits, StackFits, Tree, TreeFits}
+use Rattle.tree_lines.specs.Shown.{Given, given_lines, stack_lines, Fits, ItemFits, StackFits, Tree, TreeFits}
 use Rattle.tree_lines.specs.Shown.{tree_lines}
 use Rattle.tree_lines.specs.Shown.{node_extent}
 use Rattle.tree_lines.proofs.AtNodes.{at-atom, at-piece, at-row, at-column}

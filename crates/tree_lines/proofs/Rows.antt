@@ -1,21 +1,18 @@
 -- A column of a piece of a row: what may be written, and which lines it has.
-use Rattle.std.proofs.Common.{◌≡◌, ℕ, ◌+◌, ◌*◌, ◌<◌, ◌^◌, max, List, [], ◌∷◌, ◌++◌, All, refl, sym, ap, subst, arith, Some}
+use Rattle.std.proofs.Common.{◌≡◌, ℕ, ◌+◌, ◌*◌, max, List, [], ◌∷◌, All, refl, ap, subst, arith, Some}
 use Rattle.std.proofs.lemmas.List.Elements.{All-head, All-tail}
-use Rattle.mc_base.specs.PlainTree.{PlainTree, PlainTrees, atom, piece, row_piece, column, no_trees, more_trees}
+use Rattle.mc_base.specs.PlainTree.{column}
 use Rattle.mc_base.specs.declared.fragment.FragId.{FragId}
 use Rattle.mc_base.specs.declared.fragment.Node.{Node}
 use Rattle.mc_base.specs.declared.fragment.Node.TheVariants.{Atom, Piece, RowPiece, Column as ColumnNode}
-use Rattle.flow_list.specs.Data.{FlowsData, RowInfo}
-use Rattle.flow_data.specs.Flows.{flow_of}
+use Rattle.flow_list.specs.Data.{FlowsData}
 use Rattle.flow_list.specs.declared.laid.Laid.{Laid}
-use Rattle.flow_list.specs.Tree.{TreeLine, Frame, col, column_frame}
-use Rattle.flow_list.specs.Tree.{lines_of_tree, lines_of_trees, lines_of_columns, lines_of_column}
+use Rattle.flow_list.specs.Tree.{TreeLine, col, column_frame}
+use Rattle.flow_list.specs.Tree.{lines_of_tree, lines_of_column}
 use Rattle.frag_pool.specs.Nodes.{Nodes, node_of}
-use Rattle.frag_pool.specs.Standing.{StandsFor, AllStandFor}
 use Rattle.tree_lines.specs.declared.place.Place.{Place}
 use Rattle.tree_lines.specs.declared.place.RowPlace.{RowPlace}
-use Rattle.tree_lines.specs.Standing.{IsAt, IsRowAt}
-use Rattle.tree_lines.specs.Shown.{Given, given_lines, Fits, IsInside, AreInside, Trees, TreesFit, trees_lines}
+use Rattle.tree_lines.specs.Shown.{given_lines, Fits, IsInside, Trees, TreesFit, trees_lines}
 use Rattle.tree_lines.specs.Shown.{Column, ColumnFits, column_lines}
 use Rattle.tree_lines.proofs.AtNodes.{at-atom, at-piece, at-row, at-column}
 

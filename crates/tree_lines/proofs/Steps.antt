@@ -1,8 +1,8 @@
 -- Fragments one after another.
-use Rattle.std.proofs.Common.{◌≡◌, ℕ, ◌+◌, ◌<◌, List, [], ◌∷◌, ◌++◌, All, refl, sym, ap, subst, ◌∙◌, append_assoc, OnOk, Result}
+use Rattle.std.proofs.Common.{◌≡◌, ℕ, ◌+◌, List, [], ◌∷◌, ◌++◌, All, refl, sym, ap, ◌∙◌, append_assoc}
 use Rattle.std.proofs.lemmas.List.{map-append, append-nil}
 use Rattle.flow_data.proofs.Everywhere.{all-left, all-right}
-use Rattle.mc_base.specs.PlainTree.{PlainTree, PlainTrees, no_trees, more_trees}
+use Rattle.mc_base.specs.PlainTree.{PlainTrees, no_trees, more_trees}
 use Rattle.mc_base.specs.declared.fragment.FragId.{FragId}
 use Rattle.flow_list.specs.Data.{FlowsData}
 use Rattle.flow_data.specs.Flows.{flow_of}
@@ -14,7 +14,7 @@ use Rattle.tree_lines.specs.declared.place.Place.{Place}
 use Rattle.tree_lines.specs.declared.place.RowPlace.{RowPlace}
 use Rattle.tree_lines.specs.declared.line.TreeLine.{TreeLine}
 use Rattle.tree_lines.specs.Lines.{line_of, lines_of}
-use Rattle.tree_lines.specs.Shown.{Given, given_lines, Fits, IsInside, AreInside, Tree, TreeFits, tree_lines, Trees, TreesFit}
+use Rattle.tree_lines.specs.Shown.{given_lines, Fits, IsInside, AreInside, Tree, TreeFits, tree_lines, Trees, TreesFit}
 use Rattle.tree_lines.specs.Shown.{trees_lines, Column, ColumnFits, column_lines, Columns, ColumnsFit, columns_lines}
 
 -- ---- the first of these and the others

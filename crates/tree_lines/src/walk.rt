@@ -269,7 +269,11 @@ fn put_stack(
     put_tree(out, flows, laid, pool, nested, inside, entry.frag)
 }
 
-/// The lines of the tree of a layout: of stack 0, with all that stands in it.
+/// The lines of the tree of a layout: of stack 0, with all that stands in it, at the heights that `laid` and the nodes state.
+/// Rectangles are in units from the document's top left (1 unit = 1/64 px; CSS Multi-column 1, section 3.4).
+///
+/// Conditions: each stack has an id that is live; the fragments name items of their flows, and boxes, rows and stacks that
+/// there are; depths and the numbers of columns have 32 bits, places and sizes 64. The error is out of memory.
 pub fn tree_lines(
     alloc: Global,
     flows: &Flows,

@@ -1,4 +1,4 @@
-use Rattle.std.proofs.Common.{suc, ◌≡◌, ◌∙◌, ◌+◌, ◌-◌, ◌<◌, ◌^◌, ◌++◌, ◌∷◌, [], List, Some, ap, sym, subst, refl, arith, OnOk}
+use Rattle.std.proofs.Common.{suc, ◌≡◌, ◌∙◌, ◌+◌, ◌-◌, ◌<◌, ◌++◌, ◌∷◌, Some, ap, sym, subst, arith, OnOk}
 use Rattle.std.proofs.Common.{drop, get_or, All}
 use Rattle.std.proofs.lemmas.List.{append-nil, drop_more, drop_all}
 use Rattle.mc_base.specs.declared.fragment.FragId.{FragId}
@@ -6,10 +6,10 @@ use Rattle.mc_base.specs.declared.fragment.FragId.TheVariants.{Kept}
 use Rattle.mc_base.specs.declared.fragment.Node.TheVariants.{Atom as AtomNode, Piece as PieceNode, RowPiece as RowNode}
 use Rattle.mc_base.specs.declared.fragment.Node.TheVariants.{Column as ColumnNode}
 use Rattle.flow_list.specs.Data.{Atom, Bounded}
-use Rattle.flow_data.specs.Flows.{flow_of, item_of, box_of, row_of}
-use Rattle.frag_pool.specs.Nodes.{node_of, ids_of, IsLive, IsBelow}
+use Rattle.flow_data.specs.Flows.{flow_of, item_of}
+use Rattle.frag_pool.specs.Nodes.{node_of, ids_of, IsBelow}
 use Rattle.tree_lines.specs.Lines.{lines_of}
-use Rattle.tree_lines.specs.Shown.{Column, ColumnsFit, TreesFit, ItemFits, column_lines, columns_lines, tree_lines, trees_lines}
+use Rattle.tree_lines.specs.Shown.{ColumnsFit, TreesFit, ItemFits, column_lines, columns_lines, tree_lines, trees_lines}
 use Rattle.tree_lines.proofs.Arms.{atom-shows, atom-flow, atom-item, atom-fits, piece-kids, piece-shows, piece-box, piece-line}
 use Rattle.tree_lines.proofs.Arms.{piece-kids-fit, row-columns, row-shows, row-row, row-line, row-columns-fit}
 use Rattle.tree_lines.proofs.Arms.{column-kids as stack-kids}

@@ -2,7 +2,7 @@
 use Rattle.tree_lines.proofs.Sizes.{stack_work, node_work}
 use Rattle.frag_pool.proofs.Trees.{rank_of}
 use Rattle.tree_lines.proofs.Steps.{Written, WrittenRow}
-use Rattle.std.proofs.Common.{ℕ, ◌+◌, ◌*◌, drop}
+use Rattle.std.proofs.Common.{◌+◌, ◌*◌, drop}
 use Rattle.tree_lines.proofs.walk.+walk.Given as goal
 
 abbrev pub decreases-put_tree : goal.decreases-put_tree

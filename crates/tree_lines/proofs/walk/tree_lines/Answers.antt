@@ -1,4 +1,4 @@
-use Rattle.std.proofs.Common.{◌≡◌, ◌<◌, ◌-◌, suc, length, arith, ap, sym, ◌∙◌, refl}
+use Rattle.std.proofs.Common.{◌<◌, length, arith, ◌∙◌}
 use Rattle.tree_lines.proofs.Inside.{some-fits, some-shows}
 use Rattle.tree_lines.proofs.walk.tree_lines.Goals as goal
 
