@@ -25,5 +25,5 @@ mod text;
 pub use declaration::parse_declaration;
 pub use declared::{Declared, Longhand, Property, Value};
 pub use laws::names_are_known;
-pub use name::Barred;
+pub use name::{Barred, all_properties};
 pub use target::{Target, places_are_known, property_place, target_place, targets_of};

@@ -61,7 +61,8 @@ pub enum Name {
     Barred(Barred),
 }
 
-fn all_properties() -> &'static [Property]
+/// The properties that are laid out, in the order of their places.
+pub fn all_properties() -> &'static [Property]
     ensures { result.now ≡ names.properties }
 {
     &[

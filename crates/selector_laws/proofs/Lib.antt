@@ -1,1 +1,5 @@
+pub mod Lengths
+pub mod Starts
 pub mod Said
+pub mod Read
+pub mod Media

@@ -130,3 +130,11 @@ pub record AreSelectors (xs : List Lexeme) (s : Selectors) : Type 0 where
 -- what is read is what the lexemes are
 abbrev pub SelectorsAreSaid : Type 0
 SelectorsAreSaid = (xs : List Lexeme) (s : Selectors) → selectors_of xs ≡ Some s → AreSelectors xs s
+
+-- what the lexemes are is read
+abbrev pub SelectorsAreRead : Type 0
+SelectorsAreRead = (xs : List Lexeme) (s : Selectors) → AreSelectors xs s → selectors_of xs ≡ Some s
+
+-- they are one list of selectors at most
+abbrev pub OneListOfSelectors : Type 0
+OneListOfSelectors = (xs : List Lexeme) (s t : Selectors) → AreSelectors xs s → AreSelectors xs t → s ≡ t
