@@ -14,8 +14,9 @@ use Rattle.frag_pool.specs.Standing.{StandsFor}
 use Rattle.inner_rows.specs.Filling.{fill_tree}
 use Rattle.column_maker.specs.declared.place.Cut.{Cut}
 use Rattle.column_maker.specs.Making.{IsCutAt, IsEnding, ends_filled}
+use Rattle.column_walk.specs.declared.deciding.Decision.{Decision}
 use Rattle.column_walk.specs.declared.deciding.FilledRow.{FilledRow}
-use Rattle.column_walk.specs.Deciding.{filled_at, filled_row, fills_to}
+use Rattle.column_walk.specs.Deciding.{IsDecision, filled_at, filled_row, fills_to}
 use Rattle.block_flow.specs.Columns.{IsCutOf}
 
 -- the row that a column fills is the stop's, in the room that is left
@@ -55,10 +56,8 @@ cut-at d p h (Some s) end r c is made =
       subst (λ (o : Option (ℕ × Token)). IfSome o (λ u. StandsFor p c.made (fill_tree d u.0 u.1 (room s h)))) (sym at.row) stands,
     )
 
--- what is told to whoever makes the column of how it ends
-pub ending-of : (d : FlowsData) (p : Nodes) (f : Flow) (t : Token) (h : ℕ) (end : Token) (filled : Option FilledRow)
-    (made : Option Cut) →
-    filled ≡ filled_at h (cut h (steps_from (all_rows d) d f t)).stop end →
+ending-of : (d : FlowsData) (p : Nodes) (f : Flow) (t : Token) (h : ℕ) (end : Token) (filled : Option FilledRow)
+    (made : Option Cut) → filled ≡ filled_at h (cut h (steps_from (all_rows d) d f t)).stop end →
     is_some filled ≡ fills_to h (cut h (steps_from (all_rows d) d f t)).stop end → IsCutOf d p filled made →
     IsEnding d p f t h end made
 ending-of d p f t h end None None is some cut_is = ends-same d f t h end ∙ sym some
@@ -66,6 +65,17 @@ ending-of d p f t h end None (Some c) is some cut_is = absurd cut_is
 ending-of d p f t h end (Some r) None is some cut_is = absurd cut_is
 ending-of d p f t h end (Some r) (Some c) is some cut_is =
     (ends-same d f t h end ∙ sym some, cut-at d p h (cut h (steps_from (all_rows d) d f t)).stop end r c is cut_is)
+
+-- In the column of flow f that begins at t, of height h, which was decided.
+module _ (d : FlowsData) (f : Flow) (t : Token) (h : ℕ) (out : Decision) (told : IsDecision (all_rows d) d f t h out) where
+  -- the row that it fills
+  pub filled-there : out.filled ≡ filled_at h (cut h (steps_from (all_rows d) d f t)).stop out.end
+  filled-there = told.filled ∙ ap (filled_at h (cut h (steps_from (all_rows d) d f t)).stop) (sym told.end)
+
+  -- how it ends, for whoever makes it
+  pub ending : (p : Nodes) (made : Option Cut) → IsCutOf d p out.filled made → IsEnding d p f t h out.end made
+  ending p made cut_is = ending-of d p f t h out.end out.filled made filled-there
+      (told.fills ∙ ap (fills_to h (cut h (steps_from (all_rows d) d f t)).stop) (sym told.end)) cut_is
 
 -- ---- the region
 

@@ -1,41 +1,28 @@
-use Rattle.std.proofs.Common.{◌≡◌, ◌≤◌, sym, ◌∙◌, ap, arith, subst}
+use Rattle.std.proofs.Common.{◌≤◌, arith}
 use Rattle.std.specs.Option.{option_map}
 use Rattle.flow_data.specs.Flows.{flow_of}
-use Rattle.flow_list.specs.Column.{cut, steps_from}
+use Rattle.flow_list.specs.Entries.{uses_in}
 use Rattle.flow_list.specs.Looks.{looks}
 use Rattle.flow_list.specs.Rows.{all_rows}
 use Rattle.frag_pool.proofs.Growth.{grows-same-trial, grows-trans}
 use Rattle.inner_rows.proofs.Calls.{book-trans}
 use Rattle.column_maker.specs.Making.{cut_room, items_in}
-use Rattle.column_walk.specs.Deciding.{filled_at, fills_to}
-use Rattle.block_flow.proofs.Endings.{ending-of}
+use Rattle.block_flow.proofs.Endings.{ending}
 use Rattle.block_flow.proofs.Items.{items-few}
 use Rattle.block_flow.proofs.Standing.{same-book}
 use Rattle.block_flow.proofs.making.made_column.Goals as goal
 
 pub make_column-requires-clause-cut : goal.make_column-requires-clause-cut
 make_column-requires-clause-cut g c =
-    let d = c.args.flows.now in
-    let f = flow_of d c.args.flow in
-    let t = c.args.from.now in
-    let h = c.args.height in
-    let told = c.in_ok-decision.ensures.decided in
-    ending-of d c.cut_of.new.pool f t h c.in_ok-decision.decision.end c.in_ok-decision.decision.filled c.in_ok-cut.cut
-    (told.filled ∙ ap (filled_at h (cut h (steps_from (all_rows d) d f t)).stop) (sym told.end))
-    (told.fills ∙ ap (fills_to h (cut h (steps_from (all_rows d) d f t)).stop) (sym told.end)) c.in_ok-cut.ensures.cut
+    ending c.args.flows.now (flow_of c.args.flows.now c.args.flow) c.args.from.now c.args.height c.in_ok-decision.decision
+    c.in_ok-decision.ensures.decided c.cut_of.new.pool c.in_ok-cut.cut c.in_ok-cut.ensures.cut
 
 pub returns-clause-uses : goal.returns-clause-uses
 returns-clause-uses g c =
-    let d = c.args.flows.now in
-    let f = flow_of d c.args.flow in
-    let t = c.args.from.now in
-    let h = c.args.height in
-    let told = c.in_ok-decision.ensures.decided in
-    same-book d (c.uses_enter.ensures d) f t c.requires.place h c.in_ok-decision.decision.end told.end
-    c.in_ok-decision.decision.filled
-    (told.filled ∙ ap (filled_at h (cut h (steps_from (all_rows d) d f t)).stop) (sym told.end))
-    (option_map cut_room c.in_ok-cut.cut) _ _ _ _ c.in_ok-decision.ensures.uses c.in_ok-cut.ensures.uses
-    c.in_ok-frag.ensures.uses
+    same-book c.args.flows.now (c.uses_enter.ensures c.args.flows.now) (flow_of c.args.flows.now c.args.flow) c.args.from.now
+    c.requires.place c.args.height c.in_ok-decision.decision c.in_ok-decision.ensures.decided
+    (option_map cut_room c.in_ok-cut.cut) (uses_in c.args.book.now) (uses_in c.decide.new.book) (uses_in c.cut_of.new.book)
+    (uses_in c.make_column.new.book) c.in_ok-decision.ensures.uses c.in_ok-cut.ensures.uses c.in_ok-frag.ensures.uses
 
 pub returns-in_err-frag-clause-read : goal.returns-in_err-frag-clause-read
 returns-in_err-frag-clause-read g c =
