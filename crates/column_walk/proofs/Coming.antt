@@ -1,7 +1,7 @@
 -- What a walk keeps that has come to an item, and what it decides there.
 use Rattle.std.proofs.Common.{◌≡◌, ℕ, ◌+◌, ◌-◌, ◌<◌, ◌≤◌, Bool, true, false, cond, List, [], ◌∷◌, ◌++◌}
 use Rattle.std.proofs.Common.{length, Option, Some, None, sym, subst, ◌∙◌, ap, arith}
-use Rattle.std.specs.Prelude.{IfSome, is_none, nat_lt, ◌||◌, ◌==◌}
+use Rattle.std.specs.Prelude.{IfSome, is_none, is_some, nat_lt, ◌||◌, ◌==◌}
 use Rattle.flow_data.specs.declared.data.Flow.{Flow}
 use Rattle.flow_data.specs.declared.data.FlowsData.{FlowsData}
 use Rattle.flow_data.specs.declared.data.Item.{Item}
@@ -20,7 +20,7 @@ use Rattle.flow_list.proofs.Walk.{behind, consider, stop_place}
 use Rattle.column_walk.specs.declared.deciding.Decision.{Decision}
 use Rattle.column_walk.specs.declared.endings.Ending.{Ending}
 use Rattle.column_walk.specs.declared.endings.Here.{Here}
-use Rattle.column_walk.specs.Deciding.{IsDecision, IsStopped, IsUnstopped, filled_at, first_line}
+use Rattle.column_walk.specs.Deciding.{IsDecision, IsStopped, IsUnstopped, filled_at, fills_to, first_line}
 use Rattle.column_walk.specs.Endings.{considered, place_of, place_opt, step_of}
 use Rattle.column_walk.specs.Stopping.{chosen, stop_of}
 use Rattle.column_walk.proofs.Chain.{uses-both, uses-none}
@@ -120,6 +120,9 @@ module _ (d : FlowsData) (f : Flow) (t : Token) (h k : ℕ) (q : Token) (s : Str
           filled = told.fills ∙ ap (λ e. filled_at h (Some st) e) end_is
               ∙ ap (λ (c : Cut). filled_at h c.stop (column (all_rows d) d f t h).end)
               (sym (stop-cut d f t h k q s (place_opt best) (place_opt last) come.passed come.walked lt above_st));
+          fills = told.whole ∙ ap (λ e. fills_to h (Some st) e) end_is
+              ∙ ap (λ (c : Cut). fills_to h c.stop (column (all_rows d) d f t h).end)
+              (sym (stop-cut d f t h k q s (place_opt best) (place_opt last) come.passed come.walked lt above_st));
         }
 
     pub stop-decision : (item : Item) → item ≡ item_of f k → here.item ≡ k → here.avoids ≡ avoids_at d f k → (out : Decision) →
@@ -206,6 +209,9 @@ module _ (d : FlowsData) (f : Flow) (t : Token) (h k : ℕ) (q : Token) (s : Str
                 ∙ ap (λ e. first_line whole.overflow e None ∷ []) (end_is ∙ ap (λ (c : Column). c.end) whole-is)
                 ∙ sym (ap (λ (c : Column). c.lines) whole-is);
             filled = told.fills ∙ ap (λ (c : Cut). filled_at h c.stop (column (all_rows d) d f t h).end)
+                (sym (end-cut d f t h k q s (place_opt best) (place_opt last) come.passed come.walked lt fits_st ends));
+            fills = ap is_some told.fills ∙ ap (λ (p : Place). fills_to h None p.end) end-is
+                ∙ ap (λ (c : Cut). fills_to h c.stop (column (all_rows d) d f t h).end)
                 (sym (end-cut d f t h k q s (place_opt best) (place_opt last) come.passed come.walked lt fits_st ends));
           }
 

@@ -104,7 +104,7 @@ and-false : (x : Bool) → (x && false) ≡ false
 and-false true = refl
 and-false false = refl
 
-at-seam : (h : ℕ) (s : Step) (e : ℕ) → e ≤ s.item → fills_to h (Some s) (e ∷ []) ≡ false
+pub at-seam : (h : ℕ) (s : Step) (e : ℕ) → e ≤ s.item → fills_to h (Some s) (e ∷ []) ≡ false
 at-seam h s e le = go (s.item == (e - 1)) (is_some s.row) (nat_lt (room s h) s.height) (e == 0) refl refl
   where
     go : (same row low first : Bool) → (s.item == (e - 1)) ≡ same → (e == 0) ≡ first
@@ -123,13 +123,24 @@ behind h s =
     and-true true = refl
     and-true false = refl
 
+abbrev pub row_at : Bool → Option (ℕ × Token) → ℕ → ℕ → Option FilledRow
+row_at taken row item height = cond taken (filled_row row item height) None
+
 -- the best seam, or the item as a whole
 none-filled : (h : ℕ) (s : Step) (b : Option Place) → IsSeamTo s.item b
     → (b ≡ None → (is_some s.row && nat_lt (room s h) s.height) ≡ false) → (end : Token) →
-    end ≡ (unwrap_or b (whole_place s)).end → None ≡ filled_at h (Some s) end
-none-filled h s None seam alone end is = let f : fills_to h (Some s) end ≡ false = rw is (behind h s ∙ alone refl) in rw f refl
-none-filled h s (Some p) (e, le, at) alone end is = let f : fills_to h (Some s) end ≡ false = rw (is, at) (at-seam h s e le)
-    in rw f refl
+    end ≡ (unwrap_or b (whole_place s)).end → fills_to h (Some s) end ≡ false
+none-filled h s None seam alone end is = rw is (behind h s ∙ alone refl)
+none-filled h s (Some p) (e, le, at) alone end is = rw (is, at) (at-seam h s e le)
+
+no-row : (h : ℕ) (s : Step) (end : Token) → fills_to h (Some s) end ≡ false → None ≡ filled_at h (Some s) end
+no-row h s end f = rw f refl
+
+row-some : (taken : Bool) (row : Option (ℕ × Token)) (item height : ℕ) → is_some row ≡ true
+    → is_some (row_at taken row item height) ≡ taken
+row-some true (Some r) item height some = refl
+row-some true None item height some = absurd (cc)
+row-some false row item height some = refl
 
 -- a place within the row
 in-row : (h : ℕ) (s : Step) (avoids : Bool) (made : Filled) → is_some s.row ≡ true → nat_lt (room s h) s.height ≡ true
@@ -154,9 +165,6 @@ taken-fills h s (Some b) true p (e, le, at) inside = go (nat_le p.level b.level)
     go true = inside
     go false = rw at (at-seam h s e le)
 taken-fills h s (Some b) false p (e, le, at) inside = rw at (at-seam h s e le)
-
-abbrev pub row_at : Bool → Option (ℕ × Token) → ℕ → ℕ → Option FilledRow
-row_at taken row item height = cond taken (filled_row row item height) None
 
 -- ---- the best place so far is a seam before the item
 
@@ -196,9 +204,9 @@ stopped-of : (b : Option Place) (avoids : Bool) (s : Step) (h : ℕ) (filled : O
     (lines : List ColumnLine) (row : Option FilledRow) (out : Decision) →
     spot_place spot ≡ chosen b avoids s h filled → is_forced spot.level ≡ false → Some short ≡ shortage h (bounds_at s h filled) →
     map deeper lines ≡ inner_lines (is_cut s h) filled → row ≡ filled_at h (Some s) spot.end
-    → IsTold spot (Some s.item) (Some short) lines row out →
+    → is_some row ≡ fills_to h (Some s) spot.end → IsTold spot (Some s.item) (Some short) lines row out →
     IsStopped b avoids s h filled out
-stopped-of b avoids s h filled spot short lines row out place unforced shorts inner rows told = record {
+stopped-of b avoids s h filled spot short lines row out place unforced shorts inner rows wholes told = record {
   end = told.end ∙ ap (λ (p : Place). p.end) place;
   level = record {
     ranked = ap rank told.level ∙ ap (λ (p : Place). p.level) place;
@@ -212,6 +220,7 @@ stopped-of b avoids s h filled spot short lines row out place unforced shorts in
       ∙ ap (λ e. first_line out.overflow e (Some s.item) ∷ map deeper lines) (sym told.end)
       ∙ ap (λ ls. first_line out.overflow out.end (Some s.item) ∷ ls) inner;
   fills = told.filled_is ∙ rows ∙ ap (λ e. filled_at h (Some s) e) (sym told.end);
+  whole = ap is_some told.filled_is ∙ wholes ∙ ap (λ e. fills_to h (Some s) e) (sym told.end);
 }
 
 -- at an atom
@@ -221,9 +230,9 @@ pub atom-stopped : (here : Here) (h : ℕ) (best : Option Ending) → IfSome bes
     → IsStopped (place_opt best) here.avoids (step_of here None tail) h None out
 atom-stopped here h best before spot place unforced out told tail =
     let s = step_of here None tail in
+    let f = none-filled h s (place_opt best) (seam-to here.item best before) (λ n. refl) spot.end (ap (λ (p : Place). p.end) place) in
     stopped-of (place_opt best) here.avoids s h None spot (here.need - h) [] None out
-    (place ∙ sym (chosen-none (place_opt best) here.avoids s h)) unforced refl refl
-    (none-filled h s (place_opt best) (seam-to here.item best before) (λ n. refl) spot.end (ap (λ (p : Place). p.end) place)) told
+    (place ∙ sym (chosen-none (place_opt best) here.avoids s h)) unforced refl refl (no-row h s spot.end f) (sym f) told
 
 -- at a row that isn't filled
 pub row-stopped : (here : Here) (h : ℕ) (best : Option Ending) → IfSome best (λ e. e.item ≤ here.item) → (spot : Spot) →
@@ -235,11 +244,11 @@ pub row-stopped : (here : Here) (h : ℕ) (best : Option Ending) → IfSome best
     → IsStopped (place_opt best) here.avoids (step_of here (Some r) tail) h (Some made) out
 row-stopped here h best before spot place unforced out short made r tail unfilled shorts told =
     let s = step_of here (Some r) tail in
+    let f = none-filled h s (place_opt best) (seam-to here.item best before) (λ n. alone (place_opt best) n unfilled) spot.end
+    (ap (λ (p : Place). p.end) place) in
     stopped-of (place_opt best) here.avoids s h (Some made) spot short [] None out
     (place ∙ sym (not-filled (place_opt best) here.avoids s h made unfilled)) unforced shorts
-    (let c = not-cut (place_opt best) s h unfilled in rw c refl)
-    (none-filled h s (place_opt best) (seam-to here.item best before) (λ n. alone (place_opt best) n unfilled) spot.end
-    (ap (λ (p : Place). p.end) place)) told
+    (let c = not-cut (place_opt best) s h unfilled in rw c refl) (no-row h s spot.end f) (sym f) told
   where
     alone : (b : Option Place) → b ≡ None → fills_row b (step_of here (Some r) tail) h ≡ false
         → nat_lt (room (step_of here (Some r) tail) h) here.height ≡ false
@@ -263,7 +272,7 @@ pub inner-stopped : (b : Option Place) (avoids : Bool) (s : Step) (h : ℕ) (mad
     → is_forced spot.level ≡ false →
     Some short ≡ shortage h (bounds_at s h (Some made)) → lines ≡ cond begins filled.lines []
     → IsTold spot (Some s.item) (Some short) lines row out → IsStopped b avoids s h (Some made) out
-inner-stopped b avoids s h made filled seam some fills over end same_lines any begins good taken inside spot short lines row out
+inner-stopped b avoids s h made filled seam some_row fills over end same_lines any begins good taken inside spot short lines row out
     begins_is good_is inside_is taken_is row_is spot_is unforced shorts lines_are told =
     let good_of : good ≡ (nat_le (s.y + s.bottoms) h && not made.overflow) = good_is
     ∙ ap (λ t. t && not filled.overflow) begins_is ∙ ap (λ o. nat_le (s.y + s.bottoms) h && not o) over in
@@ -273,14 +282,15 @@ inner-stopped b avoids s h made filled seam some fills over end same_lines any b
     ∙ sym (is-filled b avoids s h made fills) in
     let within : fills_to h (Some s) inside.end ≡ true =
     ap (λ (p : Place). fills_to h (Some s) p.end) inside_is
-    ∙ in-row h s avoids made some (too-little b s h fills) (rw end at any) in
+    ∙ in-row h s avoids made some_row (too-little b s h fills) (rw end at any) in
     let f : fills_to h (Some s) spot.end ≡ taken =
     ap (λ (p : Place). fills_to h (Some s) p.end) spot_is ∙ taken-fills h s b good (spot_place inside) seam within
     ∙ sym taken_is in
     stopped-of b avoids s h (Some made) spot short lines row out place unforced shorts
     (ap (map deeper) (lines_are ∙ ap (λ t. cond t filled.lines []) (begins_is ∙ sym (cut-begins b s h fills))
     ∙ ap (λ ls. cond (is_cut s h) ls []) same_lines) ∙ deeper-cut (is_cut s h))
-    (row_is ∙ ap (λ t. row_at t s.row s.item (room s h)) (sym f)) told
+    (row_is ∙ ap (λ t. row_at t s.row s.item (room s h)) (sym f))
+    (ap is_some row_is ∙ row-some taken s.row s.item (room s h) some_row ∙ sym f) told
   where
     deeper-cut : (c : Bool) → map deeper (cond c made.lines []) ≡ cond c (map deeper made.lines) []
     deeper-cut true = refl

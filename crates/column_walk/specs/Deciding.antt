@@ -1,5 +1,5 @@
 -- What is decided of a column: all that its definition says, and which row it fills.
-use Rattle.std.specs.Prelude.{◌≡◌, ℕ, ◌-◌, ◌<◌, ◌==◌, Bool, true, false, cond, not, ◌&&◌, List, [], ◌∷◌, length, map, Option}
+use Rattle.std.specs.Prelude.{◌≡◌, ℕ, ◌-◌, ◌<◌, ◌==◌, Bool, true, false, cond, not, ◌&&◌, List, [], ◌∷◌, length, map, is_some, Option}
 use Rattle.std.specs.Prelude.{Some, None}
 use Rattle.flow_data.specs.declared.data.Flow.{Flow}
 use Rattle.flow_data.specs.declared.data.FlowsData.{FlowsData}
@@ -48,6 +48,7 @@ pub record IsDecision (inner : Inner) (d : FlowsData) (f : Flow) (t : Token) (h 
   pub short : out.short ≡ shortage h (column inner d f t h).bounds
   pub lines : out.lines ≡ (column inner d f t h).lines
   pub filled : out.filled ≡ filled_at h (cut h (steps_from inner d f t)).stop (column inner d f t h).end
+  pub fills : is_some out.filled ≡ fills_to h (cut h (steps_from inner d f t)).stop (column inner d f t h).end
 
 -- the first line of a column
 abbrev pub first_line : Bool → Token → Option ℕ → ColumnLine
@@ -63,6 +64,7 @@ pub record IsStopped (b : Option Place) (avoids : Bool) (s : Step) (h : ℕ) (fi
   pub short : out.short ≡ shortage h (bounds_at s h filled)
   pub lines : out.lines ≡ first_line out.overflow out.end (Some s.item) ∷ inner_lines (is_cut s h) filled
   pub fills : out.filled ≡ filled_at h (Some s) out.end
+  pub whole : is_some out.filled ≡ fills_to h (Some s) out.end
 
 -- the column without a stop that ends there
 pub record IsUnstopped (p : Place) (out : Decision) : Type 0 where
