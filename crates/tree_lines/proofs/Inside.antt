@@ -77,9 +77,6 @@ module _ (d : FlowsData) (laid : Laid) (p : Nodes) (n s : ℕ) (depth x y : ℕ)
   pub stack-y : StackFits d laid p (suc n) s depth x y → y < 2 ^ 64
   stack-y f = (stack-all f).y
 
-  pub stack-depth : StackFits d laid p (suc n) s depth x y → depth + 2 < 2 ^ 32
-  stack-depth f = (stack-all f).depth
-
   module _ (entry : LaidStack) (node : Node) (found : slice_get laid.stacks s ≡ Some entry) (is : node_of p entry.frag ≡
       Some node) where
     pub stack-tree : Given d laid p → Tree d laid p (stack_at d s entry depth x y (node_extent node)) entry.frag

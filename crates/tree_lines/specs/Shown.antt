@@ -69,21 +69,8 @@ given_lines {d = d} g n = stack_lines d g.heights g.trees n
 
 -- ---- lines that can be written
 
--- the number of a column has 32 bits
-abbrev pub KindFits : TreeKind → Type 0
-KindFits (stack number) = Unit {0}
-KindFits (row number from) = Unit {0}
-KindFits (col index) = index < 2 ^ 32
-KindFits (box owner starts ends) = Unit {0}
-KindFits (line owner index) = Unit {0}
-KindFits (void owner) = Unit {0}
-KindFits (image owner) = Unit {0}
-KindFits (atom item) = Unit {0}
-
--- a line's depth, also that of what stands within it, has 32 bits, and its rectangle 64
+-- a line's rectangle has 64 bits
 pub record Fits (t : TreeLine) : Type 0 where
-  pub depth : t.depth + 2 < 2 ^ 32
-  pub kind : KindFits t.kind
   pub x : t.x < 2 ^ 64
   pub y : t.y < 2 ^ 64
   pub w : t.w < 2 ^ 64

@@ -11,5 +11,5 @@ mod text;
 mod walk;
 
 pub use line::{TreeKind, TreeLine};
-pub use text::tree_text;
+pub use text::{put_line, tree_text};
 pub use walk::tree_lines;

@@ -1,6 +1,6 @@
 //! Where lines stand.
 
-ghost use Rattle.std.specs.Prelude.{◌≡◌, ◌+◌, ◌-◌, ◌*◌, ◌<◌, ◌^◌, None, Some, [], ◌∷◌, is_some, map, max, option_to_list};
+ghost use Rattle.std.specs.Prelude.{◌≡◌, ◌+◌, ◌-◌, ◌*◌, ◌<◌, ◌^◌, None, Some, [], ◌∷◌, is_some, map, max, option_to_list, IfOk};
 ghost use Rattle.flow_data.specs.Soundness.{kind_x};
 ghost use Rattle.flow_list.specs.Tree.{box as box_kind, col as col_kind, row as row_kind, row_width};
 ghost use Rattle.flow_list.specs.Tree.{stack as stack_kind};
@@ -9,7 +9,7 @@ ghost use Rattle.tree_lines.specs.Standing.{atom_line, bottom_at};
 
 use crate::line::{TreeKind, TreeLine};
 use flow_list::{AtomKind, BoxInfo, RowInfo, Stack};
-use mc_base::{Rect, Token, Units};
+use mc_base::{NoMemory, Rect, Token, Units};
 
 /// Where the next lines of a column or a stack stand: its flow, how deep they stand, its left, top and width; then how high it
 /// is, and how far down boxes reach that continue: both less what the boxes around have below again.
@@ -35,17 +35,37 @@ pub struct RowPlace {
     pub height: Units,
 }
 
-/// The place inside a box that has this below again.
-pub fn inside_box(at: Place, bottom: Units) -> Place
-    requires { at.depth + 2 < 2 ^ 32 }
-    ensures { result ≡ record at { depth = at.depth + 1; room = at.room - bottom; reach = at.reach - bottom } }
+/// One deeper. It answers out of memory where 32 bits have no number for it.
+pub fn deeper(depth: u32) -> Result<u32, NoMemory>
+    ensures { IfOk result (λ next. next ≡ depth + 1) }
 {
-    Place {
-        depth: at.depth + 1,
+    depth.checked_add(1).ok_or(NoMemory)
+}
+
+/// The number of a column. It answers out of memory where 32 bits have none.
+pub fn column_number(i: usize) -> Result<u32, NoMemory>
+    ensures { IfOk result (λ index. index ≡ i) }
+{
+    match u32::try_from(i) {
+        Ok(index) => Ok(index),
+        Err(_) => Err(NoMemory),
+    }
+}
+
+/// The place inside a box that has this below again.
+pub fn inside_box(at: Place, bottom: Units) -> Result<Place, NoMemory>
+    ensures { IfOk result (λ inside. inside ≡ record at {
+      depth = at.depth + 1;
+      room = at.room - bottom;
+      reach = at.reach - bottom;
+    }) }
+{
+    Ok(Place {
+        depth: deeper(at.depth)?,
         room: at.room.saturating_sub(bottom),
         reach: at.reach.saturating_sub(bottom),
         ..at
-    }
+    })
 }
 
 /// The line of a piece of a box.
@@ -142,20 +162,19 @@ pub fn row_line(at: RowPlace, number: u32, info: RowInfo, from: &Token) -> TreeL
 }
 
 /// The line of a column of a piece of a row.
-pub fn column_line(at: RowPlace, index: u32) -> TreeLine
-    requires depth { at.depth + 1 < 2 ^ 32 }
-    requires x { at.x + index * at.step < 2 ^ 64 }
-    ensures { line_of result ≡ record {
+pub fn column_line(at: RowPlace, index: u32) -> Result<TreeLine, NoMemory>
+    requires { at.x + index * at.step < 2 ^ 64 }
+    ensures { IfOk result (λ line. line_of line ≡ record {
       depth = at.depth + 1;
       kind = col_kind index;
       x = at.x + index * at.step;
       y = at.y;
       w = at.w;
       h = at.height;
-    } }
+    }) }
 {
-    TreeLine {
-        depth: at.depth + 1,
+    Ok(TreeLine {
+        depth: deeper(at.depth)?,
         kind: TreeKind::Col { index },
         rect: Rect {
             x: at.x + u64::from(index) * at.step,
@@ -163,14 +182,18 @@ pub fn column_line(at: RowPlace, index: u32) -> TreeLine
             w: at.w,
             h: at.height,
         },
-    }
+    })
 }
 
 /// The place inside a column of a piece of a row, of a flow that reaches this far there.
-pub fn inside_column(at: RowPlace, index: u32, flow: u32, extent: Units) -> Place
-    requires depth { at.depth + 2 < 2 ^ 32 }
-    requires x { at.x + index * at.step < 2 ^ 64 }
-    ensures { result ≡ record {
+pub fn inside_column(
+    at: RowPlace,
+    index: u32,
+    flow: u32,
+    extent: Units,
+) -> Result<Place, NoMemory>
+    requires { at.x + index * at.step < 2 ^ 64 }
+    ensures { IfOk result (λ inside. inside ≡ record {
       flow = flow;
       depth = at.depth + 2;
       x = at.x + index * at.step;
@@ -178,17 +201,17 @@ pub fn inside_column(at: RowPlace, index: u32, flow: u32, extent: Units) -> Plac
       w = at.w;
       room = at.height;
       reach = max at.height extent;
-    } }
+    }) }
 {
-    Place {
+    Ok(Place {
         flow,
-        depth: at.depth + 2,
+        depth: deeper(deeper(at.depth)?)?,
         x: at.x + u64::from(index) * at.step,
         y: at.y,
         w: at.w,
         room: at.height,
         reach: at.height.max(extent),
-    }
+    })
 }
 
 /// What the line of an atom is of, with its left and its width; none for a container with a height, whose inside is a stack of
@@ -261,9 +284,8 @@ pub fn inside_stack(
     y: Units,
     height: Units,
     extent: Units,
-) -> Place
-    requires { depth + 1 < 2 ^ 32 }
-    ensures { result ≡ record {
+) -> Result<Place, NoMemory>
+    ensures { IfOk result (λ inside. inside ≡ record {
       flow = info.flow;
       depth = depth + 1;
       x = x;
@@ -271,15 +293,15 @@ pub fn inside_stack(
       w = info.w;
       room = height;
       reach = max height extent;
-    } }
+    }) }
 {
-    Place {
+    Ok(Place {
         flow: info.flow,
-        depth: depth + 1,
+        depth: deeper(depth)?,
         x,
         y,
         w: info.w,
         room: height,
         reach: height.max(extent),
-    }
+    })
 }

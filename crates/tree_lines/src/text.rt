@@ -112,8 +112,8 @@ fn put_rect(out: &mut Text, rect: Rect) -> Result<(), NoMemory>
     put_numbers(out, &[rect.x, rect.y, rect.w, rect.h])
 }
 
-/// Adds a line.
-fn put_line(alloc: Global, out: &mut Text, line: &TreeLine) -> Result<(), NoMemory>
+/// Adds a line: its depth, what it is of, and its rectangle, in decimal, with a space between words, and a line feed.
+pub fn put_line(alloc: Global, out: &mut Text, line: &TreeLine) -> Result<(), NoMemory>
     ensures { OnOk result (out.new ≡ out.old ++ tree_line_text (line_of line.now)) }
 {
     let mut buffer = Buffer::new();

@@ -12,7 +12,7 @@ ghost use Rattle.tree_lines.specs.Shown.{trees_lines, Column, ColumnFits, column
 
 use crate::line::TreeLine;
 use crate::place::{
-    Place, RowPlace, box_line, column_line, height_at, inside_box, inside_column, inside_stack,
+    Place, RowPlace, box_line, column_line, column_number, height_at, inside_box, inside_column, inside_stack,
     line_of_atom, row_line, row_place, stack_line,
 };
 use flow_list::{
@@ -73,7 +73,7 @@ fn put_tree(
         } => {
             let info = *box_at(flows, *owner);
             out.push(box_line(at, *owner, info, *starts, *y, *bottom))?;
-            let inside = inside_box(at, info.bottom);
+            let inside = inside_box(at, info.bottom)?;
             put_trees(out, flows, laid, pool, nested, inside, id, kids.as_slice())
         }
         Node::RowPiece {
@@ -178,9 +178,9 @@ fn put_column(
     else {
         return Ok(());
     };
-    let index = i as u32;
-    out.push(column_line(at, index))?;
-    let inside = inside_column(at, index, *flow, *extent);
+    let index = column_number(i)?;
+    out.push(column_line(at, index)?)?;
+    let inside = inside_column(at, index, *flow, *extent)?;
     put_trees(out, flows, laid, pool, nested, inside, id, kids.as_slice())
 }
 
@@ -265,7 +265,7 @@ fn put_stack(
     let info = *stack_at(flows, stack);
     out.push(stack_line(info, stack, depth, x, y, entry.height))?;
     let extent = extent_of(pool.get(entry.frag));
-    let inside = inside_stack(info, depth, x, y, entry.height, extent);
+    let inside = inside_stack(info, depth, x, y, entry.height, extent)?;
     put_tree(out, flows, laid, pool, nested, inside, entry.frag)
 }
 
@@ -273,7 +273,8 @@ fn put_stack(
 /// Rectangles are in units from the document's top left (1 unit = 1/64 px; CSS Multi-column 1, section 3.4).
 ///
 /// Conditions: each stack has an id that is live; the fragments name items of their flows, and boxes, rows and stacks that
-/// there are; depths and the numbers of columns have 32 bits, places and sizes 64. The error is out of memory.
+/// there are; places and sizes have 64 bits. The error is out of memory, also where 32 bits have no number for a depth or a
+/// column.
 pub fn tree_lines(
     alloc: Global,
     flows: &Flows,

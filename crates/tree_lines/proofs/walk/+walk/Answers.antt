@@ -19,7 +19,7 @@ use Rattle.flow_list.specs.Tree.{item_lines}
 use Rattle.tree_lines.specs.Shown.{given_lines}
 use Rattle.tree_lines.proofs.Inside.{item-stack-fits, item-stack-none, item-stack-shows, item-shows, item-x, item-y, stack-x}
 use Rattle.tree_lines.proofs.Inside.{stack-y}
-use Rattle.tree_lines.proofs.Inside.{stands-live, stack-depth, stack-fits, stack-tree, stack-shows, stack_line}
+use Rattle.tree_lines.proofs.Inside.{stands-live, stack-fits, stack-tree, stack-shows, stack_line}
 use Rattle.tree_lines.proofs.Sizes.{below-live, below-rank, rank-live, work-less}
 use Rattle.tree_lines.proofs.Steps.{Written, WrittenRow, written-first, written-next, written-last, written-row-first, pushed}
 use Rattle.tree_lines.proofs.Steps.{written-row-next, written-row-last, split-fits, split-row-fits}
@@ -33,45 +33,15 @@ put_column-returns-in_default t c = λ t'.
     c.args.at c.args.i c.args.id c.get.result.now c.get.ensures.node
     (λ f from e x ids is. c.in_default.not-Column f from e x ids is) t') ∙ append-nil (lines_of c.args.out.now))
 
-pub put_column-overflow_cast-index : goal.put_column-overflow_cast-index
-put_column-overflow_cast-index t c =
-    let is : node_of c.args.pool.now c.args.id ≡ Some (ColumnNode c.in-Column.flow c.in-Column.from c.in-Column.end
-    c.in-Column.extent
-    c.in-Column.kids) = c.get.ensures.node ∙ ap Some c.in-Column.is in
-    let f = column-fits c.args.flows.now c.args.laid.now c.args.pool.now c.args.nested c.args.at c.args.i c.args.id _ _ _ _ _ is
-    c.requires.fits in
-    let k = f.kind in
-    omega (arith, k)
-
-pub put_column-column_line-requires-clause-depth : goal.put_column-column_line-requires-clause-depth
-put_column-column_line-requires-clause-depth t c =
-    let is : node_of c.args.pool.now c.args.id ≡ Some (ColumnNode c.in-Column.flow c.in-Column.from c.in-Column.end
-    c.in-Column.extent
-    c.in-Column.kids) = c.get.ensures.node ∙ ap Some c.in-Column.is in
-    let f = column-fits c.args.flows.now c.args.laid.now c.args.pool.now c.args.nested c.args.at c.args.i c.args.id _ _ _ _ _ is
-    c.requires.fits in
-    let k = f.depth in
-    omega (arith, k)
-
-pub put_column-column_line-requires-clause-x : goal.put_column-column_line-requires-clause-x
-put_column-column_line-requires-clause-x t c =
+pub put_column-column_line-requires : goal.put_column-column_line-requires
+put_column-column_line-requires t c =
     let is : node_of c.args.pool.now c.args.id ≡ Some (ColumnNode c.in-Column.flow c.in-Column.from c.in-Column.end
     c.in-Column.extent
     c.in-Column.kids) = c.get.ensures.node ∙ ap Some c.in-Column.is in
     let f = column-fits c.args.flows.now c.args.laid.now c.args.pool.now c.args.nested c.args.at c.args.i c.args.id _ _ _ _ _ is
     c.requires.fits in
     let k = f.x in
-    omega (arith, k)
-
-pub put_column-inside_column-inside-requires-clause-depth : goal.put_column-inside_column-inside-requires-clause-depth
-put_column-inside_column-inside-requires-clause-depth t c =
-    let is : node_of c.args.pool.now c.args.id ≡ Some (ColumnNode c.in-Column.flow c.in-Column.from c.in-Column.end
-    c.in-Column.extent
-    c.in-Column.kids) = c.get.ensures.node ∙ ap Some c.in-Column.is in
-    let f = column-fits c.args.flows.now c.args.laid.now c.args.pool.now c.args.nested c.args.at c.args.i c.args.id _ _ _ _ _ is
-    c.requires.fits in
-    let k = f.depth in
-    omega (arith, k)
+    rw c.in_ok-index.ensures (omega (arith, k))
 
 pub put_column-put_trees-requires : goal.put_column-put_trees-requires
 put_column-put_trees-requires t c =
@@ -86,7 +56,7 @@ put_column-put_trees-requires t c =
         c.requires.live,
         (
           below,
-          rw c.inside_column-inside.ensures
+          rw (c.in_ok-inside.ensures, c.in_ok-index.ensures)
               (column-kids-fit c.args.flows.now c.args.laid.now c.args.pool.now c.args.nested c.args.at c.args.i c.args.id
               _ _ _ _ _ is
               c.requires.fits),
@@ -102,10 +72,10 @@ put_column-returns t c = λ t'.
     c.as_slice.result.now) = cc (c.get.ensures.node, c.in-Column.is, kids) in
     let d = c.args.flows.now in
     let u = column-kids d c.args.laid.now c.args.pool.now c.args.nested c.args.at c.args.i c.args.id _ _ _ _ _ is t' in
-    let h = (rw (c.inside_column-inside.ensures, c.in_ok-push.ensures.ok) at c.put_trees.ensures) u in
+    let h = (rw (c.in_ok-inside.ensures, c.in_ok-index.ensures, c.in_ok-push.ensures.ok) at c.put_trees.ensures) u in
     subst (λ ls. OnOk c.put_trees.result (lines_of c.put_trees.new.out ≡ ls))
-    (pushed c.args.out.now c.column_line.result (column_line c.args.at c.args.i) (trees_lines c.args.nested u)
-    (column_lines c.args.nested c.args.i t') c.column_line.ensures
+    (pushed c.args.out.now _ (column_line c.args.at c.args.i) (trees_lines c.args.nested u)
+    (column_lines c.args.nested c.args.i t') (rw c.in_ok-index.ensures at c.in_ok-column_line.ensures)
     (column-shows d c.args.laid.now c.args.pool.now c.args.nested c.args.at c.args.i c.args.id _ _ _ _ _ is t')) h
 
 -- ---- the columns of a piece of a row
@@ -246,13 +216,6 @@ put_tree-box_line-requires-clause-y t c =
     c.in-Piece.kids) = c.get.ensures.node ∙ ap Some c.in-Piece.is in
     (piece-line c.args.flows.now c.args.laid.now c.args.pool.now c.args.nested c.args.at c.args.id _ _ _ _ _ is c.requires.fits).y
 
-pub put_tree-inside_box-inside-requires : goal.put_tree-inside_box-inside-requires
-put_tree-inside_box-inside-requires t c =
-    let is : node_of c.args.pool.now c.args.id ≡ Some (PieceNode c.in-Piece.owner c.in-Piece.starts c.in-Piece.y c.in-Piece.bottom
-    c.in-Piece.kids) = c.get.ensures.node ∙ ap Some c.in-Piece.is in
-    (piece-line c.args.flows.now c.args.laid.now c.args.pool.now c.args.nested c.args.at c.args.id _ _ _ _ _ is
-    c.requires.fits).depth
-
 pub put_tree-put_trees-requires : goal.put_tree-put_trees-requires
 put_tree-put_trees-requires t c =
     let kids = c.as_slice.ensures in
@@ -265,22 +228,22 @@ put_tree-put_trees-requires t c =
         c.requires.live,
         (
           below,
-          rw (c.inside_box-inside.ensures, c.box_at-info.ensures.same)
+          rw (c.in_ok-inside-in-Piece.ensures, c.box_at-info.ensures.same)
               (piece-kids-fit c.args.flows.now c.args.laid.now c.args.pool.now c.args.nested c.args.at c.args.id _ _ _ _ _
               is c.requires.fits),
         ),
       ),
     )
 
-pub put_tree-returns-in_ok-push-in-Piece : goal.put_tree-returns-in_ok-push-in-Piece
-put_tree-returns-in_ok-push-in-Piece t c = λ t'.
+pub put_tree-returns-in_ok-inside-in-Piece : goal.put_tree-returns-in_ok-inside-in-Piece
+put_tree-returns-in_ok-inside-in-Piece t c = λ t'.
     let kids = c.as_slice.ensures in
     let is : node_of c.args.pool.now c.args.id ≡ Some (PieceNode c.in-Piece.owner c.in-Piece.starts c.in-Piece.y c.in-Piece.bottom
     c.as_slice.result.now) = cc (c.get.ensures.node, c.in-Piece.is, kids) in
     let d = c.args.flows.now in
     let same = c.box_at-info.ensures.same in
     let u = piece-kids c.args.flows.now c.args.laid.now c.args.pool.now c.args.nested c.args.at c.args.id _ _ _ _ _ is t' in
-    let h = (rw (c.inside_box-inside.ensures, same, c.in_ok-push-in-Piece.ensures.ok) at c.put_trees.ensures) u in
+    let h = (rw (c.in_ok-inside-in-Piece.ensures, same, c.in_ok-push-in-Piece.ensures.ok) at c.put_trees.ensures) u in
     subst (λ ls. OnOk c.put_trees.result (lines_of c.put_trees.new.out ≡ ls))
     (pushed c.args.out.now c.box_line.result
     (box_line d c.args.at c.in-Piece.owner c.in-Piece.starts c.in-Piece.y c.in-Piece.bottom) (trees_lines c.args.nested u)
@@ -496,12 +459,6 @@ put_stack-get-requires t c =
     let g = c.requires.fits.given in
     stands-live c.args.pool.now _ (g.trees c.args.stack) (g.stands c.args.stack _ c.stack_entry-entry.ensures)
 
-pub put_stack-inside_stack-inside-requires : goal.put_stack-inside_stack-inside-requires
-put_stack-inside_stack-inside-requires t c =
-    let k = stack-depth c.args.flows.now c.args.laid.now c.args.pool.now c.args.nested c.args.stack c.args.depth c.args.x c.args.y
-    c.requires.fits in
-    omega (arith, k)
-
 pub put_stack-put_tree-requires : goal.put_stack-put_tree-requires
 put_stack-put_tree-requires t c =
     let g = c.requires.fits.given in
@@ -512,7 +469,7 @@ put_stack-put_tree-requires t c =
       omega (arith, rank, c.decreases),
       (
         live,
-        rw (c.inside_stack-inside.ensures, c.stack_at-info.ensures.same, c.extent_of-extent.ensures)
+        rw (c.in_ok-inside.ensures, c.stack_at-info.ensures.same, c.extent_of-extent.ensures)
             (stack-fits c.args.flows.now c.args.laid.now p c.args.nested c.args.stack c.args.depth c.args.x c.args.y
             c.stack_entry-entry.result c.get.result.now c.stack_entry-entry.ensures c.get.ensures.node c.requires.stack
             c.requires.fits),
@@ -525,7 +482,7 @@ put_stack-returns t c = λ g.
     let same = c.stack_at-info.ensures.same in
     let u = stack-tree d c.args.laid.now c.args.pool.now c.args.nested c.args.stack c.args.depth c.args.x c.args.y
     c.stack_entry-entry.result c.get.result.now c.stack_entry-entry.ensures c.get.ensures.node g in
-    let h = (rw (c.inside_stack-inside.ensures, same, c.extent_of-extent.ensures, c.in_ok-push.ensures.ok) at
+    let h = (rw (c.in_ok-inside.ensures, same, c.extent_of-extent.ensures, c.in_ok-push.ensures.ok) at
     c.put_tree.ensures) u in
     subst (λ ls. OnOk c.put_tree.result (lines_of c.put_tree.new.out ≡ ls))
     (pushed c.args.out.now c.stack_line.result
