@@ -1,12 +1,11 @@
 -- What a line after `cert` says is what is read in it.
-use Rattle.std.proofs.Common.{◌≡◌, ℕ, ◌<◌, ◌≤◌, Bool, true, false, List, [], ◌∷◌, ◌++◌, length, map, refl, sym, ◌∙◌, ap}
+use Rattle.std.proofs.Common.{◌≡◌, ℕ, ◌<◌, Bool, true, false, List, [], ◌∷◌, ◌++◌, length, map, refl, sym, ◌∙◌, ap}
 use Rattle.std.proofs.Common.{subst}
 use Rattle.std.proofs.Common.{arith, Option, Some, None}
-use Rattle.std.specs.Prelude.{nat_le, codes, All, IfSome}
+use Rattle.std.specs.Prelude.{codes, All, IfSome}
 use Rattle.std.specs.List.{flat_map}
 use Rattle.std.specs.Fmt.{decimal}
 use Rattle.std.specs.Str.{bytes_eq}
-use Rattle.std.proofs.lemmas.Bool.Decides.{nat_tests}
 use Rattle.std.proofs.lemmas.List.{append-nil}
 use Rattle.std.proofs.lemmas.List.Elements.{All-nil, All-head}
 use Rattle.std.proofs.lemmas.Fmt.{digits_decimal, decimal_nonempty}
@@ -23,7 +22,7 @@ use Rattle.result_laws.specs.Words.{words_of, number_of, small_of, token_of, ◌
 use Rattle.result_laws.specs.Reading.{CertLine, entry, range, column, close, line_of, line_of_words, head_of_size, head_of_row}
 use Rattle.result_laws.specs.Reading.{head_of_auto, reason_of_words, range_of_words, cites_of, column_of_words}
 use Rattle.result_laws.proofs.Spelling.{words_in, text_in, IsLine, words-plain, all-without, AllWithout}
-use Rattle.result_laws.proofs.WordsBack.{joined, parted-words, parts-join, some-step, where-is, tested, same-bytes, some-same}
+use Rattle.result_laws.proofs.WordsBack.{joined, parted-words, parts-join, some-step, tested, same-bytes, some-same}
 use Rattle.result_laws.proofs.WordsBack.{number-back, number-said, small-back, small-said, numbers-back, numbers-said, token-back}
 use Rattle.result_laws.proofs.WordsBack.{token-said, cons-same}
 
