@@ -142,7 +142,7 @@ entries-gathered cites n (e ∷ es) m are =
     (ranges-gathered cites (n + 1) e.ranges are.3 (lines_in es) es are.4 (entries-gathered cites are.3 es m are.5))
     ∙ ap (λ (a : ℕ). only [] (record { at = a; head = e.head; ranges = e.ranges } ∷ es)) (sym are.0)
 
-columns-length : (cs : List CitedLine) (rest : List CertLine) → length (columns_onto cs rest) ≡ length cs + length rest
+pub columns-length : (cs : List CitedLine) (rest : List CertLine) → length (columns_onto cs rest) ≡ length cs + length rest
 columns-length [] rest = omega arith
 columns-length (c ∷ cs) rest = let k = columns-length cs rest in omega arith
 

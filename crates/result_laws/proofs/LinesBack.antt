@@ -1,12 +1,11 @@
 -- What a line after `cert` says is what is read in it.
-use Rattle.std.proofs.Common.{◌≡◌, ℕ, ◌<◌, ◌≤◌, Bool, true, false, List, [], ◌∷◌, ◌++◌, length, map, refl, sym, ◌∙◌, ap}
+use Rattle.std.proofs.Common.{◌≡◌, ℕ, ◌<◌, Bool, true, false, List, [], ◌∷◌, ◌++◌, length, map, refl, sym, ◌∙◌, ap}
 use Rattle.std.proofs.Common.{subst}
 use Rattle.std.proofs.Common.{arith, Option, Some, None}
-use Rattle.std.specs.Prelude.{nat_le, codes, All, IfSome}
+use Rattle.std.specs.Prelude.{codes, All, IfSome}
 use Rattle.std.specs.List.{flat_map}
 use Rattle.std.specs.Fmt.{decimal}
 use Rattle.std.specs.Str.{bytes_eq}
-use Rattle.std.proofs.lemmas.Bool.Decides.{nat_tests}
 use Rattle.std.proofs.lemmas.List.{append-nil}
 use Rattle.std.proofs.lemmas.List.Elements.{All-nil, All-head}
 use Rattle.std.proofs.lemmas.Fmt.{digits_decimal, decimal_nonempty}
@@ -19,12 +18,11 @@ use Rattle.flow_list.specs.Ranges.{Reason, tall, area, left, bad, over}
 use Rattle.flow_list.specs.TreeText.{token_text}
 use Rattle.flow_list.specs.ResultText.{line_words, number_or_dash, end_text, reason_words}
 use Rattle.result_laws.specs.Given.{size, balanced, filled, IsSmall, IsToken, IsReasonLine, fits_text}
-use Rattle.result_laws.specs.Words.{words_of, number_of, small_of, token_of, ◌>>=◌, dash_or}
-use Rattle.result_laws.specs.Words.{available_of, end_of_word, yes_or_no}
+use Rattle.result_laws.specs.Words.{words_of, number_of, small_of, token_of, ◌>>=◌, dash_or, end_of_word, yes_or_no}
 use Rattle.result_laws.specs.Reading.{CertLine, entry, range, column, close, line_of, line_of_words, head_of_size, head_of_row}
 use Rattle.result_laws.specs.Reading.{head_of_auto, reason_of_words, range_of_words, cites_of, column_of_words}
 use Rattle.result_laws.proofs.Spelling.{words_in, text_in, IsLine, words-plain, all-without, AllWithout}
-use Rattle.result_laws.proofs.WordsBack.{joined, parted-words, parts-join, some-step, where-is, tested, same-bytes, some-same}
+use Rattle.result_laws.proofs.WordsBack.{joined, parted-words, parts-join, some-step, tested, same-bytes, some-same}
 use Rattle.result_laws.proofs.WordsBack.{number-back, number-said, small-back, small-said, numbers-back, numbers-said, token-back}
 use Rattle.result_laws.proofs.WordsBack.{token-said, cons-same}
 
@@ -57,12 +55,9 @@ token-never (i ∷ ns) is =
 
 -- ---- a number or a dash, an end, a word
 
-available-back : (a : Option ℕ) → IfSome a (λ n. (64 ≤ n) × IsNumber n) → dash_or available_of (number_or_dash a) ≡ Some a
+available-back : (a : Option ℕ) → IfSome a IsNumber → dash_or number_of (number_or_dash a) ≡ Some a
 available-back None is = refl
-available-back (Some n) is =
-    let le = is.0 in
-    let t : nat_le 64 n ≡ true = grind (arith, nat_tests) in
-    rw (number-alone 45 n (omega arith) is.1, number-back n is.1, t) refl
+available-back (Some n) is = rw (number-alone 45 n (omega arith) is, number-back n is) refl
 
 stop-back : (a : Option ℕ) → IfSome a IsSmall → dash_or small_of (number_or_dash a) ≡ Some a
 stop-back None is = refl
@@ -85,17 +80,8 @@ dash-said read Is w a says e = tested ((w ≡ number_or_dash a) × IfSome a Is) 
     let k = says n i in
     subst (λ (b : Option ℕ). (w ≡ number_or_dash b) × IfSome b Is) (some-same (Some n) a g) (k.0, k.1)))
 
-available-one : (w : List ℕ) (n : ℕ) → available_of w ≡ Some n → (w ≡ decimal n) × ((64 ≤ n) × IsNumber n)
-available-one w n e = some-step ((w ≡ decimal n) × ((64 ≤ n) × IsNumber n)) (number_of w) _ n e (λ m i f.
-    let k = where-is (nat_le 64 m) m n f in
-    let t : nat_le 64 m ≡ true = k.0 in
-    let le : 64 ≤ m = grind (arith, nat_tests) in
-    let s = number-said w m i in
-    subst (λ (x : ℕ). (w ≡ decimal x) × ((64 ≤ x) × IsNumber x)) k.1 (s.0, (le, s.1)))
-
-available-said : (w : List ℕ) (a : Option ℕ) → dash_or available_of w ≡ Some a
-    → (w ≡ number_or_dash a) × IfSome a (λ n. (64 ≤ n) × IsNumber n)
-available-said w a e = dash-said available_of (λ n. (64 ≤ n) × IsNumber n) w a (available-one w) e
+available-said : (w : List ℕ) (a : Option ℕ) → dash_or number_of w ≡ Some a → (w ≡ number_or_dash a) × IfSome a IsNumber
+available-said w a e = dash-said number_of IsNumber w a (number-said w) e
 
 stop-said : (w : List ℕ) (a : Option ℕ) → dash_or small_of w ≡ Some a → (w ≡ number_or_dash a) × IfSome a IsSmall
 stop-said w a e = dash-said small_of IsSmall w a (small-said w) e
@@ -205,7 +191,7 @@ row-said cites w (r ∷ []) l is e = absurd cc
 row-said cites w (r ∷ q ∷ []) l is e = absurd cc
 row-said cites w (r ∷ q ∷ h ∷ []) l is e = absurd cc
 row-said cites w (r ∷ q ∷ h ∷ x ∷ []) l is e = some-step (Says cites (w ∷ r ∷ q ∷ h ∷ x ∷ []) l) (small_of r) _ l e
-    (λ r' i e. some-step (Says cites (w ∷ r ∷ q ∷ h ∷ x ∷ []) l) (dash_or available_of q) _ l e
+    (λ r' i e. some-step (Says cites (w ∷ r ∷ q ∷ h ∷ x ∷ []) l) (dash_or number_of q) _ l e
     (λ a' j e. some-step (Says cites (w ∷ r ∷ q ∷ h ∷ x ∷ []) l) (number_of h) _ l e
     (λ h' k e. some-step (Says cites (w ∷ r ∷ q ∷ h ∷ x ∷ []) l) (yes_or_no x) _ l e
     (λ x' m e.
@@ -223,7 +209,7 @@ auto-said cites w [] l is e = absurd cc
 auto-said cites w (r ∷ []) l is e = absurd cc
 auto-said cites w (r ∷ q ∷ []) l is e = absurd cc
 auto-said cites w (r ∷ q ∷ h ∷ []) l is e = some-step (Says cites (w ∷ r ∷ q ∷ h ∷ []) l) (small_of r) _ l e
-    (λ r' i e. some-step (Says cites (w ∷ r ∷ q ∷ h ∷ []) l) (dash_or available_of q) _ l e
+    (λ r' i e. some-step (Says cites (w ∷ r ∷ q ∷ h ∷ []) l) (dash_or number_of q) _ l e
     (λ a' j e. some-step (Says cites (w ∷ r ∷ q ∷ h ∷ []) l) (number_of h) _ l e
     (λ h' k e.
     let a = small-said r r' i in

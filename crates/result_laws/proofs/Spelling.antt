@@ -1,5 +1,5 @@
 -- How a line after `cert` is spelled, and its bytes.
-use Rattle.std.proofs.Common.{◌≡◌, ℕ, ◌==◌, ◌<◌, ◌≤◌, Bool, true, false, ◌||◌, List, [], ◌∷◌, ◌++◌, map, refl}
+use Rattle.std.proofs.Common.{◌≡◌, ℕ, ◌==◌, ◌<◌, Bool, true, false, ◌||◌, List, [], ◌∷◌, ◌++◌, map, refl}
 use Rattle.std.proofs.Common.{◌∙◌, arith, Option, Some, None}
 use Rattle.std.specs.Prelude.{nat_lt, codes, All, IfSome}
 use Rattle.std.specs.List.{list_any, flat_map}
@@ -94,9 +94,9 @@ token-plain (i ∷ ns) is =
     let a = all-small (i ∷ ns) is.2 in
     plain-append (decimal i) (flat_map (λ n. 46 ∷ decimal n) ns) (small-plain i a.0) (dots-plain ns a.1)
 
-available-plain : (a : Option ℕ) → IfSome a (λ n. (64 ≤ n) × IsNumber n) → Plain (number_or_dash a)
+available-plain : (a : Option ℕ) → IfSome a IsNumber → Plain (number_or_dash a)
 available-plain None is = refl
-available-plain (Some n) is = number-plain n is.1
+available-plain (Some n) is = number-plain n is
 
 stop-plain : (a : Option ℕ) → IfSome a IsSmall → Plain (number_or_dash a)
 stop-plain None is = refl

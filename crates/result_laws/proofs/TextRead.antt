@@ -33,7 +33,7 @@ Are [] (c ∷ cs) = ⊥
 Are (t ∷ ts) [] = ⊥
 Are (t ∷ ts) (c ∷ cs) = (c.text ≡ t) × (c.ended ≡ true) × Are ts cs
 
-abbrev AllPrinted : List (List ℕ) → Type 0
+abbrev pub AllPrinted : List (List ℕ) → Type 0
 AllPrinted [] = Unit {0}
 AllPrinted (t ∷ ts) = Printed t × AllPrinted ts
 
@@ -121,12 +121,12 @@ none-wrong at (b ∷ t) rest p r =
     let never : wrong b ≡ false = ap (λ (x : Bool). x && not (b == 10)) k.0 in
     wrong-goes at b (t ++ 10 ∷ rest) never ∙ none-wrong (at + 1) t rest k.1 r
 
-lines-right : (at : ℕ) (ts : List (List ℕ)) → AllPrinted ts → wrong_byte at (ended_lines ts) ≡ None
+pub lines-right : (at : ℕ) (ts : List (List ℕ)) → AllPrinted ts → wrong_byte at (ended_lines ts) ≡ None
 lines-right at [] p = refl
 lines-right at (t ∷ ts) p =
     rw (feed-last t (ended_lines ts)) (none-wrong at t (ended_lines ts) p.0 (λ k. lines-right k ts p.1))
 
-abbrev CutsPrinted : List Cut → Type 0
+abbrev pub CutsPrinted : List Cut → Type 0
 CutsPrinted [] = Unit {0}
 CutsPrinted (c ∷ cs) = Printed c.text × CutsPrinted cs
 
@@ -161,7 +161,7 @@ cuts-printed at (b ∷ bytes) e =
         (printed-grown at b (cuts (at + 1) bytes) (first-never (not_printed b) (b == 10) is never) p)
 
 -- only the last line may be without its line feed
-abbrev Whole : List Cut → Type 0
+abbrev pub Whole : List Cut → Type 0
 Whole [] = Unit {0}
 Whole (c ∷ []) = Unit {0}
 Whole (c ∷ d ∷ cs) = (c.ended ≡ true) × Whole (d ∷ cs)
@@ -190,15 +190,15 @@ cuts-whole at (b ∷ bytes) = go (b == 10) refl (cuts-whole (at + 1) bytes)
 
 -- ---- the lines after `cert`
 
-abbrev given : Bool → List (List ℕ) → ℕ → List GivenEntry → ℕ → GivenResult
+abbrev pub given : Bool → List (List ℕ) → ℕ → List GivenEntry → ℕ → GivenResult
 given cites tree cert_at entries end_at =
     record { cites = cites; tree = tree; cert_at = cert_at; entries = entries; end_at = end_at }
 
-abbrev told : Bool → List (List ℕ) → List CertLine → GivenResult
+abbrev pub told : Bool → List (List ℕ) → List CertLine → GivenResult
 told cites tree lines =
     given cites tree (2 + length tree) (gathered (3 + length tree) lines).entries (3 + length tree + length lines)
 
-abbrev okay : GivenResult → Result GivenResult Fault
+abbrev pub okay : GivenResult → Result GivenResult Fault
 okay r = Ok r
 
 -- what follows on a line that may stand, or may not
@@ -234,7 +234,7 @@ entries-step cites len tree place lines c cs = go (line_here place (line_in cite
     go None = refl
     go (Some next) = closes next (is_close next.0)
 
-entries-more : (cites : Bool) (len : ℕ) (tree : List (List ℕ)) (place q : Place) (lines : List CertLine) (c : Cut) (cs : List Cut)
+pub entries-more : (cites : Bool) (len : ℕ) (tree : List (List ℕ)) (place q : Place) (lines : List CertLine) (c : Cut) (cs : List Cut)
     (l : CertLine) → line_here place (line_in cites c) ≡ Some (l, q) → is_close l ≡ false
     → read_entries cites len tree place lines (c ∷ cs) ≡ read_entries cites len tree q (lines ++ l ∷ []) cs
 entries-more cites len tree place q lines c cs l e f =
@@ -242,7 +242,7 @@ entries-more cites len tree place q lines c cs l e f =
     ∙ ap (λ (o : Option (CertLine × Place)). after-line cites len tree lines c.at cs o) e
     ∙ ap (λ (t : Bool). after-close cites len tree lines cs (l, q) t) f
 
-entries-end : (cites : Bool) (len : ℕ) (tree : List (List ℕ)) (place q : Place) (lines : List CertLine) (c : Cut) (cs : List Cut)
+pub entries-end : (cites : Bool) (len : ℕ) (tree : List (List ℕ)) (place q : Place) (lines : List CertLine) (c : Cut) (cs : List Cut)
     (l : CertLine) → line_here place (line_in cites c) ≡ Some (l, q) → is_close l ≡ true
     → read_entries cites len tree place lines (c ∷ cs) ≡ none_after (told cites tree lines) cs
 entries-end cites len tree place q lines c cs l e f =
@@ -250,13 +250,13 @@ entries-end cites len tree place q lines c cs l e f =
     ∙ ap (λ (o : Option (CertLine × Place)). after-line cites len tree lines c.at cs o) e
     ∙ ap (λ (t : Bool). after-close cites len tree lines cs (l, q) t) f
 
-entries-off : (cites : Bool) (len : ℕ) (tree : List (List ℕ)) (place : Place) (lines : List CertLine) (c : Cut) (cs : List Cut)
+pub entries-off : (cites : Bool) (len : ℕ) (tree : List (List ℕ)) (place : Place) (lines : List CertLine) (c : Cut) (cs : List Cut)
     → line_here place (line_in cites c) ≡ None → read_entries cites len tree place lines (c ∷ cs) ≡ fault c.at 4
 entries-off cites len tree place lines c cs e =
     entries-step cites len tree place lines c cs
     ∙ ap (λ (o : Option (CertLine × Place)). after-line cites len tree lines c.at cs o) e
 
-entries-out : (cites : Bool) (len : ℕ) (tree : List (List ℕ)) (place : Place) (lines : List CertLine)
+pub entries-out : (cites : Bool) (len : ℕ) (tree : List (List ℕ)) (place : Place) (lines : List CertLine)
     → read_entries cites len tree place lines [] ≡ fault len 5
 unfolding read_entries
 entries-out cites len tree place lines = refl
@@ -269,7 +269,7 @@ here : (place q : Place) (l : CertLine) (o : Option CertLine) → o ≡ Some l �
     → line_here place o ≡ Some (l, q)
 here place q l o e f = rw (e, f) refl
 
-lines-read : (cites : Bool) (len : ℕ) (tree : List (List ℕ)) (place : Place) (lines ls : List CertLine) (cs : List Cut)
+pub lines-read : (cites : Bool) (len : ℕ) (tree : List (List ℕ)) (place : Place) (lines ls : List CertLine) (cs : List Cut)
     → Stand cites place ls → Are (map text_in ls ++ codes "end" ∷ []) cs
     → read_entries cites len tree place lines cs ≡ Ok (told cites tree (lines ++ ls))
 lines-read cites len tree place lines [] [] s a = absurd a
@@ -296,7 +296,7 @@ record Said (cites : Bool) (tree : List (List ℕ)) (place : Place) (lines : Lis
 ok-same : (x y : GivenResult) → ◌≡◌ {A = Result GivenResult Fault} (Ok x) (Ok y) → x ≡ y
 ok-same x y e = cc
 
-no-fault : (at rule : ℕ) (r : GivenResult) → ◌≡◌ {A = Result GivenResult Fault} (fault at rule) (Ok r) → ⊥
+pub no-fault : (at rule : ℕ) (r : GivenResult) → ◌≡◌ {A = Result GivenResult Fault} (fault at rule) (Ok r) → ⊥
 no-fault at rule r e = cc
 
 line-there : (cites : Bool) (c : Cut) (l : CertLine) → line_in cites c ≡ Some l
@@ -369,7 +369,7 @@ lines-said cites len tree place lines (c ∷ cs) r e =
 
 -- ---- the lines of the tree
 
-tree-more : (cites : Bool) (len : ℕ) (tree : List (List ℕ)) (c : Cut) (cs : List Cut) → is_cut c (codes "cert") ≡ false
+pub tree-more : (cites : Bool) (len : ℕ) (tree : List (List ℕ)) (c : Cut) (cs : List Cut) → is_cut c (codes "cert") ≡ false
     → read_tree cites len tree (c ∷ cs) ≡ read_tree cites len (tree ++ c.text ∷ []) cs
 unfolding read_tree
 tree-more cites len tree c cs e = go (is_cut c (codes "cert")) e
@@ -381,7 +381,7 @@ tree-more cites len tree c cs e = go (is_cut c (codes "cert")) e
     go true k = absurd cc
     go false k = refl
 
-tree-cert : (cites : Bool) (len : ℕ) (tree : List (List ℕ)) (c : Cut) (cs : List Cut) → is_cut c (codes "cert") ≡ true
+pub tree-cert : (cites : Bool) (len : ℕ) (tree : List (List ℕ)) (c : Cut) (cs : List Cut) → is_cut c (codes "cert") ≡ true
     → read_tree cites len tree (c ∷ cs) ≡ read_entries cites len tree no_range [] cs
 unfolding read_tree
 tree-cert cites len tree c cs e = go (is_cut c (codes "cert")) e
@@ -393,7 +393,7 @@ tree-cert cites len tree c cs e = go (is_cut c (codes "cert")) e
     go true k = refl
     go false k = absurd cc
 
-tree-out : (cites : Bool) (len : ℕ) (tree : List (List ℕ)) → read_tree cites len tree [] ≡ fault len 3
+pub tree-out : (cites : Bool) (len : ℕ) (tree : List (List ℕ)) → read_tree cites len tree [] ≡ fault len 3
 unfolding read_tree
 tree-out cites len tree = refl
 
@@ -404,16 +404,16 @@ other-bytes a b other = go (bytes_eq a b) refl
     go false e = refl
     go true e = absurd (other (same-bytes a b e))
 
-cut-is : (c : Cut) (text : List ℕ) → c.ended ≡ true → bytes_eq c.text text ≡ true → is_cut c text ≡ true
+pub cut-is : (c : Cut) (text : List ℕ) → c.ended ≡ true → bytes_eq c.text text ≡ true → is_cut c text ≡ true
 cut-is c text e f = rw (e, f) refl
 
 cut-other : (c : Cut) (text : List ℕ) → c.ended ≡ true → bytes_eq c.text text ≡ false → is_cut c text ≡ false
 cut-other c text e f = rw (e, f) refl
 
-same-text : (a b : List ℕ) → a ≡ b → bytes_eq a b ≡ true
+pub same-text : (a b : List ℕ) → a ≡ b → bytes_eq a b ≡ true
 same-text a b e = (bytes_eq-Decides a b).1 e
 
-tree-read : (cites : Bool) (len : ℕ) (tree more : List (List ℕ)) (ls : List CertLine) (cs : List Cut) → All IsTreeText more
+pub tree-read : (cites : Bool) (len : ℕ) (tree more : List (List ℕ)) (ls : List CertLine) (cs : List Cut) → All IsTreeText more
     → Stand cites no_range ls → Are (more ++ (codes "cert" ∷ (map text_in ls ++ codes "end" ∷ []))) cs
     → read_tree cites len tree cs ≡ Ok (told cites (tree ++ more) ls)
 tree-read cites len tree [] ls [] a s are = absurd are
@@ -440,7 +440,7 @@ record TreeSaid (cites : Bool) (tree : List (List ℕ)) (cs : List Cut) (r : Giv
   are : Are (more ++ (codes "cert" ∷ (map text_in lines ++ codes "end" ∷ []))) cs
   is : r ≡ told cites (tree ++ more) lines
 
-printed-bytes : (t : List ℕ) → Printed t → All (λ b. (32 ≤ b) × (b ≤ 126)) t
+pub printed-bytes : (t : List ℕ) → Printed t → All (λ b. (32 ≤ b) × (b ≤ 126)) t
 printed-bytes [] p = All-nil (λ b. (32 ≤ b) × (b ≤ 126))
 printed-bytes (b ∷ t) p =
     let k = or_parts (not_printed b) (list_any not_printed t) p in
@@ -462,7 +462,7 @@ bytes-printed (b ∷ t) a =
     or_from (not_printed b) (list_any not_printed t) (or_from (nat_lt b 32) (nat_lt 126 b) low high)
     (bytes-printed t (All-tail (λ b. (32 ≤ b) × (b ≤ 126)) b t a))
 
-cut-parts : (c : Cut) (text : List ℕ) → is_cut c text ≡ true → (c.ended ≡ true) × (c.text ≡ text)
+pub cut-parts : (c : Cut) (text : List ℕ) → is_cut c text ≡ true → (c.ended ≡ true) × (c.text ≡ text)
 cut-parts c text e = go c.ended refl e
   where
     go : (t : Bool) → c.ended ≡ t → (t && bytes_eq c.text text) ≡ true → (c.ended ≡ true) × (c.text ≡ text)
@@ -514,11 +514,11 @@ tree-said cites len tree (c ∷ cs) r w p e =
 
 -- ---- the first line
 
-first-none : (len : ℕ) → read_first len [] ≡ fault 0 2
+pub first-none : (len : ℕ) → read_first len [] ≡ fault 0 2
 unfolding read_first
 first-none len = refl
 
-first-one : (len : ℕ) (c : Cut) (cs : List Cut) → is_cut c (codes "mcol 1") ≡ true
+pub first-one : (len : ℕ) (c : Cut) (cs : List Cut) → is_cut c (codes "mcol 1") ≡ true
     → read_first len (c ∷ cs) ≡ read_tree false len [] cs
 unfolding read_first
 first-one len c cs e = go (is_cut c (codes "mcol 1")) (is_cut c (codes "mcol 2")) e
@@ -530,7 +530,7 @@ first-one len c cs e = go (is_cut c (codes "mcol 1")) (is_cut c (codes "mcol 2")
     go true u k = refl
     go false u k = absurd cc
 
-first-two : (len : ℕ) (c : Cut) (cs : List Cut) → is_cut c (codes "mcol 1") ≡ false → is_cut c (codes "mcol 2") ≡ true
+pub first-two : (len : ℕ) (c : Cut) (cs : List Cut) → is_cut c (codes "mcol 1") ≡ false → is_cut c (codes "mcol 2") ≡ true
     → read_first len (c ∷ cs) ≡ read_tree true len [] cs
 unfolding read_first
 first-two len c cs e f = go (is_cut c (codes "mcol 1")) (is_cut c (codes "mcol 2")) e f
@@ -543,7 +543,7 @@ first-two len c cs e f = go (is_cut c (codes "mcol 1")) (is_cut c (codes "mcol 2
     go false true k l = refl
     go false false k l = absurd cc
 
-first-off : (len : ℕ) (c : Cut) (cs : List Cut) → is_cut c (codes "mcol 1") ≡ false → is_cut c (codes "mcol 2") ≡ false
+pub first-off : (len : ℕ) (c : Cut) (cs : List Cut) → is_cut c (codes "mcol 1") ≡ false → is_cut c (codes "mcol 2") ≡ false
     → read_first len (c ∷ cs) ≡ fault 0 2
 unfolding read_first
 first-off len c cs e f = go (is_cut c (codes "mcol 1")) (is_cut c (codes "mcol 2")) e f
@@ -585,7 +585,7 @@ first-said len c cs r e = go (is_cut c (codes "mcol 1")) (is_cut c (codes "mcol 
 
 -- ---- the whole text
 
-right-read : (text : List ℕ) → wrong_byte 0 text ≡ None → result_of text ≡ read_first (length text) (cuts 0 text)
+pub right-read : (text : List ℕ) → wrong_byte 0 text ≡ None → result_of text ≡ read_first (length text) (cuts 0 text)
 unfolding result_of
 right-read text e = go (wrong_byte 0 text) e
   where
@@ -599,7 +599,7 @@ right-read text e = go (wrong_byte 0 text) e
 abbrev wrong-at : ℕ → Result GivenResult Fault
 wrong-at n = fault n 1
 
-wrong-read : (text : List ℕ) (n : ℕ) → wrong_byte 0 text ≡ Some n → result_of text ≡ fault n 1
+pub wrong-read : (text : List ℕ) (n : ℕ) → wrong_byte 0 text ≡ Some n → result_of text ≡ fault n 1
 unfolding result_of
 wrong-read text n e = go (wrong_byte 0 text) e
   where
@@ -647,7 +647,7 @@ all-printed r a m n e =
           (tree-printed r.tree a) (refl, printed-both (map text_in (lines_in r.entries)) (codes "end" ∷ []) cert (refl, tt)),
     )
 
-lines-in-first : (cites : Bool) (len : ℕ) (ts : List (List ℕ)) (cs : List Cut) (r : GivenResult) → Are (first_text cites ∷ ts) cs
+pub lines-in-first : (cites : Bool) (len : ℕ) (ts : List (List ℕ)) (cs : List Cut) (r : GivenResult) → Are (first_text cites ∷ ts) cs
     → ((ds : List Cut) → Are ts ds → read_tree cites len [] ds ≡ Ok r) → read_first len cs ≡ Ok r
 lines-in-first cites len ts [] r a later = absurd a
 lines-in-first cites len ts (c ∷ cs) r a later = first-read cites len c cs a.0 a.1 ∙ later cs a.2

@@ -22,7 +22,7 @@ use Rattle.result_laws.proofs.Spelling.{Without, AllWithout, AllSmall, all-small
 
 -- ---- parts
 
-parted-step : (stop b : ℕ) (bytes : List ℕ) → (b == stop) ≡ false → parted stop (b ∷ bytes) ≡ onto b (parted stop bytes)
+pub parted-step : (stop b : ℕ) (bytes : List ℕ) → (b == stop) ≡ false → parted stop (b ∷ bytes) ≡ onto b (parted stop bytes)
 unfolding parted
 parted-step stop b bytes e = go (b == stop) e
   where
@@ -32,7 +32,7 @@ parted-step stop b bytes e = go (b == stop) e
     go true k = cc
     go false k = refl
 
-parted-stop : (stop b : ℕ) (bytes : List ℕ) → (b == stop) ≡ true → parted stop (b ∷ bytes) ≡ [] ∷ parted stop bytes
+pub parted-stop : (stop b : ℕ) (bytes : List ℕ) → (b == stop) ≡ true → parted stop (b ∷ bytes) ≡ [] ∷ parted stop bytes
 unfolding parted
 parted-stop stop b bytes e = go (b == stop) e
   where
@@ -42,7 +42,7 @@ parted-stop stop b bytes e = go (b == stop) e
     go true k = refl
     go false k = cc
 
-parted-none : (stop : ℕ) → parted stop [] ≡ [] ∷ []
+pub parted-none : (stop : ℕ) → parted stop [] ≡ [] ∷ []
 unfolding parted
 parted-none stop = refl
 

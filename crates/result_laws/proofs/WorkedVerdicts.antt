@@ -106,6 +106,12 @@ six-cut : cut_says six (six_text (codes "row 0 - 40 yes" ∷ codes "range 0 20 t
 unfolding cut_says
 six-cut = refl
 
+-- less is given as available than a row can have
+six-less : says six (six_text (codes "row 0 10 40 yes" ∷ codes "range 0 20 tall 0" ∷ codes "range 20 40 area" ∷ []))
+    ≡ codes "no 14 avail" ∷ codes "expected -" ∷ codes "found 10" ∷ []
+unfolding says
+six-less = refl
+
 -- forged results
 six-hole : says six (six_text (codes "row 0 - 40 yes" ∷ codes "range 5 20 tall 0" ∷ codes "range 20 40 area" ∷ []))
     ≡ codes "no 15 hole" ∷ codes "expected 0" ∷ codes "found 5" ∷ []

@@ -89,8 +89,8 @@ IsToken q = (1 ≤ length q) × (length q ≤ 3) × All IsSmall q
 
 abbrev pub IsHeadLine : Head → Type 0
 IsHeadLine (size r q h) = IsSmall r × IsToken q × IsNumber h
-IsHeadLine (balanced r a h fits) = IsSmall r × IfSome a (λ n. (64 ≤ n) × IsNumber n) × IsNumber h
-IsHeadLine (filled r a h) = IsSmall r × IfSome a (λ n. (64 ≤ n) × IsNumber n) × IsNumber h
+IsHeadLine (balanced r a h fits) = IsSmall r × IfSome a IsNumber × IsNumber h
+IsHeadLine (filled r a h) = IsSmall r × IfSome a IsNumber × IsNumber h
 
 abbrev pub IsReasonLine : Reason → Type 0
 IsReasonLine (tall k) = IsSmall k

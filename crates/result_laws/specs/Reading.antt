@@ -6,7 +6,7 @@ use Rattle.mc_base.specs.declared.read_error.Fault.{Fault}
 use Rattle.flow_text.specs.Text.{Cut, cuts}
 use Rattle.flow_list.specs.Ranges.{Reason, tall, area, left, bad, over}
 use Rattle.result_laws.specs.Given.{Head, size, balanced, filled, CitedLine, GivenRange, GivenEntry, GivenResult}
-use Rattle.result_laws.specs.Words.{words_of, ◌>>=◌, number_of, small_of, numbers_of, token_of, dash_or, available_of}
+use Rattle.result_laws.specs.Words.{words_of, ◌>>=◌, number_of, small_of, numbers_of, token_of, dash_or}
 use Rattle.result_laws.specs.Words.{end_of_word, yes_or_no}
 
 -- a line after `cert`
@@ -23,12 +23,12 @@ head_of_size (r ∷ q ∷ h ∷ []) = small_of r >>= λ r. token_of q >>= λ q. 
 head_of_size _ = None
 
 abbrev pub head_of_row : List (List ℕ) → Option CertLine
-head_of_row (r ∷ a ∷ h ∷ fits ∷ []) = small_of r >>= λ r. dash_or available_of a >>= λ a. number_of h >>= λ h.
+head_of_row (r ∷ a ∷ h ∷ fits ∷ []) = small_of r >>= λ r. dash_or number_of a >>= λ a. number_of h >>= λ h.
     yes_or_no fits >>= λ fits. Some (entry (balanced r a h fits))
 head_of_row _ = None
 
 abbrev pub head_of_auto : List (List ℕ) → Option CertLine
-head_of_auto (r ∷ a ∷ h ∷ []) = small_of r >>= λ r. dash_or available_of a >>= λ a. number_of h >>= λ h.
+head_of_auto (r ∷ a ∷ h ∷ []) = small_of r >>= λ r. dash_or number_of a >>= λ a. number_of h >>= λ h.
     Some (entry (filled r a h))
 head_of_auto _ = None
 

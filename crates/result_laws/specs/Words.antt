@@ -52,9 +52,6 @@ token_of word = smalls_of (parted 46 word) >>= λ q. where_true (nat_le (length 
 abbrev pub dash_or : (List ℕ → Option ℕ) → List ℕ → Option (Option ℕ)
 dash_or read word = if bytes_eq word (codes "-") then Some None else (read word >>= λ n. Some (Some n))
 
-abbrev pub available_of : List ℕ → Option ℕ
-available_of word = number_of word >>= λ n. where_true (nat_le 64 n) n
-
 abbrev pub end_of_word : List ℕ → Option (Option Token)
 end_of_word word = if bytes_eq word (codes "!") then Some None else (token_of word >>= λ q. Some (Some q))
 
