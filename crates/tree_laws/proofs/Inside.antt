@@ -1,5 +1,5 @@
 -- The tree of a stack names only parts that there are: by how it is made, from the stack inwards.
-use Rattle.std.proofs.Common.{◌≡◌, ℕ, zero, suc, ◌<◌, Bool, true, false, cond, List, [], ◌∷◌, ◌++◌, length, refl, subst, arith}
+use Rattle.std.proofs.Common.{◌≡◌, ℕ, zero, suc, ◌<◌, Bool, true, false, cond, List, [], ◌∷◌, ◌++◌, length, refl, arith}
 use Rattle.std.specs.List.{AllByRecursion as Each}
 use Rattle.std.proofs.lemmas.Bool.Decides.{nat_tests}
 use Rattle.mc_base.specs.PlainTree.{PlainTree, plain_trees}
@@ -10,7 +10,7 @@ use Rattle.flow_list.specs.Tokens.{Token, item_number, is_end}
 use Rattle.flow_list.specs.Column.{Column}
 use Rattle.flow_list.specs.Rows.{columns_by, rows_to}
 use Rattle.flow_list.specs.Placing.{RowLaid, Placed, opens_at, closes_at, atom_at, row_at}
-use Rattle.flow_list.specs.Fragments.{closes_here, inside_box, behind_box, trees_of, all_trees, column_made, fragment_of}
+use Rattle.flow_list.specs.Fragments.{closes_here, inside_box, behind_box, trees_of, column_made, fragment_of}
 use Rattle.flow_list.specs.Fragments.{fragments_from, columns_wanted, row_fragments, stack_fragment, places_in, laid_start, laid_to}
 use Rattle.flow_list.specs.Fragments.{stop_of}
 use Rattle.flow_laws.proofs.Descent.{row-known}

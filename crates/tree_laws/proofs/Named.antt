@@ -14,7 +14,7 @@ use Rattle.flow_list.specs.Tokens.{Token, row_start, item_number, within}
 use Rattle.flow_list.specs.Strip.{Strip, strip_at, put, lay, lay_all, begins}
 use Rattle.flow_list.specs.Column.{Inner, Step, height_of, is_forced, row_from, room, start_strip, strip_behind}
 use Rattle.flow_list.specs.Stacks.{height_in_stack, stack_strip}
-use Rattle.flow_list.specs.Placing.{RowLaid, Laid, margin, solid, wall, opens, closes, atom, row, laid_edge, laid_edges, ends_gap}
+use Rattle.flow_list.specs.Placing.{Laid, margin, solid, wall, opens, closes, atom, row, laid_edge, laid_edges, ends_gap}
 use Rattle.flow_list.specs.Placing.{gap_of, behind_gap, gap_height, Placed, opens_at, closes_at, atom_at, row_at, placed_in_gap}
 use Rattle.flow_list.specs.Placing.{gap_places, placed_item, laid_height, places_from}
 use Rattle.flow_list.specs.Fragments.{laid_item, laid_items, laid_start, laid_before, laid_filled, filled_row, laid_to, strip_after}

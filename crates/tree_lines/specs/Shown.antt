@@ -10,7 +10,7 @@ use Rattle.flow_list.specs.Data.{AtomKind, FlowsData, Item, RowInfo, Plain, Line
 use Rattle.flow_data.specs.Flows.{flow_of, stack_of, item_of}
 use Rattle.flow_list.specs.declared.laid.Laid.{Laid}
 use Rattle.flow_list.specs.declared.laid.LaidStack.{LaidStack}
-use Rattle.flow_list.specs.Tree.{TreeKind, TreeLine, Frame, stack, row, col, box, line, void, image, atom, extent_of}
+use Rattle.flow_list.specs.Tree.{TreeLine, Frame, stack, extent_of}
 use Rattle.flow_list.specs.Tree.{lines_of_tree, lines_of_trees, lines_of_columns, lines_of_column, item_lines}
 use Rattle.frag_pool.specs.Nodes.{Nodes}
 use Rattle.frag_pool.specs.Standing.{StandsFor, AllStandFor}

@@ -186,12 +186,7 @@ pub fn column_line(at: RowPlace, index: u32) -> Result<TreeLine, NoMemory>
 }
 
 /// The place inside a column of a piece of a row, of a flow that reaches this far there.
-pub fn inside_column(
-    at: RowPlace,
-    index: u32,
-    flow: u32,
-    extent: Units,
-) -> Result<Place, NoMemory>
+pub fn inside_column(at: RowPlace, index: u32, flow: u32, extent: Units) -> Result<Place, NoMemory>
     requires { at.x + index * at.step < 2 ^ 64 }
     ensures { IfOk result (λ inside. inside ≡ record {
       flow = flow;

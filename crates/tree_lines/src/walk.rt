@@ -12,8 +12,8 @@ ghost use Rattle.tree_lines.specs.Shown.{trees_lines, Column, ColumnFits, column
 
 use crate::line::TreeLine;
 use crate::place::{
-    Place, RowPlace, box_line, column_line, column_number, height_at, inside_box, inside_column, inside_stack,
-    line_of_atom, row_line, row_place, stack_line,
+    Place, RowPlace, box_line, column_line, column_number, height_at, inside_box, inside_column,
+    inside_stack, line_of_atom, row_line, row_place, stack_line,
 };
 use flow_list::{
     AtomKind, Counts, Flows, Item, Laid, LaidStack, box_at, flow_counts, item_at, row_at, stack_at,
