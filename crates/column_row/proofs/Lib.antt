@@ -1,5 +1,8 @@
 pub mod ColumnLoops
 pub mod ColumnWalk
+pub mod HeightsBelow
+pub mod MadeColumns
 pub mod Passages
 pub mod RowColumns
-pub mod HeightsBelow
+pub mod SoFar
+pub mod ToldColumns
