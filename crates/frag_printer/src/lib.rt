@@ -1,18 +1,9 @@
-//! The tree of a layout as text: a line for each stack, row, column, box and atom, with its rectangle.
+//! The tree of a layout as text: a line for each stack, row, column, box and item, with its rectangle.
 //!
-//! It stands on flow_data and flow_list, and its proofs on flow_laws too. It promises the text that the definitions of
-//! flow_list give, for one stack whose rows hold atoms alone, or tells that it has more bytes than a limit.
-//! `available_in` tells what height a row may use in a stack.
+//! It stands on mc_base, flow_list, frag_pool, tree_lines and tree_laws. It lays out nothing: it prints the fragments that a
+//! layout's ids name. It promises the text of the flows' tree, or tells that it has more bytes than a limit.
 #![tactic(auto)]
 
-mod columns;
-mod lines;
-mod output;
-mod parts;
-mod placing;
-mod rows;
-mod stack;
-mod tree;
+mod write;
 
-pub use stack::available_in;
-pub use tree::{write_flat, write_flat_within};
+pub use write::{write_tree, write_tree_within};

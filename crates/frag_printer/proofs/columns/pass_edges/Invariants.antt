@@ -1,6 +1,0 @@
-use Rattle.std.proofs.Common.{◌≡◌, drop, fold}
-use Rattle.frag_printer.specs.Columns.{opened_by}
-use Rattle.frag_printer.proofs.columns.pass_edges.Given as goal
-
-abbrev pub invariant-loop-edge : goal.invariant-loop-edge
-invariant-loop-edge l = fold opened_by l.boxes.items (drop l.edge-index l.edges) ≡ fold opened_by l.initial.boxes.items l.edges
