@@ -5,6 +5,7 @@
 //! the way down.
 #![tactic(auto)]
 
+mod pages;
 mod pool;
 #[cfg(test)]
 mod tests;

@@ -8,6 +8,7 @@ ghost use Rattle.frag_pool.specs.Nodes.{IsBelow, IsClosed, IsKept, IsLive, IsOve
 ghost use Rattle.frag_pool.specs.Nodes.{kept_more, no_nodes, node_of, node_with, trial_more};
 ghost use Rattle.frag_pool.specs.Standing.{StandsFor, Equals};
 
+use crate::pages::Pages;
 use mc_base::{FragId, List, NoMemory, Node};
 use std::alloc::Global;
 use std::marker::Model;
@@ -15,8 +16,8 @@ use std::marker::Model;
 /// A region of fragments. Contracts see its nodes, which name live ones alone, each made before it.
 #[derive(Drop)]
 pub struct Pool {
-    kept: Vec<Node>,
-    trial: Vec<Node>,
+    kept: Pages,
+    trial: Pages,
 }
 
 impl Model for Pool {
@@ -24,9 +25,9 @@ impl Model for Pool {
 
     ghost Value = { Nodes };
 
-    ghost view = { λ p. record { kept = p.kept.items; trial = p.trial.items } };
+    ghost view = { λ p. record { kept = p.kept; trial = p.trial } };
 
-    ghost invariant = { λ p. IsClosed (record { kept = p.kept.items; trial = p.trial.items }) };
+    ghost invariant = { λ p. IsClosed (record { kept = p.kept; trial = p.trial }) };
 }
 
 /// A count of trial nodes.
@@ -47,8 +48,8 @@ impl Pool {
         ensures { result ≡ no_nodes }
     {
         Pool {
-            kept: Vec::new(alloc),
-            trial: Vec::new(alloc),
+            kept: Pages::new(alloc),
+            trial: Pages::new(alloc),
         }
     }
 
@@ -59,8 +60,8 @@ impl Pool {
         ensures below { All (IsBelow self.now id) (ids_of result.now) }
     {
         match id {
-            FragId::Kept(n) => &self.kept[n as usize],
-            FragId::Trial(n) => &self.trial[n as usize],
+            FragId::Kept(n) => self.kept.get(n),
+            FragId::Trial(n) => self.trial.get(n),
         }
     }
 
@@ -71,7 +72,7 @@ impl Pool {
         ensures stands { (id : FragId) → IsLive self.now id → (tree : PlainTree) × StandsFor self.now id tree }
     {
         Mark {
-            trial: self.trial.len() as u64,
+            trial: self.trial.len(),
         }
     }
 
@@ -82,7 +83,7 @@ impl Pool {
         ensures stands { (id : FragId) (tree : PlainTree) → IsLive self.new id → StandsFor self.old id tree →
             StandsFor self.new id tree }
     {
-        self.trial.truncate(mark.trial as usize);
+        self.trial.truncate(mark.trial);
     }
 
     /// Adds a trial node.
@@ -93,10 +94,8 @@ impl Pool {
         ensures err { OnErr result (self.new ≡ self.old) }
         ensures back { IfErr result (λ back. back.node ≡ node) }
     {
-        let number = self.trial.len() as u64;
-        if let Err(failed) = self.trial.push(node) {
-            return Err(NodeBack { node: failed.value });
-        }
+        let number = self.trial.len();
+        self.trial.push(node)?;
         Ok(FragId::Trial(number))
     }
 
@@ -109,10 +108,8 @@ impl Pool {
         ensures err { OnErr result (self.new ≡ self.old) }
         ensures back { IfErr result (λ back. back.node ≡ node) }
     {
-        let number = self.kept.len() as u64;
-        if let Err(failed) = self.kept.push(node) {
-            return Err(NodeBack { node: failed.value });
-        }
+        let number = self.kept.len();
+        self.kept.push(node)?;
         Ok(FragId::Kept(number))
     }
 
@@ -131,7 +128,7 @@ impl Pool {
         if let FragId::Kept(_) = id {
             return Ok(id);
         }
-        let mut ids = List::new(*self.trial.allocator());
+        let mut ids = List::new(self.trial.allocator());
         for i in 0..ids_in(self.get(id)).len() {
             let kid = id_in(self.get(id), i);
             ids.push(self.promote(kid)?)?;
