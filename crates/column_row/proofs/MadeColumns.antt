@@ -1,12 +1,12 @@
 -- The columns that a fold makes one after another: each further one, and where there are no more; what they cost to make.
 use Rattle.std.proofs.Common.{◌≡◌, ℕ, ◌+◌, ◌-◌, ◌≤◌, Bool, true, false, cond, ◌||◌, List, [], ◌∷◌, ◌++◌, length}
-use Rattle.std.proofs.Common.{refl, sym, ◌∙◌, ap, arith, length-append}
+use Rattle.std.proofs.Common.{refl, sym, ◌∙◌, ap, arith}
 use Rattle.std.specs.List.{list_any}
 use Rattle.std.proofs.lemmas.List.{append-nil}
 use Rattle.std.proofs.lemmas.List.Concat.{flat_map-append}
 use Rattle.flow_data.specs.declared.data.Flow.{Flow}
 use Rattle.flow_data.specs.declared.data.FlowsData.{FlowsData}
-use Rattle.flow_list.specs.Certificate.{Use, uses_of}
+use Rattle.flow_list.specs.Certificate.{uses_of}
 use Rattle.flow_list.specs.Column.{Column, Inner, column}
 use Rattle.flow_list.specs.Folds.{Folding, every, fitting, columns_made}
 use Rattle.flow_list.specs.Looks.{look_cost}
@@ -79,8 +79,11 @@ module _ (inner : Inner) (d : FlowsData) (f : Flow) (q : Token) (h : ℕ) where
       go : (b : Bool) → list_any fails (first n) ≡ b → (rest : List Column) × (to_failure (first m)
           ≡ to_failure (first n) ++ rest)
       go true e = ([], ap to_failure (parts n m le) ∙ up-to-before fails (first n) rest e ∙ sym (append-nil (to_failure (first n))))
-      go false e = (to_failure rest, ap to_failure (parts n m le) ∙ up-to-behind fails (first n) rest e
-          ∙ ap (λ cs. cs ++ to_failure rest) (sym (up-to-all fails (first n) e)))
+      go false e = (
+        to_failure rest,
+        ap to_failure (parts n m le) ∙ up-to-behind fails (first n) rest e
+            ∙ ap (λ cs. cs ++ to_failure rest) (sym (up-to-all fails (first n) e)),
+      )
 
   -- there are no more
   pub made-over : (folding : Folding) (n m : ℕ) → n ≤ m →

@@ -1,6 +1,6 @@
 -- What is known of the columns that were made so far: before the first, after each further one, and where no more are made.
 use Rattle.std.proofs.Common.{Result, Ok, Err, IfOk, OnOk, OnErr, ◌≡◌, ℕ, ◌+◌, ◌<◌, ◌≤◌, Bool, true, false, List, [], ◌∷◌, ◌++◌}
-use Rattle.std.proofs.Common.{length, refl, sym, subst, ◌∙◌, ap, arith, inl, inr}
+use Rattle.std.proofs.Common.{length, sym, subst, ◌∙◌, ap, arith, inl, inr}
 use Rattle.std.specs.Prelude.{All, Some, None}
 use Rattle.std.specs.List.{list_any}
 use Rattle.mc_base.specs.PlainTree.{PlainTrees, row_piece}

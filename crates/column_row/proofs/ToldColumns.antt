@@ -5,7 +5,7 @@ use Rattle.std.specs.List.{list_any}
 use Rattle.std.proofs.lemmas.List.{append-nil}
 use Rattle.std.proofs.lemmas.List.Folds.{list_any-append}
 use Rattle.flow_data.specs.declared.data.Flow.{Flow}
-use Rattle.flow_list.specs.Column.{Column, ColumnLine, rank}
+use Rattle.flow_list.specs.Column.{Column, rank}
 use Rattle.flow_list.specs.Folds.{Folded, folded_by, shortage}
 use Rattle.flow_list.specs.Ranges.{bounds_of, lines_of}
 use Rattle.flow_list.specs.RowHeights.{is_unforced}

@@ -127,11 +127,7 @@ fn least_short(first: Option<Units>, second: Option<Units>) -> Option<Units>
 
 /// How far above their height the least is at which one of the columns may change, where one more is added: none counts after
 /// the first that overflows.
-fn short_with(
-    overflow: bool,
-    short: Option<Units>,
-    more: Option<Units>,
-) -> Option<Units>
+fn short_with(overflow: bool, short: Option<Units>, more: Option<Units>) -> Option<Units>
     ensures { result ≡ cond overflow short (lesser short more) }
 {
     if overflow {

@@ -120,7 +120,9 @@ fn next_column<I: InnerRows, C: Tally>(
     let _counts = flow_counts(flows);
     flows_are_sound();
     let flow = row_at(flows, row).flow;
-    let made = column(alloc, inner, flows, flow, &told.end, height, book, pool, tally)?;
+    let made = column(
+        alloc, inner, flows, flow, &told.end, height, book, pool, tally,
+    )?;
     with_column(flows, flow, told, made)
 }
 
@@ -229,7 +231,9 @@ fn made_fold<I: InnerRows, C: Tally>(
 {
     // In sealed flows, which are sound, the flow of a row is one of theirs.
     let _counts = flow_counts(flows);
-    let told = made_columns(alloc, inner, flows, row, from, height, most, mode, book, pool, tally)?;
+    let told = made_columns(
+        alloc, inner, flows, row, from, height, most, mode, book, pool, tally,
+    )?;
     let at_end = is_at_end(flows, row_at(flows, row).flow, &told.end);
     let frag = piece_of(pool, row, from, told.frags)?;
     Ok(FoldOut {

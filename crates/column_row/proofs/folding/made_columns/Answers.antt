@@ -1,4 +1,4 @@
-use Rattle.std.proofs.Common.{◌≡◌, ◌∙◌, ap, refl, sym, arith, false, true}
+use Rattle.std.proofs.Common.{◌≡◌, ◌∙◌, ap, refl, sym, arith}
 use Rattle.flow_data.specs.Flows.{flow_in, flow_of}
 use Rattle.flow_data.specs.declared.data.RowInfo.{RowInfo}
 use Rattle.flow_list.specs.Entries.{uses_in}
@@ -6,7 +6,7 @@ use Rattle.frag_pool.proofs.Growth.{grows-refl, grows-trans}
 use Rattle.inner_rows.proofs.Calls.{book-refl, book-trans}
 use Rattle.column_row.specs.Adding.{is_over}
 use Rattle.column_row.specs.Folding.{folding_of}
-use Rattle.column_row.proofs.SoFar.{goes-on, made-count, made-first, made-last, made-next, next-cost, place-inside, row-flow}
+use Rattle.column_row.proofs.SoFar.{goes-on, made-count, made-first, made-last, made-next, next-cost, place-inside}
 use Rattle.column_row.proofs.folding.made_columns.Goals as goal
 
 pub loop-init : goal.loop-init

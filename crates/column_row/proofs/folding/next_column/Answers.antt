@@ -1,13 +1,11 @@
-use Rattle.std.proofs.Common.{◌≡◌, ◌∙◌, ap, sym, subst}
+use Rattle.std.proofs.Common.{◌∙◌, ap, sym, subst}
 use Rattle.flow_data.specs.Flows.{flow_in, flow_of, row_of}
 use Rattle.flow_data.specs.declared.data.RowInfo.{RowInfo}
 use Rattle.flow_list.specs.Book.{after_uses}
 use Rattle.flow_list.specs.Column.{column}
 use Rattle.flow_list.specs.Entries.{uses_in}
-use Rattle.flow_list.specs.Looks.{look_cost}
 use Rattle.flow_list.specs.Rows.{all_rows}
 use Rattle.frag_pool.specs.Standing.{StandsFor}
-use Rattle.frag_pool.proofs.Growth.{grows-same-trial}
 use Rattle.column_maker.specs.Making.{tree_of_column}
 use Rattle.column_row.proofs.SoFar.{column-place, frags-next, on-ok, place-next, row-flow, some-items, told-next}
 use Rattle.column_row.proofs.folding.next_column.Goals as goal
