@@ -1,0 +1,11 @@
+pub mod FilledHeights
+pub mod Laying
+pub mod Numbers
+pub mod PieceParts
+pub mod Results
+pub mod Rooms
+pub mod RowParts
+pub mod StackParts
+pub mod Standing
+pub mod Tables
+pub mod Walks
