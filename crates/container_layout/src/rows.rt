@@ -12,7 +12,8 @@ ghost use Rattle.inner_rows.specs.TrueBook.{AreTrue, BookAfter};
 ghost use Rattle.container_layout.specs.Laid.{piece_in_stack, row_fits};
 
 use crate::pieces::piece_with;
-use balancer::{FoldMode, fold, least};
+use balancer::least;
+use column_row::{FoldMode, fold};
 use flow_list::{Book, Counts, Flows, Range, flow_counts, row_at};
 use frag_pool::Pool;
 use inner_rows::InnerRows;
