@@ -1,5 +1,7 @@
-pub mod Pieces
+pub mod Agree
 pub mod Causes
+pub mod Numbers
 pub mod OneFlow
-pub mod FlatFile
 pub mod OneReason
+pub mod Pieces
+pub mod Stopping

@@ -1,7 +1,9 @@
--- Bytes are one flow file at most, and what is refused has a reason that no accepted file has.
-use Rattle.std.proofs.Common.{◌≡◌, ◌⊎◌, inl, inr, ℕ, List, None, Some, Result, Ok, Err, refl, sym, ◌∙◌, ap, subst}
+-- Bytes are one flow file at most. They are refused for one reason at most, and then they have no result.
+use Rattle.std.proofs.Common.{◌≡◌, ◌⊎◌, inl, inr, ℕ, ◌<◌, ◌≤◌, List, length, None, Some, Result, Ok, Err, refl, sym, ◌∙◌, ap, subst}
+use Rattle.std.proofs.Common.{arith}
 use Rattle.std.specs.Prelude.{IfErr, MatchResult}
 use Rattle.mc_base.specs.declared.refusal.Input.{Input}
+use Rattle.mc_base.specs.declared.refusal.LimitName.{LimitName}
 use Rattle.mc_base.specs.declared.refusal.Refusal.{Refusal}
 use Rattle.mc_base.specs.declared.refusal.Refusal.TheVariants.{Grammar, Construct, Limit, NoMemory}
 use Rattle.mc_base.specs.declared.refusal.Rule.{Rule}
@@ -9,13 +11,16 @@ use Rattle.mc_base.specs.declared.read_error.Fault.{Fault}
 use Rattle.flow_text.specs.declared.line.Line.{Line}
 use Rattle.flow_text.specs.Grammar.{FlowFile, IsFlowFile, file_lines}
 use Rattle.flow_text.specs.Text.{lines_of}
+use Rattle.flow_text.specs.Answer.{refusal_of}
 use Rattle.flow_text.proofs.AnswerLaws.{passed_limit}
 use Rattle.flow_text.proofs.Complete.{file_is_read}
+use Rattle.flow_text.proofs.OneFault.{one_fault}
 use Rattle.flow_text.proofs.TextLaws.{text_again}
 use Rattle.flow_text.proofs.Unique.{one_file}
 use Rattle.flow_list.specs.Data.{FlowsData}
 use Rattle.flow_list.specs.FileFlows.{IsFile, RefusesText, flows_of, limit_of}
-use Rattle.mc_run.specs.Outcome.{FlowSays, IsNoFlowFile, RefusesBytes}
+use Rattle.mc_run.specs.FlowResult.{result_limit, FlowSays, IsNoFlowFile, IsFlowResult, HasLongResult, RefusesBytes}
+use Rattle.mc_run.specs.Printed.{result_text}
 
 abbrev read_as : List Line → Result (List Line) Fault
 read_as lines = Ok lines
@@ -70,3 +75,56 @@ reader_result text (Ok flows) refusal is only refused = absurd cc
 reader_result text (Err e) refusal is only refused =
     let same : e ≡ refusal = cc in
     subst (λ r. (r ≡ NoMemory) ⊎ RefusesBytes text r) same (reader_refuses text e only refused)
+
+-- ---- one reason
+
+same_limit : (a b : Refusal) (file : FlowFile) → limit_of file ≡ Some a → limit_of file ≡ Some b → a ≡ b
+same_limit a b file h k = let same : Some a ≡ Some b = sym h ∙ k in cc
+
+-- a flow file that has flows within its limits is refused by no limit but that of its result
+both_limits : (bytes : List ℕ) (name other : LimitName) (reached limit more most : ℕ)
+    → RefusesText bytes (Limit name reached limit) ⊎ HasLongResult bytes (Limit name reached limit)
+    → RefusesText bytes (Limit other more most) ⊎ HasLongResult bytes (Limit other more most)
+    → Limit name reached limit ≡ Limit other more most
+both_limits bytes name other reached limit more most (inl a) (inl b) =
+    same_limit (Limit name reached limit) (Limit other more most) a.0 a.2
+    (subst (λ f. limit_of f ≡ Some (Limit other more most)) (file_same bytes b.0 a.0 b.1 a.1) b.2)
+both_limits bytes name other reached limit more most (inl a) (inr b) = let none = no_limit bytes b.0.0 a.0 b.0.1 a.1
+    in let some = a.2 in absurd cc
+both_limits bytes name other reached limit more most (inr a) (inl b) = let none = no_limit bytes a.0.0 b.0 a.0.1 b.1
+    in let some = b.2 in absurd cc
+both_limits bytes name other reached limit more most (inr a) (inr b) = a.1 ∙ sym b.1
+
+limit_or_fault : (bytes : List ℕ) (name : LimitName) (reached limit : ℕ) → IsNoFlowFile bytes
+    → RefusesText bytes (Limit name reached limit) ⊎ HasLongResult bytes (Limit name reached limit) → ⊥
+limit_or_fault bytes name reached limit none (inl b) = none b.0 b.1
+limit_or_fault bytes name reached limit none (inr b) = none b.0.1.0 b.0.1.1
+
+pub one_of_bytes : (bytes : List ℕ) (a b : Refusal) → RefusesBytes bytes a → RefusesBytes bytes b → a ≡ b
+one_of_bytes bytes (Grammar input offset rule) (Grammar input' offset' rule') h k =
+    sym h.1.2 ∙ ap refusal_of (one_fault bytes h.1.0 k.1.0 h.1.1 k.1.1) ∙ k.1.2
+one_of_bytes bytes (Grammar input offset rule) (Construct input' offset' name') h k = absurd k
+one_of_bytes bytes (Grammar input offset rule) (Limit name' reached' limit') h k =
+    absurd (limit_or_fault bytes name' reached' limit' h.0 k)
+one_of_bytes bytes (Grammar input offset rule) NoMemory h k = absurd k
+one_of_bytes bytes (Construct input offset name) b h k = absurd h
+one_of_bytes bytes (Limit name reached limit) (Grammar input' offset' rule') h k =
+    absurd (limit_or_fault bytes name reached limit k.0 h)
+one_of_bytes bytes (Limit name reached limit) (Construct input' offset' name') h k = absurd k
+one_of_bytes bytes (Limit name reached limit) (Limit name' reached' limit') h k =
+    both_limits bytes name name' reached limit reached' limit' h k
+one_of_bytes bytes (Limit name reached limit) NoMemory h k = absurd k
+one_of_bytes bytes NoMemory b h k = absurd h
+
+-- no flow file that has a result is refused
+pub result_or_refusal : (bytes text : List ℕ) (refusal : Refusal) → IsFlowResult bytes text → RefusesBytes bytes refusal → ⊥
+result_or_refusal bytes text (Grammar input offset rule) (d, says, is, short) refused = refused.0 says.0 says.1
+result_or_refusal bytes text (Construct input offset name) (d, says, is, short) refused = refused
+result_or_refusal bytes text (Limit name reached limit) (d, says, is, short) (inl refused) =
+    let none = no_limit bytes d refused.0 says refused.1 in let some = refused.2 in absurd cc
+result_or_refusal bytes text (Limit name reached limit) (d, says, is, short) (inr (long, limit_is)) =
+    let same = flow_same bytes d long.0 says long.1 in
+    let over : result_limit < length (result_text d) = subst (λ e. result_limit < length (result_text e)) (sym same) long.2 in
+    let within : length (result_text d) ≤ result_limit = subst (λ t. length t ≤ result_limit) is short in
+    omega (arith, over, within)
+result_or_refusal bytes text NoMemory (d, says, is, short) refused = refused

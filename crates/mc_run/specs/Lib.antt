@@ -1,6 +1,9 @@
 pub mod Asked
+pub mod FlowResult
+pub mod Inputs
 pub mod Outcome
 pub mod Printed
+pub mod Reading
 pub mod Stops
 pub mod Told
 pub mod Words

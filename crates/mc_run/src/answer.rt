@@ -1,27 +1,42 @@
 //! What the words ask for, and its result.
 
-ghost use Rattle.std.specs.Prelude.{◌≡◌, ◌≢◌, ℕ, List, map, Some, IfOk, IfErr, OnOk, string_bytes};
+ghost use Rattle.std.specs.Prelude.{◌≡◌, ◌≢◌, ℕ, List, Option, map, Some, IfOk, IfErr, OnOk, string_bytes};
 ghost use Rattle.mc_run.specs.Asked.{asked};
-ghost use Rattle.mc_run.specs.Words.{command_of, rows};
-ghost use Rattle.mc_run.specs.Outcome.{Gives, OnlyAsked, IsCause, GetsResult, GetsPart};
+ghost use Rattle.mc_run.specs.Inputs.{reads, inputs_of, OnlyThese};
+ghost use Rattle.mc_run.specs.Words.{command_of, rows, gen};
+ghost use Rattle.mc_run.specs.Outcome.{Gives, IsCause, GetsResult, GetsPart};
 
-use crate::inputs::flow_bytes;
+use crate::inputs::read_input;
 use crate::rows::rows_result;
 use crate::stop::Stop;
 use crate::words::{Command, read_words};
-use mc_base::{Files, Sink, Text};
+use doc_gen::generate;
+use mc_base::{Files, Input, Sink, Text};
 use std::alloc::Global;
 
 /// The result of a flow file, by its name.
-fn rows_of<F: Files>(alloc: Global, flow: &str, files: &mut F) -> Result<Text, Stop>
+#[tactic(auto, using(crate::proofs::Stopping::flow_lemmas))]
+fn answer_rows<F: Files>(alloc: Global, flow: &str, files: &mut F) -> Result<Text, Stop>
     ensures content { (other : List ℕ) → F.held files.new other ≡ F.held files.old other }
-    ensures others { (other : List ℕ) → other ≢ flow.now → F.faults files.new other ≡ F.faults files.old other }
+    ensures others { OnlyThese (F.faults files.old) (F.faults files.new) (reads (rows flow.now)) }
     ensures ok { IfOk result (Gives (Some (rows flow.now)) (F.held files.old)) }
     ensures err { IfErr result (IsCause (Some (rows flow.now)) (F.held files.old)
         (F.faults files.old) (F.faults files.new) 0 0) }
 {
-    let bytes = flow_bytes(alloc, files, flow)?;
+    let bytes = read_input(alloc, files, Input::Flow, flow)?;
     match rows_result(alloc, bytes.as_slice()) {
+        Ok(text) => Ok(text),
+        Err(refusal) => Err(Stop::Refused { refusal }),
+    }
+}
+
+/// The generated document of a start and a count of paragraphs. It reads no input.
+fn answer_gen(alloc: Global, start: u64, count: u32) -> Result<Text, Stop>
+    ensures ok { (held : List ℕ → Option (List ℕ)) → IfOk result (Gives (Some (gen start count)) held) }
+    ensures err { (held : List ℕ → Option (List ℕ)) (before now : List ℕ → ℕ) →
+        IfErr result (IsCause (Some (gen start count)) held before now 0 0) }
+{
+    match generate(alloc, start, count) {
         Ok(text) => Ok(text),
         Err(refusal) => Err(Stop::Refused { refusal }),
     }
@@ -30,13 +45,14 @@ fn rows_of<F: Files>(alloc: Global, flow: &str, files: &mut F) -> Result<Text, S
 /// The result of a command.
 fn result_of<F: Files>(alloc: Global, command: Command<'_>, files: &mut F) -> Result<Text, Stop>
     ensures content { (other : List ℕ) → F.held files.new other ≡ F.held files.old other }
-    ensures others { OnlyAsked (Some (asked command.entry)) (F.faults files.old) (F.faults files.new) }
+    ensures others { OnlyThese (F.faults files.old) (F.faults files.new) (reads (asked command.entry)) }
     ensures ok { IfOk result (Gives (Some (asked command.entry)) (F.held files.old)) }
     ensures err { IfErr result (IsCause (Some (asked command.entry)) (F.held files.old)
         (F.faults files.old) (F.faults files.new) 0 0) }
 {
     match command {
-        Command::Rows { flow } => rows_of(alloc, flow, files),
+        Command::Rows { flow } => answer_rows(alloc, flow, files),
+        Command::Gen { start, count } => answer_gen(alloc, start, count),
     }
 }
 
@@ -48,7 +64,7 @@ pub fn answer<F: Files, K: Sink>(
     out: &mut K,
 ) -> Result<(), Stop>
     ensures content { (other : List ℕ) → F.held files.new other ≡ F.held files.old other }
-    ensures others { OnlyAsked (command_of (map string_bytes words.now)) (F.faults files.old) (F.faults files.new) }
+    ensures others { OnlyThese (F.faults files.old) (F.faults files.new) (inputs_of (command_of (map string_bytes words.now))) }
     ensures ok { OnOk result (GetsResult (command_of (map string_bytes words.now)) (F.held files.old)
         (K.written out.old) (K.written out.new)) }
     ensures part { IfErr result (λ stop. stop ≡ Stop.Write →

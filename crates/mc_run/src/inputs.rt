@@ -1,38 +1,77 @@
 //! Reading the inputs of a command.
 
-ghost use Rattle.std.specs.Prelude.{◌≡◌, ◌≢◌, ℕ, ◌≤◌, List, length, Some, IfOk, IfErr, IfSome};
-ghost use Rattle.mc_run.specs.Words.{rows};
-ghost use Rattle.mc_run.specs.Outcome.{IsCause};
+ghost use Rattle.std.specs.Prelude.{◌≡◌, ◌≢◌, ℕ, ◌≤◌, List, length, IfOk, IfErr, IfSome};
+ghost use Rattle.mc_run.specs.Inputs as stated;
+ghost use Rattle.mc_run.specs.Reading as reading;
+ghost use Rattle.mc_run.specs.Reading.{IsReadCause};
 
 use crate::stop::Stop;
 use mc_base::{FileFault, Files, Input, LimitName, Refusal};
 use std::alloc::Global;
 
-/// How many bytes a flow file may have.
-const FLOW_LIMIT: u64 = 4_194_304;
+/// How many bytes an input may have.
+fn byte_limit(input: Input) -> u64
+    ensures { result ≡ stated.byte_limit input }
+{
+    match input {
+        Input::Document | Input::Flow => 4_194_304,
+        Input::Sheet | Input::Metrics | Input::Script => 1_048_576,
+        Input::Result => 268_435_456,
+    }
+}
 
-/// Reads a flow file.
-pub fn flow_bytes<F: Files>(alloc: Global, files: &mut F, name: &str) -> Result<Vec<u8>, Stop>
+fn byte_limit_name(input: Input) -> LimitName
+    ensures { result ≡ stated.byte_limit_name input }
+{
+    match input {
+        Input::Document => LimitName::Document,
+        Input::Sheet => LimitName::Sheet,
+        Input::Metrics => LimitName::Metrics,
+        Input::Flow => LimitName::Flow,
+        Input::Result => LimitName::Result,
+        Input::Script => LimitName::Script,
+    }
+}
+
+/// Why a read of an input stops a command.
+fn stop_for(input: Input, fault: FileFault) -> Stop
+    ensures { result ≡ reading.stop_for input fault }
+{
+    match fault {
+        FileFault::Failed => Stop::Read { input },
+        FileFault::TooLong { .. } => {
+            let limit = byte_limit(input);
+            Stop::Refused {
+                refusal: Refusal::Limit {
+                    name: byte_limit_name(input),
+                    reached: limit + 1,
+                    limit,
+                },
+            }
+        }
+        FileFault::NoMemory => Stop::Refused {
+            refusal: Refusal::NoMemory,
+        },
+    }
+}
+
+/// Reads an input.
+pub fn read_input<F: Files>(
+    alloc: Global,
+    files: &mut F,
+    input: Input,
+    name: &str,
+) -> Result<Vec<u8>, Stop>
     ensures content { (other : List ℕ) → F.held files.new other ≡ F.held files.old other }
     ensures others { (other : List ℕ) → other ≢ name.now → F.faults files.new other ≡ F.faults files.old other }
-    ensures limit { IfOk result (λ bytes. length bytes.items ≤ 4194304) }
+    ensures limit { IfOk result (λ bytes. length bytes.items ≤ stated.byte_limit input) }
     ensures told { IfOk result (λ bytes. IfSome (F.held files.old name.now) (λ held. bytes.items ≡ held)) }
-    ensures err { IfErr result (IsCause (Some (rows name.now)) (F.held files.old)
-        (F.faults files.old) (F.faults files.new) 0 0) }
+    ensures err { IfErr result (IsReadCause (record { input = input; name = name.now }) (F.held files.old)
+        (F.faults files.old) (F.faults files.new)) }
 {
     let mut bytes = Vec::new(alloc);
-    match files.read(name, FLOW_LIMIT, &mut bytes) {
+    match files.read(name, byte_limit(input), &mut bytes) {
         Ok(()) => Ok(bytes),
-        Err(FileFault::Failed) => Err(Stop::Read { input: Input::Flow }),
-        Err(FileFault::TooLong { limit }) => Err(Stop::Refused {
-            refusal: Refusal::Limit {
-                name: LimitName::Flow,
-                reached: limit + 1,
-                limit,
-            },
-        }),
-        Err(FileFault::NoMemory) => Err(Stop::Refused {
-            refusal: Refusal::NoMemory,
-        }),
+        Err(fault) => Err(stop_for(input, fault)),
     }
 }

@@ -1,19 +1,17 @@
 //! The result of a flow file.
 
-ghost use Rattle.std.specs.Prelude.{◌≡◌, ◌+◌, ◌^◌, ◌<◌, ◌≤◌, ◌⊎◌, length, true, false, None, EachIndex, IfOk, IfErr, IfSome};
-ghost use Rattle.flow_text.specs.Grammar.{FlowFile};
-ghost use Rattle.flow_list.specs.Atoms.{HoldsAtoms};
-ghost use Rattle.flow_list.specs.FileFlows.{flows_of};
-ghost use Rattle.flow_data.specs.Flows.{flow_in};
-ghost use Rattle.frag_printer.specs.FlatRows.{HoldsFlatRows, flat_rows};
+ghost use Rattle.std.specs.Prelude.{◌≡◌, ◌+◌, ◌++◌, ◌<◌, ◌≤◌, ◌⊎◌, length, None, IfOk, IfErr, IfSome};
+ghost use Rattle.flow_list.specs.Tree.{tree_of};
+ghost use Rattle.flow_list.specs.TreeText.{tree_text};
 ghost use Rattle.mc_run.specs.Printed.{result_text};
-ghost use Rattle.mc_run.specs.Outcome.{IsFlowResult, RefusesBytes};
+ghost use Rattle.mc_run.specs.FlowResult.{IsFlowResult, RefusesBytes};
 
-use column_row::flat_row;
-use flow_list::{FlatRow, Flows, flow_counts, read_flow, stack_at};
-use frag_printer::{available_in, write_flat_within};
-use mc_base::{ConstructName, Input, LimitName, List, NoMemory, Refusal, Text};
+use container_layout::layout;
+use flow_list::{Book, Flows, read_flow};
+use frag_pool::Pool;
+use mc_base::{LimitName, NoMemory, Refusal, Text};
 use std::alloc::Global;
+use tree_writer::write_tree_within;
 
 /// How many bytes a result may have.
 const RESULT_LIMIT: u64 = 268_435_456;
@@ -22,42 +20,31 @@ const FIRST_LINE: &[u8] = b"mcol 1\n";
 
 const LAST_LINE: &[u8] = b"end\n";
 
-/// Whether no row of a flow file's flows holds another one. Each row but the first stands in another one.
-fn is_flat(flows: &Flows) -> bool
-    requires { (file : FlowFile) × (flows.now ≡ flows_of file) }
-    ensures flat { result ≡ true → HoldsFlatRows flows.now }
-    ensures nested { result ≡ false → HoldsFlatRows flows.now → ⊥ }
+/// The flows, laid out, as the text of their tree after `front`, or None where both have more than `most` bytes.
+fn rows_of(alloc: Global, flows: &Flows, front: Text, most: u64) -> Result<Option<Text>, NoMemory>
+    requires { length front ≤ most }
+    ensures text { IfOk result (λ found. IfSome found (λ text. text ≡ front ++ tree_text (tree_of flows.now))) }
+    ensures short { IfOk result (λ found. IfSome found (λ text. length text ≤ most)) }
+    ensures long { IfOk result (λ found. found ≡ None → most < length (front ++ tree_text (tree_of flows.now))) }
 {
-    flow_counts(flows).rows == 1
-}
-
-/// The one row of a flow file, laid out.
-fn laid_rows(alloc: Global, flows: &Flows) -> Result<List<FlatRow>, NoMemory>
-    requires file { (file : FlowFile) × (flows.now ≡ flows_of file) }
-    requires flat { HoldsFlatRows flows.now }
-    ensures { IfOk result (λ rows. rows ≡ flat_rows flows.now) }
-{
-    let stack = *stack_at(flows, 0);
-    let mut rows = List::new(alloc);
-    rows.push(flat_row(alloc, flows, 0, available_in(stack.bound, 0))?)?;
-    Ok(rows)
+    let mut book = Book::new(alloc);
+    let mut pool = Pool::new(alloc);
+    let laid = layout(alloc, flows, &mut book, &mut pool)?;
+    write_tree_within(alloc, flows, &laid, &pool, front, most)
 }
 
 /// The result of the flows of a flow file, or None where it is too long: then no line is put after the first that doesn't
 /// fit.
 #[tactic(auto, unfolding(crate::specs::Printed::result_text))]
 fn write_result(alloc: Global, flows: &Flows) -> Result<Option<Text>, NoMemory>
-    requires file { (file : FlowFile) × (flows.now ≡ flows_of file) }
-    requires flat { HoldsFlatRows flows.now }
     ensures text { IfOk result (λ found. IfSome found (λ text. text ≡ result_text flows.now)) }
     ensures short { IfOk result (λ found. IfSome found (λ text. length text ≤ RESULT_LIMIT)) }
     ensures long { IfOk result (λ found. found ≡ None → RESULT_LIMIT < length (result_text flows.now)) }
 {
-    let rows = laid_rows(alloc, flows)?;
     let mut first = Text::new(alloc);
     first.extend(FIRST_LINE)?;
     let most = RESULT_LIMIT - LAST_LINE.len() as u64;
-    let Some(mut text) = write_flat_within(alloc, flows, &rows, first, most)? else {
+    let Some(mut text) = rows_of(alloc, flows, first, most)? else {
         return Ok(None);
     };
     text.extend(LAST_LINE)?;
@@ -71,13 +58,6 @@ pub fn rows_result(alloc: Global, bytes: &[u8]) -> Result<Text, Refusal>
     ensures err { IfErr result (λ refusal. (refusal ≡ Refusal.NoMemory) ⊎ RefusesBytes bytes.now refusal) }
 {
     let flows = read_flow(alloc, bytes)?;
-    if !is_flat(&flows) {
-        return Err(Refusal::Construct {
-            input: Input::Flow,
-            offset: 0,
-            name: ConstructName::Unbuilt,
-        });
-    }
     match write_result(alloc, &flows)? {
         Some(text) => Ok(text),
         None => Err(Refusal::Limit {

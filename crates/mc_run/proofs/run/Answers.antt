@@ -5,15 +5,18 @@ use Rattle.mc_run.specs.declared.stop.Stop.{Stop}
 use Rattle.mc_run.specs.declared.stop.Stop.TheVariants.{Refused}
 use Rattle.mc_run.specs.Stops.{status_of, line_of}
 use Rattle.mc_run.specs.Told.{Tells}
-use Rattle.mc_run.proofs.Causes.{status_at_most, ungrammatical, unbuilt, limited, complete}
-use Rattle.mc_run.proofs.OneReason.{no_result, stops_for}
+use Rattle.mc_run.proofs.Causes.{status_at_most, unread, ungrammatical, not_laid_out, limited, complete, stops_for}
+use Rattle.mc_run.proofs.OneReason.{no_result}
 use Rattle.mc_run.proofs.run.Goals as goal
+
+pub returns-clause-read : goal.returns-clause-read
+returns-clause-read g c = λ is. unread _ _ _ _ _ _ _ c.in-Err.ensures.err (sym c.status.ensures ∙ is)
 
 pub returns-clause-grammar : goal.returns-clause-grammar
 returns-clause-grammar g c = λ is. ungrammatical _ _ _ _ _ _ _ c.in-Err.ensures.err (sym c.status.ensures ∙ is)
 
 pub returns-clause-construct : goal.returns-clause-construct
-returns-clause-construct g c = λ is. unbuilt _ _ _ _ _ _ _ c.in-Err.ensures.err (sym c.status.ensures ∙ is)
+returns-clause-construct g c = λ is. not_laid_out _ _ _ _ _ _ _ c.in-Err.ensures.err (sym c.status.ensures ∙ is)
 
 pub returns-clause-limit : goal.returns-clause-limit
 returns-clause-limit g c = λ is. limited _ _ _ _ _ _ _ c.in-Err.ensures.err (sym c.status.ensures ∙ is)

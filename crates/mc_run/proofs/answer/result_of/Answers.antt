@@ -1,9 +1,15 @@
--- The flow file is the one input that is read.
-use Rattle.std.proofs.Common.{rules, Some}
+-- What is said of the generated document is said of the command that asks for it.
+use Rattle.std.proofs.Common.{◌≡◌, ap, sym, subst, Some, IfErr}
 use Rattle.mc_run.specs.Asked.{asked}
-use Rattle.mc_run.proofs.Causes.{only_flow}
+use Rattle.mc_run.specs.Outcome.{IsCause}
+use Rattle.mc_run.specs.Words.{gen}
 use Rattle.mc_run.proofs.answer.result_of.Goals as goal
 
-pub returns-clause-others : goal.returns-clause-others
-returns-clause-others g c = only_flow _ (Some (asked c.args.command)) (g.F.Files.faults c.args.files.now)
-    (g.F.Files.faults c.rows_of.new.files) c.rows_of.ensures.others (search rules)
+pub returns-in-Gen-clause-err : goal.returns-in-Gen-clause-err
+returns-in-Gen-clause-err g c =
+    let is : asked c.args.command ≡ gen c.in-Gen.start c.in-Gen.count = ap asked c.in-Gen.is in
+    subst
+    (λ command. IfErr c.answer_gen.result (IsCause (Some command) (g.F.Files.held c.args.files.now)
+    (g.F.Files.faults c.args.files.now) (g.F.Files.faults c.args.files.now) 0 0)) (sym is)
+    (c.answer_gen.ensures.err (g.F.Files.held c.args.files.now) (g.F.Files.faults c.args.files.now)
+    (g.F.Files.faults c.args.files.now))
