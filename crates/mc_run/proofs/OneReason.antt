@@ -14,15 +14,18 @@ use Rattle.mc_run.proofs.OneFlow.{one_of_bytes, result_or_refusal}
 long_or_short : (contents : Contents) (inputs : List NamedInput) (refusal : Refusal) → IsTooLong contents inputs refusal
     → AreShort contents inputs → ⊥
 long_or_short contents [] refusal long short = long
-long_or_short contents (i ∷ inputs) refusal (inl here) short = let over = here.0 in let within = short.0 in omega (arith, over, within)
+long_or_short contents (i ∷ inputs) refusal (inl here) short =
+    let over = here.0 in let within = short.0 in omega (arith, over, within)
 long_or_short contents (i ∷ inputs) refusal (inr later) short = long_or_short contents inputs refusal later.1 short.1
 
 one_too_long : (contents : Contents) (inputs : List NamedInput) (a b : Refusal) → IsTooLong contents inputs a
     → IsTooLong contents inputs b → a ≡ b
 one_too_long contents [] a b h k = absurd h
 one_too_long contents (i ∷ inputs) a b (inl h) (inl k) = h.1 ∙ sym k.1
-one_too_long contents (i ∷ inputs) a b (inl h) (inr k) = let over = h.0 in let within = k.0 in absurd (omega (arith, over, within))
-one_too_long contents (i ∷ inputs) a b (inr h) (inl k) = let within = h.0 in let over = k.0 in absurd (omega (arith, over, within))
+one_too_long contents (i ∷ inputs) a b (inl h) (inr k) =
+    let over = h.0 in let within = k.0 in absurd (omega (arith, over, within))
+one_too_long contents (i ∷ inputs) a b (inr h) (inl k) =
+    let within = h.0 in let over = k.0 in absurd (omega (arith, over, within))
 one_too_long contents (i ∷ inputs) a b (inr h) (inr k) = one_too_long contents inputs a b h.1 k.1
 
 -- ---- each command

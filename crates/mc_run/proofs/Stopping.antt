@@ -27,7 +27,8 @@ long_bytes (Some bytes) n over = (bytes, refl, over)
 -- ---- a flow file
 
 pub flow_unread : (flow : List ℕ) (held : List ℕ → Option (List ℕ)) (before now : List ℕ → ℕ) (stop : Stop)
-    → IsReadCause (record { input = Flow; name = flow }) held before now stop → IsCause (Some (rows flow)) held before now 0 0 stop
+    → IsReadCause (record { input = Flow; name = flow }) held before now stop
+    → IsCause (Some (rows flow)) held before now 0 0 stop
 flow_unread flow held before now Usage cause = absurd cause
 flow_unread flow held before now (Read input) cause = inl cause
 flow_unread flow held before now Write cause = absurd cause
@@ -41,8 +42,8 @@ pub flow_result : (flow : List ℕ) (held : List ℕ → Option (List ℕ)) (byt
     → Gives (Some (rows flow)) held text
 flow_result flow held bytes text told few is = (λ _. bytes, (told, tt), ((few, tt), is))
 
-pub flow_refused : (flow : List ℕ) (held : List ℕ → Option (List ℕ)) (before now : List ℕ → ℕ) (bytes : List ℕ) (refusal : Refusal)
-    → IfSome (held flow) (λ told. bytes ≡ told) → length bytes ≤ byte_limit Flow
+pub flow_refused : (flow : List ℕ) (held : List ℕ → Option (List ℕ)) (before now : List ℕ → ℕ) (bytes : List ℕ)
+    (refusal : Refusal) → IfSome (held flow) (λ told. bytes ≡ told) → length bytes ≤ byte_limit Flow
     → (refusal ≡ NoMemory) ⊎ RefusesBytes bytes refusal → IsCause (Some (rows flow)) held before now 0 0 (Refused refusal)
 flow_refused flow held before now bytes refusal told few (inl none) = (λ e. cc, inl none)
 flow_refused flow held before now bytes refusal told few (inr refused) =

@@ -9,9 +9,10 @@ ghost use Rattle.mc_run.specs.FlowResult.{IsFlowResult, RefusesBytes};
 use container_layout::layout;
 use flow_list::{Book, Flows, read_flow};
 use frag_pool::Pool;
+use frag_printer::write_tree_within;
 use mc_base::{LimitName, NoMemory, Refusal, Text};
 use std::alloc::Global;
-use tree_writer::write_tree_within;
+
 
 /// How many bytes a result may have.
 const RESULT_LIMIT: u64 = 268_435_456;
