@@ -10,7 +10,7 @@ use Rattle.css_tokens.specs.declared.lexeme.Symbol.TheVariants.{Ident, Hash, Del
 use Rattle.css_tokens.specs.Facts.{delim_in, is_this, is_delim, is_space_in, is_space, ident_in, ident_of, hash_in, begins_space}
 use Rattle.css_tokens.specs.Facts.{behind_spaces}
 use Rattle.css_prelude.specs.Compounds.{begins_test}
-use Rattle.selector_laws.specs.Forms.{AreSpaces, Spaced, IsSign}
+use Rattle.selector_laws.specs.Spaces.{AreSpaces, Spaced, IsSign}
 use Rattle.selector_laws.proofs.Lengths.{spaces_le}
 
 -- one symbol is one thing

@@ -3,7 +3,7 @@ use Rattle.std.specs.Prelude.{◌≡◌, ◌⊎◌, ℕ, List, [], ◌∷◌, Bo
 use Rattle.css_tokens.specs.declared.lexeme.Lexeme.{Lexeme}
 use Rattle.css_tokens.specs.Facts.{ident_of}
 use Rattle.css_prelude.specs.Media.{is_medium, is_screen, media_of}
-use Rattle.selector_laws.specs.Forms.{AreSpaces, Spaced, IsSign}
+use Rattle.selector_laws.specs.Spaces.{AreSpaces, Spaced, IsSign}
 
 -- a medium: all, screen, print or speech
 abbrev pub IsMedium : List ℕ → Lexeme → Type 0
