@@ -1,11 +1,11 @@
 -- What has its form is read.
-use Rattle.std.proofs.Common.{◌≡◌, ℕ, zero, suc, ◌≤◌, List, [], ◌∷◌, ◌++◌, length, Bool, true, false, cond, refl, sym, ap, ◌∙◌}
+use Rattle.std.proofs.Common.{◌≡◌, ℕ, zero, suc, ◌≤◌, List, [], ◌∷◌, length, Bool, true, false, cond, refl, sym, ap, ◌∙◌}
 use Rattle.std.proofs.Common.{Option, Some, None, arith}
 use lib.Dec.{eqb}
 use Rattle.css_data.specs.declared.selector.Join.{Join}
 use Rattle.css_data.specs.declared.selector.Join.TheVariants as joins
 use Rattle.css_tokens.specs.declared.lexeme.Lexeme.{Lexeme}
-use Rattle.css_tokens.specs.Facts.{is_delim, delim_in, is_this, ident_of, begins_space, behind_spaces}
+use Rattle.css_tokens.specs.Facts.{is_delim, delim_in, ident_of, begins_space, behind_spaces}
 use Rattle.css_prelude.specs.declared.pseudo.Tested.{Tested}
 use Rattle.css_prelude.specs.declared.compound.Tests.{Tests}
 use Rattle.css_prelude.specs.declared.compound.Element.{Element}
@@ -21,11 +21,11 @@ use Rattle.css_prelude.specs.Selecting.{follow_at, follow_behind, join_sign, joi
 use Rattle.css_prelude.specs.Selecting.{finished, with_join, followed, turned, turn, continued, list_from, selectors_of}
 use Rattle.selector_laws.specs.Forms.{IsJoin, IsElement, AreTests, IsSome, IsCompound, Row, Last}
 use Rattle.selector_laws.specs.Forms.{Joined, Comma, IsRow, AreSelectors}
-use Rattle.selector_laws.specs.Spaces.{AreSpaces, Spaced, IsSign}
+use Rattle.selector_laws.specs.Spaces.{IsSign}
 use Rattle.selector_laws.specs.Tests.{IsTest}
 use Rattle.selector_laws.proofs.TestsRead.{test_read}
 use Rattle.selector_laws.proofs.Lengths.{Within, test_le}
-use Rattle.selector_laws.proofs.Starts.{Starts, ident_only, none_no_sign, no_sign_starts, sign_starts, other, sign_no_space}
+use Rattle.selector_laws.proofs.Starts.{Starts, ident_only, none_no_sign, no_sign_starts, sign_starts, other}
 use Rattle.selector_laws.proofs.Starts.{test_begins, Parts, Signed, signed, behind_spaced, spaced_le, spaces_end, spaces_no_test}
 use Rattle.selector_laws.proofs.Starts.{space_no_test}
 use Rattle.selector_laws.proofs.Said.{with_tests, with_tests_is, element_of, compounded, tests_as, in_front, some_tests, with_row}

@@ -10,7 +10,7 @@ use Rattle.css_data.specs.declared.selector.Test.{Test}
 use Rattle.css_data.specs.declared.selector.Join.{Join}
 use Rattle.css_data.specs.declared.selector.Join.TheVariants as joins
 use Rattle.css_tokens.specs.declared.lexeme.Lexeme.{Lexeme}
-use Rattle.css_tokens.specs.Facts.{is_space, is_delim, ident_of, begins_space, behind_spaces}
+use Rattle.css_tokens.specs.Facts.{is_delim, ident_of, begins_space, behind_spaces}
 use Rattle.css_prelude.specs.declared.pseudo.Tested.{Tested}
 use Rattle.css_prelude.specs.declared.compound.Tests.{Tests}
 use Rattle.css_prelude.specs.declared.compound.Element.{Element}

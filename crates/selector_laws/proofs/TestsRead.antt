@@ -10,14 +10,14 @@ use Rattle.css_data.specs.declared.selector.Test.TheVariants as tests
 use Rattle.css_tokens.specs.declared.lexeme.Lexeme.{Lexeme}
 use Rattle.css_tokens.specs.declared.lexeme.Symbol.{Symbol}
 use Rattle.css_tokens.specs.declared.lexeme.Symbol.TheVariants.{Ident, Quoted, Delim}
-use Rattle.css_tokens.specs.Facts.{is_this, is_delim, delim_in, delim_of, is_space_in, ident_of, hash_in, hash_of, word_in, word_of}
+use Rattle.css_tokens.specs.Facts.{is_this, is_delim, delim_in, delim_of, is_space_in, ident_of, hash_in, hash_of, word_in}
 use Rattle.css_tokens.specs.Facts.{begins, begins_space, behind_first, behind_spaces}
 use Rattle.css_prelude.specs.declared.pseudo.Tested.{Tested}
 use Rattle.css_prelude.specs.Options.{◌>>=◌}
 use Rattle.css_prelude.specs.Words.{ident_at, word_at}
-use Rattle.css_prelude.specs.Attributes.{op_char, op_at, closed, valued_at, named_at, attribute_at}
+use Rattle.css_prelude.specs.Attributes.{op_char, op_at, closed, valued_at, named_at}
 use Rattle.css_prelude.specs.Pseudos.{plain, pseudo_at}
-use Rattle.css_prelude.specs.Compounds.{begins_test, class_at, attributed_at, sign_test_at, test_by_hash, test_at}
+use Rattle.css_prelude.specs.Compounds.{begins_test, class_at, attributed_at, test_by_hash, test_at}
 use Rattle.selector_laws.specs.Tests.{IsSignWithEqual, IsOp, IsNamed, IsClosed, IsValued, HasForm, tested_as, Form, Id, Class}
 use Rattle.selector_laws.specs.Tests.{Attribute, Valued, Pseudo, IsTest}
 use Rattle.selector_laws.proofs.Starts.{ident_only, other, sign_no_space, behind_spaced}

@@ -1,5 +1,5 @@
 -- A test that is read has its form.
-use Rattle.std.proofs.Common.{◌≡◌, ℕ, List, [], ◌∷◌, ◌++◌, Bool, true, false, cond, refl, sym, subst, ap, ◌∙◌, Option, Some, None}
+use Rattle.std.proofs.Common.{◌≡◌, ℕ, List, [], ◌∷◌, Bool, true, false, cond, refl, sym, subst, ap, ◌∙◌, Option, Some, None}
 use Rattle.std.specs.Prelude.{is_some, ◌||◌}
 use lib.Dec.{eqb}
 use Rattle.css_data.specs.declared.selector.AttrOp.{AttrOp}

@@ -1,6 +1,6 @@
 -- Lists of selectors (Selectors 3, sections 4, 5 and 8): compound selectors with a join between two, and selectors with a comma
 -- between two. White space may stand around > + ~ and the comma, and around the list.
-use Rattle.std.specs.Prelude.{◌≡◌, ℕ, List, [], ◌∷◌, ◌++◌, true, Option, Some, None}
+use Rattle.std.specs.Prelude.{◌≡◌, ℕ, List, [], ◌∷◌, true, Option, Some, None}
 use Rattle.mc_base.specs.declared.refusal.Found.{Found}
 use Rattle.css_data.specs.declared.selector.Selector.{Selector}
 use Rattle.css_data.specs.declared.selector.Test.{Test}
