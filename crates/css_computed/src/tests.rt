@@ -1,5 +1,5 @@
 use crate::{Computed, Style, Winning, style_of};
-use css_values::{Property, Value};
+use css_values::{Property, Value, all_properties};
 use mc_base::{Decimal, List, Text, Units};
 use std::alloc::{AllocError, Global};
 use std::process::Abort;
@@ -34,49 +34,6 @@ enum Wanted {
 type Settings = &'static [(Property, Given)];
 
 type Case = (Settings, Property, Wanted);
-
-const PROPERTIES: [Property; 40] = [
-    Property::Display,
-    Property::FontSize,
-    Property::FontFamily,
-    Property::FontWeight,
-    Property::FontStyle,
-    Property::LineHeight,
-    Property::WhiteSpace,
-    Property::Hyphens,
-    Property::TextAlign,
-    Property::Orphans,
-    Property::Widows,
-    Property::MarginTop,
-    Property::MarginRight,
-    Property::MarginBottom,
-    Property::MarginLeft,
-    Property::PaddingTop,
-    Property::PaddingRight,
-    Property::PaddingBottom,
-    Property::PaddingLeft,
-    Property::BorderTopWidth,
-    Property::BorderRightWidth,
-    Property::BorderBottomWidth,
-    Property::BorderLeftWidth,
-    Property::BorderTopStyle,
-    Property::BorderRightStyle,
-    Property::BorderBottomStyle,
-    Property::BorderLeftStyle,
-    Property::Width,
-    Property::MaxWidth,
-    Property::Height,
-    Property::BoxSizing,
-    Property::ColumnWidth,
-    Property::ColumnCount,
-    Property::ColumnGap,
-    Property::ColumnFill,
-    Property::ColumnSpan,
-    Property::BreakBefore,
-    Property::BreakAfter,
-    Property::BreakInside,
-    Property::BoxDecorationBreak,
-];
 
 fn decimal(billionths: u64) -> Decimal {
     Decimal {
@@ -138,8 +95,8 @@ fn style(
     root: Option<Units>,
 ) -> Result<Style, Fail> {
     let mut values = Vec::new(alloc);
-    for property in PROPERTIES {
-        values.push(set_for(alloc, settings, property)?)?;
+    for property in all_properties() {
+        values.push(set_for(alloc, settings, *property)?)?;
     }
     let mut winning = Winning::new(alloc);
     for value in &values {

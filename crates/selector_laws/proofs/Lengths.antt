@@ -1,7 +1,6 @@
 -- A test takes at least one lexeme.
 use Rattle.std.proofs.Common.{ℕ, zero, suc, ◌≤◌, List, [], ◌∷◌, length, Bool, true, false, cond, Option, Some, None, arith}
 use Rattle.std.proofs.Common.{drop, take}
-use Rattle.css_data.specs.declared.selector.Test.{Test}
 use Rattle.css_data.specs.declared.selector.Test.TheVariants as tests
 use Rattle.css_data.specs.declared.selector.AttrOp.{AttrOp}
 use Rattle.css_data.specs.declared.selector.AttrOp.TheVariants as ops
@@ -9,7 +8,6 @@ use Rattle.css_tokens.specs.declared.lexeme.Lexeme.{Lexeme}
 use Rattle.css_tokens.specs.declared.depth.Stop.TheVariants as stops
 use Rattle.css_tokens.specs.Facts.{is_space, is_delim, begins, behind_first, behind_spaces, hash_of, front_len}
 use Rattle.css_tokens.specs.Stops.{stops_at}
-use Rattle.css_prelude.specs.declared.pseudo.Tested.{Tested}
 use Rattle.css_prelude.specs.Options.{◌>>=◌}
 use Rattle.css_prelude.specs.Words.{first_ident, first_function, first_word, ident_at, word_at}
 use Rattle.css_prelude.specs.Attributes.{first_op, op_at, closed, valued_at, named_at, attribute_at}

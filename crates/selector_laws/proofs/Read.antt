@@ -1,11 +1,11 @@
 -- What has its form is read.
-use Rattle.std.proofs.Common.{◌≡◌, ℕ, zero, suc, ◌≤◌, List, [], ◌∷◌, ◌++◌, length, Bool, true, false, cond, refl, sym, ap, ◌∙◌}
+use Rattle.std.proofs.Common.{◌≡◌, ℕ, zero, suc, ◌≤◌, List, [], ◌∷◌, length, Bool, true, false, cond, refl, sym, ap, ◌∙◌}
 use Rattle.std.proofs.Common.{Option, Some, None, arith}
 use lib.Dec.{eqb}
 use Rattle.css_data.specs.declared.selector.Join.{Join}
 use Rattle.css_data.specs.declared.selector.Join.TheVariants as joins
 use Rattle.css_tokens.specs.declared.lexeme.Lexeme.{Lexeme}
-use Rattle.css_tokens.specs.Facts.{is_delim, delim_in, is_this, ident_of, begins_space, behind_spaces}
+use Rattle.css_tokens.specs.Facts.{is_delim, delim_in, ident_of, begins_space, behind_spaces}
 use Rattle.css_prelude.specs.declared.pseudo.Tested.{Tested}
 use Rattle.css_prelude.specs.declared.compound.Tests.{Tests}
 use Rattle.css_prelude.specs.declared.compound.Element.{Element}
@@ -19,10 +19,13 @@ use Rattle.css_prelude.specs.Compounds.{begins_test, test_at, no_tests, with_tes
 use Rattle.css_prelude.specs.Compounds.{compound_at}
 use Rattle.css_prelude.specs.Selecting.{follow_at, follow_behind, join_sign, joined_or_spaced, nothing_yet, with_compound}
 use Rattle.css_prelude.specs.Selecting.{finished, with_join, followed, turned, turn, continued, list_from, selectors_of}
-use Rattle.selector_laws.specs.Forms.{AreSpaces, Spaced, IsSign, IsJoin, IsElement, AreTests, IsSome, IsCompound, Row, Last}
+use Rattle.selector_laws.specs.Forms.{IsJoin, IsElement, AreTests, IsSome, IsCompound, Row, Last}
 use Rattle.selector_laws.specs.Forms.{Joined, Comma, IsRow, AreSelectors}
+use Rattle.selector_laws.specs.Spaces.{IsSign}
+use Rattle.selector_laws.specs.Tests.{IsTest}
+use Rattle.selector_laws.proofs.TestsRead.{test_read}
 use Rattle.selector_laws.proofs.Lengths.{Within, test_le}
-use Rattle.selector_laws.proofs.Starts.{Starts, ident_only, none_no_sign, no_sign_starts, sign_starts, other, sign_no_space}
+use Rattle.selector_laws.proofs.Starts.{Starts, ident_only, none_no_sign, no_sign_starts, sign_starts, other}
 use Rattle.selector_laws.proofs.Starts.{test_begins, Parts, Signed, signed, behind_spaced, spaced_le, spaces_end, spaces_no_test}
 use Rattle.selector_laws.proofs.Starts.{space_no_test}
 use Rattle.selector_laws.proofs.Said.{with_tests, with_tests_is, element_of, compounded, tests_as, in_front, some_tests, with_row}
@@ -36,29 +39,32 @@ within n (Some q) r e w = rw (← same q r e) w
     same : (p q : Tested × List Lexeme) → Some p ≡ Some q → p ≡ q
     same p q h = cc
 
-test_shorter : (xs : List Lexeme) (t : Tested) (more : List Lexeme) → begins_test xs ≡ true → test_at xs ≡ Some (t, more)
-    → suc (length more) ≤ length xs
-test_shorter [] t more b h = absurd cc
-test_shorter (x ∷ xs) t more b h =
-    let w : length more ≤ length xs = within (length xs) (test_at (x ∷ xs)) (t, more) h (test_le x xs) in
-    omega (arith, w)
+test_shorter : (xs : List Lexeme) (t : Tested) (more : List Lexeme) → IsTest t xs more → suc (length more) ≤ length xs
+test_shorter xs t more h = let r = test_read t xs more h in by_first xs r.0 r.1
+  where
+    by_first : (xs : List Lexeme) → begins_test xs ≡ true → test_at xs ≡ Some (t, more) → suc (length more) ≤ length xs
+    by_first [] b h = absurd cc
+    by_first (x ∷ xs) b h =
+        let w : length more ≤ length xs = within (length xs) (test_at (x ∷ xs)) (t, more) h (test_le x xs) in
+        omega (arith, w)
 
 tests_le : (ts : List Tested) (xs rest : List Lexeme) → AreTests ts xs rest → length rest ≤ length xs
 tests_le [] xs rest h = rw h (omega arith)
-tests_le (t ∷ ts) xs rest h = omega (arith, test_shorter xs t h.0 h.1 h.2, tests_le ts h.0 rest h.3)
+tests_le (t ∷ ts) xs rest h = omega (arith, test_shorter xs t h.0 h.1, tests_le ts h.0 rest h.2)
 
 tests_read : (n : ℕ) (all : Tests) (ts : List Tested) (xs rest : List Lexeme) → AreTests ts xs rest → begins_test rest ≡ false
     → length xs ≤ n → tests_from n all xs ≡ Some (with_tests all ts, rest)
 unfolding tests_from
 tests_read zero all [] xs rest h e k = ap (λ (ys : List Lexeme). Some (all, ys)) h
-tests_read zero all (t ∷ ts) xs rest h e k = absurd (omega (arith, k, test_shorter xs t h.0 h.1 h.2))
+tests_read zero all (t ∷ ts) xs rest h e k = absurd (omega (arith, k, test_shorter xs t h.0 h.1))
 tests_read (suc n) all [] xs rest h e k =
     ap (λ (b : Bool). cond b (test_at xs >>= λ t. tests_from n (with_test all t.0) t.1) (Some (all, xs)))
     (ap begins_test h ∙ e) ∙ ap (λ (ys : List Lexeme). Some (all, ys)) h
 tests_read (suc n) all (t ∷ ts) xs rest h e k =
-    ap (λ (b : Bool). cond b (test_at xs >>= λ r. tests_from n (with_test all r.0) r.1) (Some (all, xs))) h.1
-    ∙ ap (λ (o : Option (Tested × List Lexeme)). o >>= λ r. tests_from n (with_test all r.0) r.1) h.2
-    ∙ tests_read n (with_test all t) ts h.0 rest h.3 e (omega (arith, k, test_shorter xs t h.0 h.1 h.2))
+    let r = test_read t xs h.0 h.1 in
+    ap (λ (b : Bool). cond b (test_at xs >>= λ r. tests_from n (with_test all r.0) r.1) (Some (all, xs))) r.0
+    ∙ ap (λ (o : Option (Tested × List Lexeme)). o >>= λ r. tests_from n (with_test all r.0) r.1) r.1
+    ∙ tests_read n (with_test all t) ts h.0 rest h.2 e (omega (arith, k, test_shorter xs t h.0 h.1))
 
 -- compound selectors
 element_le : (e : Option (Option (List ℕ))) (xs more : List Lexeme) → IsElement e xs more → length more ≤ length xs
@@ -69,7 +75,7 @@ element_le (Some (Some name)) xs more h = rw h.1 (omega arith)
 element_read : (e : Option (Option (List ℕ))) (ts : List Tested) (xs more rest : List Lexeme) → IsElement e xs more
     → AreTests ts more rest → IsSome e ts → element_at xs ≡ (element_of e, more)
 element_read None [] xs more rest h ts s = absurd s
-element_read None (t ∷ ts) xs more rest h is s = by_first xs h (ap begins_test h ∙ is.1)
+element_read None (t ∷ ts) xs more rest h is s = by_first xs h (ap begins_test h ∙ (test_read t more is.0 is.1).0)
   where
     by_first : (xs : List Lexeme) → xs ≡ more → begins_test xs ≡ true → element_at xs ≡ (element_of None, more)
     by_first [] e b = absurd cc
@@ -124,7 +130,7 @@ compound_begins c xs rest h = by_element h.element h.tests h.more h.element_is h
     by_element : (e : Option (Option (List ℕ))) (ts : List Tested) (more : List Lexeme) → IsElement e xs more
         → AreTests ts more rest → IsSome e ts → Begins xs
     by_element None [] more is are s = absurd s
-    by_element None (t ∷ ts) more is are s = by_first xs (ap begins_test is ∙ are.1)
+    by_element None (t ∷ ts) more is are s = by_first xs (ap begins_test is ∙ (test_read t more are.0 are.1).0)
     by_element (Some None) ts more is are s = (is.0, more, is.1, sign_starts 42 is.0 is.2 refl refl refl refl)
     by_element (Some (Some name)) ts more is are s =
         let k = ident_only name is.0.symbol is.2 in

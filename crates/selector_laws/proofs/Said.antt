@@ -10,7 +10,7 @@ use Rattle.css_data.specs.declared.selector.Test.{Test}
 use Rattle.css_data.specs.declared.selector.Join.{Join}
 use Rattle.css_data.specs.declared.selector.Join.TheVariants as joins
 use Rattle.css_tokens.specs.declared.lexeme.Lexeme.{Lexeme}
-use Rattle.css_tokens.specs.Facts.{is_space, is_delim, ident_of, begins_space, behind_spaces}
+use Rattle.css_tokens.specs.Facts.{is_delim, ident_of, begins_space, behind_spaces}
 use Rattle.css_prelude.specs.declared.pseudo.Tested.{Tested}
 use Rattle.css_prelude.specs.declared.compound.Tests.{Tests}
 use Rattle.css_prelude.specs.declared.compound.Element.{Element}
@@ -25,24 +25,11 @@ use Rattle.css_prelude.specs.Compounds.{begins_test, test_at, no_tests, with_tes
 use Rattle.css_prelude.specs.Compounds.{compound_at}
 use Rattle.css_prelude.specs.Selecting.{follow_at, follow_behind, join_sign, joined_or_spaced, nothing_yet, with_compound}
 use Rattle.css_prelude.specs.Selecting.{finished, with_join, followed, turned, turn, whole, continued, list_from, selectors_of}
-use Rattle.selector_laws.specs.Forms.{AreSpaces, Spaced, IsSign, IsJoin, IsElement, AreTests, named, tests_in, found_among}
+use Rattle.selector_laws.specs.Forms.{IsJoin, IsElement, AreTests, named, tests_in, found_among}
 use Rattle.selector_laws.specs.Forms.{IsSome, IsCompound, Row, Last, Joined, Comma, IsRow, first_in, others_in, found_in}
 use Rattle.selector_laws.specs.Forms.{AreSelectors}
-
-pub parts : {A B : Type 0} (p q : A × B) → Some p ≡ Some q → (p.0 ≡ q.0) × (p.1 ≡ q.1)
-parts {A} {B} p q h =
-    let e : p ≡ q = cc in
-    (ap (λ (x : A × B). x.0) e, ap (λ (x : A × B). x.1) e)
-
--- white space in front
-pub gap_of : (xs : List Lexeme) → Spaced xs (behind_spaces xs)
-gap_of [] = ([], refl, tt)
-gap_of (x ∷ xs) = by_space (gap_of xs) (is_space x) refl
-  where
-    by_space : Spaced xs (behind_spaces xs) → (b : Bool) → is_space x ≡ b
-        → Spaced (x ∷ xs) (cond b (behind_spaces xs) (x ∷ xs))
-    by_space g true e = (x ∷ g.0, ap (λ (ys : List Lexeme). x ∷ ys) g.1, (e, g.2))
-    by_space g false e = ([], refl, tt)
+use Rattle.selector_laws.specs.Spaces.{AreSpaces, Spaced, IsSign}
+use Rattle.selector_laws.proofs.TestsSaid.{parts, gap_of, test_said}
 
 append_nil : (xs : List Lexeme) → xs ++ [] ≡ xs
 append_nil [] = refl
@@ -138,7 +125,7 @@ tests_said (suc n) all then xs rest h = by_begins (tests_said n) (begins_test xs
     by_test below None e b h = absurd cc
     by_test below (Some t) e b h =
         let m = below (with_test all t.0) then t.1 rest h in
-        (t.0 ∷ m.0, (t.1, b, e, m.1), m.2)
+        (t.0 ∷ m.0, (t.1, test_said xs t b e, m.1), m.2)
 
     by_begins : ((all then : Tests) (xs rest : List Lexeme) → tests_from n all xs ≡ Some (then, rest)
         → (ts : List Tested) × AreTests ts xs rest × (then ≡ with_tests all ts)) → (b : Bool) → begins_test xs ≡ b

@@ -1,5 +1,5 @@
 -- What a compound selector, a join and a comma begin with.
-use Rattle.std.proofs.Common.{◌≡◌, ℕ, zero, suc, ◌≤◌, List, [], ◌∷◌, ◌++◌, length, Bool, true, false, cond, refl, sym, ap, ◌∙◌}
+use Rattle.std.proofs.Common.{◌≡◌, ℕ, suc, ◌≤◌, List, [], ◌∷◌, ◌++◌, length, Bool, true, false, cond, refl, ap, ◌∙◌}
 use Rattle.std.proofs.Common.{Option, Some, None, arith}
 use Rattle.std.proofs.lemmas.Bool.{eqb-true}
 use Rattle.std.specs.Prelude.{is_some, ◌||◌}
@@ -10,7 +10,7 @@ use Rattle.css_tokens.specs.declared.lexeme.Symbol.TheVariants.{Ident, Hash, Del
 use Rattle.css_tokens.specs.Facts.{delim_in, is_this, is_delim, is_space_in, is_space, ident_in, ident_of, hash_in, begins_space}
 use Rattle.css_tokens.specs.Facts.{behind_spaces}
 use Rattle.css_prelude.specs.Compounds.{begins_test}
-use Rattle.selector_laws.specs.Forms.{AreSpaces, Spaced, IsSign}
+use Rattle.selector_laws.specs.Spaces.{AreSpaces, Spaced, IsSign}
 use Rattle.selector_laws.proofs.Lengths.{spaces_le}
 
 -- one symbol is one thing

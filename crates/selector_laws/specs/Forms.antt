@@ -1,6 +1,6 @@
 -- Lists of selectors (Selectors 3, sections 4, 5 and 8): compound selectors with a join between two, and selectors with a comma
 -- between two. White space may stand around > + ~ and the comma, and around the list.
-use Rattle.std.specs.Prelude.{◌≡◌, ℕ, List, [], ◌∷◌, ◌++◌, true, Option, Some, None}
+use Rattle.std.specs.Prelude.{◌≡◌, ℕ, List, [], ◌∷◌, true, Option, Some, None}
 use Rattle.mc_base.specs.declared.refusal.Found.{Found}
 use Rattle.css_data.specs.declared.selector.Selector.{Selector}
 use Rattle.css_data.specs.declared.selector.Test.{Test}
@@ -12,22 +12,9 @@ use Rattle.css_prelude.specs.declared.pseudo.Tested.{Tested}
 use Rattle.css_prelude.specs.declared.compound.Compounded.{Compounded}
 use Rattle.css_prelude.specs.declared.selecting.Selectors.{Selectors}
 use Rattle.css_prelude.specs.Words.{or_found}
-use Rattle.css_prelude.specs.Compounds.{begins_test, test_at}
 use Rattle.css_prelude.specs.Selecting.{selectors_of}
-
--- White space and signs.
-
-abbrev pub AreSpaces : List Lexeme → Type 0
-AreSpaces [] = Unit {0}
-AreSpaces (x ∷ xs) = (is_space x ≡ true) × AreSpaces xs
-
--- white space, or none, and the rest
-abbrev pub Spaced : List Lexeme → List Lexeme → Type 0
-Spaced xs rest = (gap : List Lexeme) × (xs ≡ gap ++ rest) × AreSpaces gap
-
--- a sign with white space around it, or none, and the rest
-abbrev pub IsSign : ℕ → List Lexeme → List Lexeme → Type 0
-IsSign c xs rest = (sign : Lexeme) × (more : List Lexeme) × Spaced xs (sign ∷ more) × (is_delim c sign ≡ true) × Spaced more rest
+use Rattle.selector_laws.specs.Spaces.{AreSpaces, Spaced, IsSign}
+use Rattle.selector_laws.specs.Tests.{IsTest}
 
 -- what joins two compound selectors, and the rest
 abbrev pub IsJoin : Join → List Lexeme → List Lexeme → Type 0
@@ -48,7 +35,7 @@ IsElement (Some (Some name)) xs rest = (type : Lexeme) × (xs ≡ type ∷ rest)
 -- tests one after the other, and the rest
 abbrev pub AreTests : List Tested → List Lexeme → List Lexeme → Type 0
 AreTests [] xs rest = xs ≡ rest
-AreTests (t ∷ ts) xs rest = (more : List Lexeme) × (begins_test xs ≡ true) × (test_at xs ≡ Some (t, more)) × AreTests ts more rest
+AreTests (t ∷ ts) xs rest = (more : List Lexeme) × IsTest t xs more × AreTests ts more rest
 
 abbrev pub named : Option (Option (List ℕ)) → Option (List ℕ)
 named None = None

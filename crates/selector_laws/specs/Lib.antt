@@ -1,2 +1,4 @@
+pub mod Spaces
+pub mod Tests
 pub mod Forms
 pub mod Media

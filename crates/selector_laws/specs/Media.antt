@@ -1,9 +1,9 @@
 -- Lists of media (CSS 2.1, section 7.2.1): media with a comma between two, or nothing. White space may stand anywhere.
-use Rattle.std.specs.Prelude.{◌≡◌, ◌⊎◌, ℕ, List, [], ◌∷◌, Bool, true, false, ◌||◌, Option, Some}
+use Rattle.std.specs.Prelude.{◌≡◌, ◌⊎◌, ℕ, List, [], ◌∷◌, Bool, true, false, ◌||◌, Some}
 use Rattle.css_tokens.specs.declared.lexeme.Lexeme.{Lexeme}
 use Rattle.css_tokens.specs.Facts.{ident_of}
 use Rattle.css_prelude.specs.Media.{is_medium, is_screen, media_of}
-use Rattle.selector_laws.specs.Forms.{AreSpaces, Spaced, IsSign}
+use Rattle.selector_laws.specs.Spaces.{AreSpaces, Spaced, IsSign}
 
 -- a medium: all, screen, print or speech
 abbrev pub IsMedium : List ℕ → Lexeme → Type 0

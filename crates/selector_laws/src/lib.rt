@@ -2,7 +2,7 @@
 //!
 //! It stands on css_prelude, whose functions on lists its laws are about, and on css_tokens and css_data. The files of `specs/`
 //! say which lexemes are a list of selectors (Selectors 3, sections 4, 5 and 8) and which are a list of media (CSS 2.1, section
-//! 7.2.1); they name no state of a reader. What is written in the parentheses of a pseudo-class is told by css_prelude's functions.
+//! 7.2.1); they name no state of a reader. What stands after the colon of a pseudo-class is told by css_prelude's functions.
 //! Each function here promises one law, does nothing, and takes no memory.
 #![tactic(auto)]
 
