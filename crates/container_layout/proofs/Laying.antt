@@ -1,10 +1,10 @@
 -- Rows and stacks that were laid out, one more after others, and where the region goes on.
-use Rattle.std.proofs.Common.{◌≡◌, ℕ, zero, suc, ◌<◌, ◌≤◌, List, [], ◌∷◌, ◌++◌, length, map, Some, length-append, refl, sym, ◌∙◌, ap, arith, subst, ◌⊎◌, inl, inr}
+use Rattle.std.proofs.Common.{◌≡◌, ℕ, zero, suc, ◌≤◌, List, [], ◌∷◌, ◌++◌, length, Some, length-append, refl, sym, ◌∙◌, ap, arith, ◌⊎◌, inl, inr}
 use Rattle.std.specs.Prelude.{slice_get}
 use Rattle.flow_list.specs.Data.{FlowsData}
 use Rattle.flow_list.specs.Book.{after_uses}
 use Rattle.flow_list.specs.Certificate.{Use, StackRow, book_behind, row_book, row_uses}
-use Rattle.flow_list.specs.Entries.{use_of, uses_in}
+use Rattle.flow_list.specs.Entries.{uses_in}
 use Rattle.flow_list.specs.declared.book.SizeEntry.{SizeEntry}
 use Rattle.flow_list.specs.declared.laid.LaidRow.{LaidRow}
 use Rattle.flow_list.specs.declared.laid.LaidStack.{LaidStack}
@@ -16,7 +16,6 @@ use Rattle.mc_base.specs.declared.fragment.FragId.{FragId}
 use Rattle.mc_base.specs.declared.fragment.FragId.TheVariants.{Kept, Trial}
 use Rattle.frag_pool.proofs.Growth.{grows-same-trial, stands-live}
 use Rattle.frag_pool.proofs.Stays.{stands-growing}
-use Rattle.std.proofs.lemmas.Option.{slice_get_within}
 use Rattle.container_layout.specs.Laid.{AreLaidAfter, AreLaidStacks, IsLaidRow, IsLaidStack}
 
 module _ (d : FlowsData) (p q : Nodes) (same : SameTrial p q) where

@@ -1,14 +1,12 @@
 -- The rows directly in stacks by their numbers.
-use Rattle.std.proofs.Common.{◌≡◌, ℕ, suc, arith, false, ◌+◌, ◌<◌, List, [], ◌∷◌, ◌++◌, length, get_or, None, refl, sym, ◌∙◌, ap, add-one, subst}
+use Rattle.std.proofs.Common.{◌≡◌, ℕ, arith, false, ◌+◌, List, [], ◌∷◌, ◌++◌, length, refl, sym, ◌∙◌, ap, add-one}
 use Rattle.std.specs.List.{flat_map}
 use Rattle.std.proofs.lemmas.List.{append-nil}
 use Rattle.std.proofs.lemmas.List.Concat.{flat_map-append}
 use Rattle.flow_list.specs.Data.{FlowsData}
 use Rattle.flow_list.specs.Certificate.{StackRow, Use, book_behind, book_of, numbers_below, rows_in_stacks, stands_in}
-use Rattle.flow_list.specs.declared.book.SizeEntry.{SizeEntry}
-use Rattle.flow_list.specs.Book.{IsTrueBook}
 use Rattle.inner_rows.specs.TrueBook.{AreTrue}
-use Rattle.container_layout.specs.Found.{HasFound, numbered, row_found}
+use Rattle.container_layout.specs.Found.{numbered}
 use Rattle.container_layout.proofs.Tables.{all_of}
 
 -- those of numbers below n

@@ -1,8 +1,8 @@
 -- What stands in a stack leaves room below 2^60: all that its flow holds is no higher than all flows together.
-use Rattle.std.proofs.Common.{◌≡◌, ℕ, zero, suc, ◌+◌, ◌<◌, ◌≤◌, ◌^◌, length, subst, sym, arith, sum_by, Option, ap, All, List, false}
-use Rattle.flow_list.specs.Data.{Flow, FlowsData, Stack, Edge, Seam}
+use Rattle.std.proofs.Common.{◌≡◌, ℕ, suc, ◌+◌, ◌<◌, ◌≤◌, ◌^◌, length, subst, sym, arith, sum_by, Option, ap, All, List}
+use Rattle.flow_list.specs.Data.{Flow, FlowsData, Stack, Edge}
 use Rattle.flow_list.specs.ClonedEdges.{bottoms, open_across, tops}
-use Rattle.flow_data.specs.Flows.{amount, box_of, boxes_in, flow_of, item_of, no_flow, row_of, seam_of, stack_of}
+use Rattle.flow_data.specs.Flows.{amount, box_of, flow_of, item_of, no_flow, row_of, seam_of, stack_of}
 use Rattle.flow_data.specs.Soundness.{IsSound, IsSoundFlow}
 use Rattle.flow_list.specs.RowHeights.{row_height}
 use Rattle.flow_list.specs.Rows.{all_rows, rows_to}

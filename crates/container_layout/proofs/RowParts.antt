@@ -1,5 +1,5 @@
 -- The columns, the height, the fragments and the uses of a row directly in a stack.
-use Rattle.std.proofs.Common.{◌≡◌, ℕ, suc, ◌-◌, ◌+◌, ◌^◌, ◌<◌, ◌≤◌, Bool, true, false, cond, List, [], ◌∷◌, ◌++◌, length, Option}
+use Rattle.std.proofs.Common.{◌≡◌, ℕ, suc, ◌-◌, ◌^◌, ◌<◌, ◌≤◌, Bool, true, false, cond, List, [], ◌∷◌, ◌++◌, length, Option}
 use Rattle.std.proofs.Common.{Some, None, refl, sym, ◌∙◌, ap, arith, ◌⊎◌, inl, inr, All}
 use Rattle.std.proofs.lemmas.Bool.{cases_lt}
 use Rattle.std.proofs.lemmas.Bool.Decides.{nat_tests}
@@ -191,8 +191,13 @@ module _ (d : FlowsData) (sound : IsSound d) (r : ℕ) (known : r < length d.row
     pub auto-trees : (most : ℕ) → left ≤ most → columns_in d (in_stack d r available)
         ≡ fragments_from (column_fragment d r (Some (fill_limit available))) row_start (filled_columns most available)
     auto-trees most le =
-        ap (λ b. columns_in d (record { row = r; from = row_start; height = row_height d r available;
-            made_at = cond b available (Some (balanced_height available (size_of d r row_start))); filled = false })) auto
+        ap (λ b. columns_in d (record {
+          row = r;
+          from = row_start;
+          height = row_height d r available;
+          made_at = cond b available (Some (balanced_height available (size_of d r row_start)));
+          filled = false;
+        })) auto
         ∙ filled-fragments (row_height d r available) most available le
 
     pub auto-uses : (most : ℕ) → left ≤ most → row_uses d r available ≡ uses_of (filled_columns most available)
@@ -234,8 +239,13 @@ module _ (d : FlowsData) (sound : IsSound d) (r : ℕ) (known : r < length d.row
         (columns_from d r row_start (balanced_height available (size_of d r row_start))) ≡ columns_in d (in_stack d r available)
     balanced-trees =
         sym (made-fragments (row_height d r available) (Some (balanced_height available (size_of d r row_start))))
-        ∙ ap (λ b. columns_in d (record { row = r; from = row_start; height = row_height d r available;
-            made_at = cond b available (Some (balanced_height available (size_of d r row_start))); filled = false }))
+        ∙ ap (λ b. columns_in d (record {
+          row = r;
+          from = row_start;
+          height = row_height d r available;
+          made_at = cond b available (Some (balanced_height available (size_of d r row_start)));
+          filled = false;
+        }))
         (sym balanced)
 
     pub balanced-used : balanced_uses d r row_start available ≡ row_uses d r available

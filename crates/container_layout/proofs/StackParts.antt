@@ -1,5 +1,5 @@
 -- A stack's height and fragment, told of the stack that a look answered.
-use Rattle.std.proofs.Common.{◌≡◌, ℕ, suc, ◌+◌, ◌<◌, ◌^◌, ◌==◌, List, [], ◌∷◌, length, cond, refl, sym, ◌∙◌, ap, subst, arith, map}
+use Rattle.std.proofs.Common.{◌≡◌, ℕ, ◌+◌, ◌==◌, List, [], ◌∷◌, length, cond, sym, ◌∙◌, ap, subst, arith}
 use Rattle.mc_base.specs.PlainTree.{PlainTree, plain_trees, column as column_tree}
 use Rattle.mc_base.specs.declared.fragment.FragId.{FragId}
 use Rattle.mc_base.specs.declared.fragment.FragId.TheVariants.{Trial}

@@ -1,19 +1,19 @@
 -- The rows directly in stacks, noted by their numbers: no two have one number.
 use Rattle.std.proofs.Common.{◌≡◌, ◌≢◌, ℕ, zero, suc, ◌+◌, ◌-◌, ◌==◌, ◌<◌, ◌≤◌, Bool, true, false, cond, List, [], ◌∷◌, ◌++◌, length}
 use Rattle.std.proofs.Common.{Option, Some, None, drop, get_or, map, refl, subst, sym, ◌∙◌, ap, arith, ◌⊎◌, inl, inr, append_assoc, set}
-use Rattle.std.proofs.Common.{sum_by, length-append, add-one}
-use Rattle.std.specs.Prelude.{filter, replicate}
+use Rattle.std.proofs.Common.{length-append, add-one}
+use Rattle.std.specs.Prelude.{replicate}
 use Rattle.std.specs.List.{flat_map}
 use Rattle.std.proofs.lemmas.Bool.{cases_lt, cases_eq}
 use Rattle.std.proofs.lemmas.Bool.Decides.{nat_tests}
 use Rattle.std.proofs.lemmas.List.{append-nil, drop_more, map-append, length-set, get_or-set_same, get_or-set_other}
 use Rattle.std.proofs.lemmas.List.Concat.{flat_map-append}
 use Rattle.std.proofs.lemmas.List.Elements.{filter-append}
-use Rattle.std.proofs.lemmas.List.Sums.{sum_by-append, sum_by-cons}
+use Rattle.std.proofs.lemmas.List.Sums.{sum_by-append}
 use Rattle.flow_data.specs.Flows.{flow_of, item_of, no_flow, no_item, row_of, stack_of}
 use Rattle.flow_data.specs.Soundness.{IsSound, IsSoundItem, count_of}
 use Rattle.flow_data.proofs.Counts.{count-cons}
-use Rattle.flow_list.specs.Data.{Atom, Bound, Each, Flow, FlowsData, Free, Item, Left, Row, Stack}
+use Rattle.flow_list.specs.Data.{Bound, Each, Flow, FlowsData, Free, Item, Left, Row, Stack}
 use Rattle.flow_list.specs.Certificate.{Entry, StackRow, Use, auto_entry, certificate, entries_behind, entry_of, numbers_below, row_book, row_entry}
 use Rattle.flow_list.specs.Certificate.{rows_in_stacks, size_entry, stack_row, stack_rows}
 use Rattle.flow_list.specs.Stacks.{available_at, available_to}
@@ -64,9 +64,11 @@ stacks-split d k zero =
     ([], ap (rows_of_stacks d) same ∙ sym (append-nil (rows_of_stacks d k)))
 stacks-split d k (suc m) =
     let e = stacks-split d k m in
-    let same : suc m + k ≡ suc (m + k) = omega arith in
-    (e.0 ++ rows_of_stack d (m + k), ap (rows_of_stacks d) same ∙ stacks-more d (m + k) ∙ ap (λ xs. xs ++ rows_of_stack d (m + k)) e.1
-    ∙ append_assoc (rows_of_stacks d k) e.0 (rows_of_stack d (m + k)))
+    let same : suc m + k ≡ suc (m + k) = omega arith in (
+      e.0 ++ rows_of_stack d (m + k),
+      ap (rows_of_stacks d) same ∙ stacks-more d (m + k) ∙ ap (λ xs. xs ++ rows_of_stack d (m + k)) e.1
+          ∙ append_assoc (rows_of_stacks d k) e.0 (rows_of_stack d (m + k)),
+    )
 
 abbrev pub all_of : FlowsData → List StackRow
 all_of d = rows_of_stacks d (length d.stacks)
@@ -227,8 +229,11 @@ module _ (d : FlowsData) (sound : IsSound d) (stack : Stack) (is : IsStack d sta
           let few = numbered-once law in
           let same = ap length parts in
           let long = ap length e in
-          absurd (omega (arith, length-append (numbered r rows ++ x ∷ []) (numbered r more),
-          length-append (numbered r rows) (x ∷ [])))
+          absurd (omega (
+            arith,
+            length-append (numbered r rows ++ x ∷ []) (numbered r more),
+            length-append (numbered r rows) (x ∷ []),
+          ))
 
 -- ---- the table
 

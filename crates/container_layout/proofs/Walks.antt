@@ -1,7 +1,6 @@
 -- A stack, item by item.
-use Rattle.std.proofs.Common.{◌≡◌, ℕ, zero, suc, ◌+◌, ◌-◌, ◌<◌, ◌≤◌, ◌^◌, List, [], ◌∷◌, ◌++◌, length, Option, Some, None, cond, Bool}
-use Rattle.std.proofs.Common.{true, false, refl, subst, sym, ◌∙◌, ap, add-one, append_assoc, arith, sum_by, All, map}
-use Rattle.std.proofs.lemmas.List.{append-nil}
+use Rattle.std.proofs.Common.{◌≡◌, ℕ, suc, ◌+◌, ◌-◌, ◌<◌, ◌≤◌, ◌^◌, List, [], ◌∷◌, ◌++◌, length, Option, Some, None, cond, Bool}
+use Rattle.std.proofs.Common.{true, false, refl, subst, sym, ◌∙◌, ap, add-one, arith, sum_by, All}
 use Rattle.std.proofs.lemmas.List.Elements.{All-cons, All-head, All-nil, All-push, All-tail, All-weaker}
 use Rattle.mc_base.specs.PlainTree.{plain_trees, row_piece}
 use Rattle.flow_list.specs.Data.{Bound, Edge, Flow, FlowsData, Item, Row, Stack}

@@ -1,6 +1,5 @@
 -- The rows directly in stacks, found by their numbers.
 use Rattle.std.specs.Prelude.{◌≡◌, ℕ, zero, suc, ◌==◌, ◌<◌, List, [], ◌∷◌, ◌++◌, filter, flat_map, get_or, length, Option, Some, None}
-use Rattle.std.specs.Prelude.{MatchOption}
 use Rattle.flow_list.specs.Data.{Bound, Flow, FlowsData, Free, Each, Left}
 use Rattle.flow_data.specs.Flows.{flow_of, item_of, stack_of}
 use Rattle.flow_list.specs.Certificate.{StackRow, numbers_below, stack_row, stack_rows}

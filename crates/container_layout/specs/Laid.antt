@@ -1,5 +1,5 @@
 -- Stacks and the rows directly in them as they were laid out (CSS 2.1, section 9.4.1; CSS Multi-column 1, section 7).
-use Rattle.std.specs.Prelude.{◌≡◌, ℕ, suc, ◌<◌, Bool, false, cond, List, [], ◌∷◌, length, slice_get, Option, Some, None}
+use Rattle.std.specs.Prelude.{◌≡◌, ℕ, suc, ◌<◌, Bool, false, cond, List, [], ◌∷◌, length, slice_get, Option, Some}
 use Rattle.mc_base.specs.PlainTree.{PlainTree, plain_trees, row_piece}
 use Rattle.flow_list.specs.Data.{FlowsData, Stack}
 use Rattle.flow_data.specs.Flows.{row_of, flow_in, stack_of}

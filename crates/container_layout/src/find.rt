@@ -167,7 +167,9 @@ fn next_strip(flows: &Flows, stack: Stack, k: u32, strip: Laying, height: Units)
     // Sealed flows are sound.
     let _counts = flow_counts(flows);
     let seam = seam_at(flows, stack.flow, k + 1);
-    strip.past(height, seam.tail.as_slice()).lay_all(seam.head.as_slice())
+    strip
+        .past(height, seam.tail.as_slice())
+        .lay_all(seam.head.as_slice())
 }
 
 /// Notes the rows directly in a stack that has a height of its own: what is left of it where a row begins. So the rows are laid

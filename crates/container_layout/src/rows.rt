@@ -140,7 +140,17 @@ fn filled_row<I: InnerRows>(
     let limit = limit_of(available);
     let mut tally = no_counts();
     let made = fold(
-        alloc, inner, flows, row, &start, limit, u32::MAX, FoldMode::All, book, pool, &mut tally,
+        alloc,
+        inner,
+        flows,
+        row,
+        &start,
+        limit,
+        u32::MAX,
+        FoldMode::All,
+        book,
+        pool,
+        &mut tally,
     )?;
     let height = filled(available, made.extent, made.unforced);
     let frag = piece_with(alloc, pool, made.frag, row, Some(height))?;

@@ -19,7 +19,9 @@ use crate::find::{available_in, item_in};
 use crate::lay::Stands;
 use crate::pieces::piece_with;
 use column_places::Placing;
-use flow_list::{Flows, Item, Stack, box_at, flow_counts, item_count, opened_in, row_at, seam_at, stack_at};
+use flow_list::{
+    Flows, Item, Stack, box_at, flow_counts, item_count, opened_in, row_at, seam_at, stack_at,
+};
 use frag_maker::{MadeRow, Placed};
 use frag_pool::Pool;
 use mc_base::{NoMemory, Token, Units};

@@ -24,7 +24,12 @@ use std::alloc::Global;
 /// those that it uses itself. The region's trial nodes are as they were, whatever is answered, and its kept nodes unchanged.
 ///
 /// Out of memory: the book holds true entries alone.
-pub fn layout(alloc: Global, flows: &Flows, book: &mut Book, pool: &mut Pool) -> Result<Laid, NoMemory>
+pub fn layout(
+    alloc: Global,
+    flows: &Flows,
+    book: &mut Book,
+    pool: &mut Pool,
+) -> Result<Laid, NoMemory>
     requires { book.old ≡ [] }
     ensures stacks { IfOk result (λ laid. AreLaidStacks flows.now pool.new laid.stacks) }
     ensures count { IfOk result (λ laid. length laid.stacks ≡ length flows.now.stacks) }

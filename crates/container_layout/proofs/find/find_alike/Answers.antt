@@ -1,4 +1,4 @@
-use Rattle.std.proofs.Common.{◌≡◌, ◌<◌, ◌≤◌, ◌∙◌, refl, sym, ap, arith, length, subst, ℕ, ◌++◌}
+use Rattle.std.proofs.Common.{◌≡◌, ◌<◌, ◌≤◌, ◌∙◌, arith, length, subst, ℕ, ◌++◌}
 use Rattle.flow_data.specs.Flows.{flow_of}
 use Rattle.container_layout.specs.Found.{HasFound, rows_before}
 use Rattle.container_layout.proofs.Rooms.{in-flows}

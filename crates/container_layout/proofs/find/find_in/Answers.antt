@@ -1,4 +1,4 @@
-use Rattle.std.proofs.Common.{◌≡◌, ◌∙◌, refl, sym, ap, subst, List, ◌++◌, OnOk}
+use Rattle.std.proofs.Common.{◌≡◌, refl, sym, subst, List, ◌++◌, OnOk}
 use Rattle.flow_data.specs.Flows.{stack_of}
 use Rattle.flow_list.specs.Certificate.{StackRow}
 use Rattle.frag_pool.proofs.Growth.{same-trial-refl}

@@ -1,13 +1,12 @@
-use Rattle.std.proofs.Common.{◌≡◌, ◌+◌, ◌<◌, ◌≤◌, ◌∙◌, refl, sym, ap, arith, length, subst, ℕ, ◌++◌}
-use Rattle.flow_data.specs.Flows.{flow_of, stack_of}
+use Rattle.std.proofs.Common.{◌≡◌, ◌<◌, ◌≤◌, ◌∙◌, sym, ap, arith, length, subst, ℕ, ◌++◌}
+use Rattle.flow_data.specs.Flows.{flow_of}
 use Rattle.flow_list.specs.Data.{Stack}
-use Rattle.flow_list.specs.Stacks.{available_at, height_in_stack}
+use Rattle.flow_list.specs.Stacks.{available_at}
 use Rattle.flow_list.specs.Strip.{Strip, begins}
 use Rattle.column_strip.specs.Strips.{strip_of}
 use Rattle.frag_pool.proofs.Growth.{same-trial-refl, same-trial-trans}
 use Rattle.inner_rows.proofs.Calls.{book-refl, book-trans}
 use Rattle.container_layout.specs.Found.{HasFound, rows_before}
-use Rattle.container_layout.specs.Laid.{IsStack}
 use Rattle.container_layout.proofs.Rooms.{in-flows, strip-room}
 use Rattle.container_layout.proofs.Tables.{all_of, item-goes, none-noted}
 use Rattle.container_layout.proofs.find.find_left.Goals as goal

@@ -1,4 +1,4 @@
-use Rattle.std.proofs.Common.{◌≡◌, ◌+◌, ◌<◌, ◌≤◌, ◌∙◌, refl, sym, ap, subst, arith, List, ℕ, length, []}
+use Rattle.std.proofs.Common.{◌≡◌, ◌≤◌, ◌∙◌, sym, subst, arith, List, ℕ, length}
 use Rattle.frag_pool.proofs.Growth.{same-trial-refl, same-trial-trans}
 use Rattle.flow_list.specs.declared.book.SizeEntry.{SizeEntry}
 use Rattle.container_layout.specs.Found.{HasFound, rows_of_stacks}

@@ -1,5 +1,4 @@
-use Rattle.std.proofs.Common.{◌≡◌, ◌∙◌, refl, sym, ap, arith, IfOk}
-use Rattle.flow_data.specs.Flows.{flow_of}
+use Rattle.std.proofs.Common.{◌∙◌, sym, ap}
 use Rattle.flow_list.specs.Data.{Item}
 use Rattle.flow_list.specs.RowHeights.{row_height}
 use Rattle.flow_list.specs.Stacks.{height_in_stack}

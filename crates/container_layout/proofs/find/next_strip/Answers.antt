@@ -1,6 +1,6 @@
-use Rattle.std.proofs.Common.{◌≡◌, ◌+◌, ◌≤◌, ◌<◌, ◌^◌, ◌∙◌, refl, sym, ap, arith, sum_by}
+use Rattle.std.proofs.Common.{◌+◌, ◌∙◌, ap, arith, sum_by}
 use Rattle.flow_list.specs.Data.{Seam}
-use Rattle.flow_list.specs.Strip.{Strip, lay_all}
+use Rattle.flow_list.specs.Strip.{lay_all}
 use Rattle.flow_data.specs.Flows.{amount, flow_of}
 use Rattle.column_strip.specs.Strips.{strip_of}
 use Rattle.container_layout.proofs.Rooms.{in-flows, item-room, some-seam}

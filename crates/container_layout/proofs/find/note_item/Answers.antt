@@ -1,5 +1,4 @@
-use Rattle.std.proofs.Common.{◌≡◌, ◌∙◌, refl, sym, ap, arith, length}
-use Rattle.std.proofs.lemmas.List.{length-set}
+use Rattle.std.proofs.Common.{◌∙◌, refl, sym, arith}
 use Rattle.flow_data.specs.Flows.{flow_of}
 use Rattle.container_layout.proofs.Rooms.{in-flows}
 use Rattle.container_layout.proofs.Tables.{atom-noted, item-noted, row-known}

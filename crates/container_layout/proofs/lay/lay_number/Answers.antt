@@ -1,4 +1,4 @@
-use Rattle.std.proofs.Common.{◌∙◌, refl, ap, subst, List, sym, ◌++◌, [], Option}
+use Rattle.std.proofs.Common.{◌∙◌, ap, subst, List, sym, ◌++◌, [], Option}
 use Rattle.std.proofs.lemmas.List.{append-nil}
 use Rattle.flow_list.specs.Certificate.{StackRow, book_behind}
 use Rattle.flow_list.specs.Entries.{uses_in}

@@ -1,10 +1,8 @@
-use Rattle.std.proofs.Common.{◌≡◌, ◌+◌, ◌<◌, ◌≤◌, ◌∙◌, ℕ, Option, IfSome, refl, sym, ap, subst, List, [], ◌++◌, arith, length}
+use Rattle.std.proofs.Common.{◌≡◌, ◌+◌, ◌<◌, ◌≤◌, ◌∙◌, ℕ, Option, IfSome, sym, ap, subst, List, [], ◌++◌, arith, length}
 use Rattle.std.proofs.lemmas.List.{length_push}
 use Rattle.flow_list.specs.Certificate.{StackRow, book_behind}
 use Rattle.flow_list.specs.Entries.{uses_in}
-use Rattle.flow_list.specs.declared.book.SizeEntry.{SizeEntry}
 use Rattle.frag_pool.proofs.Growth.{grows-same-trial, same-trial-refl, same-trial-trans}
-use Rattle.inner_rows.specs.TrueBook.{AreTrue}
 use Rattle.container_layout.specs.Found.{HasStanding, IsStanding, numbered, row_found, row_standing}
 use Rattle.container_layout.specs.Laid.{AreLaidAfter}
 use Rattle.container_layout.specs.declared.lay.Stands.{Stands}

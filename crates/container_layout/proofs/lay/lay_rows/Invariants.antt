@@ -1,5 +1,4 @@
 use Rattle.std.proofs.Common.{◌≡◌, [], length}
-use Rattle.std.specs.List.{flat_map}
 use Rattle.flow_list.specs.Certificate.{book_behind}
 use Rattle.flow_list.specs.Entries.{uses_in}
 use Rattle.frag_pool.specs.Nodes.{SameTrial}

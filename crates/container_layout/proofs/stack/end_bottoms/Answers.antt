@@ -1,4 +1,4 @@
-use Rattle.std.proofs.Common.{◌≡◌, ◌∙◌, refl, sym, ap, arith, length}
+use Rattle.std.proofs.Common.{◌∙◌, ap, arith}
 use Rattle.flow_data.specs.Flows.{flow_of}
 use Rattle.flow_list.specs.ClonedEdges.{bottoms, open_across}
 use Rattle.container_layout.proofs.Rooms.{across-boxes, bottoms-room, in-flows}

@@ -1,4 +1,4 @@
-use Rattle.std.proofs.Common.{◌≡◌, ◌∙◌, ◌+◌, refl, sym, ap, subst, arith, List, length, length-append, [], ◌∷◌, ◌++◌, ℕ}
+use Rattle.std.proofs.Common.{◌∙◌, sym, ap, subst, arith, List, length, length-append, [], ◌∷◌, ℕ}
 use Rattle.flow_list.specs.declared.laid.LaidStack.{LaidStack}
 use Rattle.frag_pool.proofs.Growth.{grows-same-trial, same-trial-refl, same-trial-trans}
 use Rattle.container_layout.specs.Laid.{AreLaidStacks, IsLaidStack}

@@ -1,14 +1,9 @@
-use Rattle.std.proofs.Common.{◌≡◌, ◌+◌, ◌<◌, ◌^◌, ◌∙◌, refl, sym, ap, subst, arith, List, All, map, length}
-use Rattle.mc_base.specs.PlainTree.{plain_trees}
-use Rattle.flow_data.specs.Flows.{flow_of}
-use Rattle.flow_list.specs.Fragments.{all_trees}
-use Rattle.flow_list.specs.Stacks.{stack_extent}
-use Rattle.frag_pool.specs.Standing.{AllStandFor}
+use Rattle.std.proofs.Common.{◌∙◌, ap, arith, map}
 use Rattle.frag_pool.proofs.Growth.{grows-trans}
 use Rattle.frag_maker.specs.Building.{RowsAreMade, placed_as}
 use Rattle.frag_maker.proofs.Growing.{grows-same, grows-trial}
-use Rattle.container_layout.specs.Laid.{IsStack, columns_in}
-use Rattle.container_layout.proofs.Rooms.{extent-room, in-flows}
+use Rattle.container_layout.specs.Laid.{columns_in}
+use Rattle.container_layout.proofs.Rooms.{extent-room}
 use Rattle.container_layout.proofs.StackParts.{extent-is, height-is, stack-made}
 use Rattle.container_layout.proofs.Walks.{live-placed, made-placed}
 use Rattle.container_layout.proofs.stack.make_stack.Goals as goal

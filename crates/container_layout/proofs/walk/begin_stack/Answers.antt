@@ -1,4 +1,4 @@
-use Rattle.std.proofs.Common.{◌≡◌, ◌+◌, ◌∙◌, refl, sym, ap, arith}
+use Rattle.std.proofs.Common.{◌+◌, ◌∙◌, ap, arith}
 use Rattle.flow_list.specs.Data.{Seam}
 use Rattle.flow_list.specs.Strip.{Strip}
 use Rattle.container_layout.proofs.Rooms.{across-boxes, head-room, in-flows, some-seam, tops-room}

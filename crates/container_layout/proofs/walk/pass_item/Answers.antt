@@ -1,4 +1,4 @@
-use Rattle.std.proofs.Common.{◌≡◌, ◌+◌, ◌∙◌, refl, sym, ap, subst, arith, List}
+use Rattle.std.proofs.Common.{◌+◌, ◌∙◌, sym, ap, subst, arith, List}
 use Rattle.flow_list.specs.Data.{Seam}
 use Rattle.flow_data.specs.Flows.{flow_of}
 use Rattle.frag_maker.specs.declared.placed.MadeRow.{MadeRow}

@@ -1,12 +1,11 @@
-use Rattle.std.proofs.Common.{◌≡◌, ◌+◌, ◌-◌, ◌<◌, ◌≤◌, ◌∙◌, refl, sym, ap, subst, arith, List, ℕ, length, All, map}
-use Rattle.flow_data.specs.Flows.{flow_of, stack_of}
+use Rattle.std.proofs.Common.{◌≡◌, ◌≤◌, ◌∙◌, sym, ap, subst, arith, List, length}
+use Rattle.flow_data.specs.Flows.{flow_of}
 use Rattle.flow_list.specs.Data.{Stack}
 use Rattle.flow_list.specs.Stacks.{stack_strip}
 use Rattle.flow_list.specs.Strip.{Strip}
 use Rattle.frag_pool.proofs.Growth.{grows-refl, grows-trans}
 use Rattle.frag_maker.specs.declared.placed.MadeRow.{MadeRow}
 use Rattle.column_places.specs.Placing.{rows_of, strip_of}
-use Rattle.container_layout.specs.Laid.{IsStack}
 use Rattle.container_layout.specs.Placed.{AllHaveColumns, laid_in, places_in}
 use Rattle.container_layout.proofs.Rooms.{in-flows, strip-room}
 use Rattle.container_layout.proofs.Standing.{standing-grows}

@@ -1,5 +1,5 @@
-use Rattle.std.proofs.Common.{◌≡◌, ◌+◌, ◌<◌, ◌∙◌, refl, sym, ap, subst, arith, List, Some, None, length}
-use Rattle.flow_data.specs.Flows.{flow_of, item_of}
+use Rattle.std.proofs.Common.{◌∙◌, sym, ap, subst, arith, List}
+use Rattle.flow_data.specs.Flows.{flow_of}
 use Rattle.flow_list.specs.Data.{Item}
 use Rattle.flow_list.specs.Stacks.{height_in_stack}
 use Rattle.flow_list.specs.Strip.{begins}
