@@ -1,0 +1,10 @@
+pub mod Ends
+pub mod Follows
+pub mod Limits
+pub mod Pieces
+pub mod Progress
+pub mod Shares
+pub mod Sizes
+pub mod Trials
+pub mod Uses
+pub mod Wholes

@@ -1,0 +1,33 @@
+use Rattle.std.proofs.Common.{List, None, arith, ◌∙◌, ap, subst}
+use Rattle.flow_data.specs.Flows.{row_of}
+use Rattle.flow_list.specs.Book.{after_uses}
+use Rattle.flow_list.specs.Certificate.{uses_of}
+use Rattle.flow_list.specs.Column.{Column}
+use Rattle.flow_list.specs.Entries.{uses_in}
+use Rattle.frag_pool.specs.Standing.{StandsFor}
+use Rattle.inner_rows.specs.Filling.{row_tree}
+use Rattle.balancer.proofs.Trials.{row-flow}
+use Rattle.balancer.proofs.Wholes.{all-columns}
+use Rattle.balancer.proofs.balancing.whole_piece.Goals as goal
+
+pub returns-clause-frag : goal.returns-clause-frag
+returns-clause-frag g c =
+    let d = c.args.flows.now in
+    let sound = c.flow_counts-counts.ensures.sound in
+    subst (λ (cs : List Column). StandsFor c.fold.new.pool c.in_ok-made.made.frag
+    (row_tree d c.args.row c.args.from.now c.args.height None cs))
+    (all-columns d c.args.row c.args.from.now c.args.height _ c.columns_follow.ensures.columns
+    (c.columns_are_few.ensures.columns d sound c.args.row c.requires.row)
+    (c.flows_are_sound.ensures d sound (row_of d c.args.row).flow (row-flow d c.args.row sound c.requires.row)) c.requires.place
+    (omega arith)) c.in_ok-made.ensures.frag
+
+pub returns-clause-uses : goal.returns-clause-uses
+returns-clause-uses g c =
+    let d = c.args.flows.now in
+    let sound = c.flow_counts-counts.ensures.sound in
+    c.in_ok-made.ensures.uses
+    ∙ ap (λ (cs : List Column). after_uses d (uses_in c.args.book.now) (uses_of cs))
+    (all-columns d c.args.row c.args.from.now c.args.height _ c.columns_follow.ensures.columns
+    (c.columns_are_few.ensures.columns d sound c.args.row c.requires.row)
+    (c.flows_are_sound.ensures d sound (row_of d c.args.row).flow (row-flow d c.args.row sound c.requires.row)) c.requires.place
+    (omega arith))

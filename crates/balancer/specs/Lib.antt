@@ -1,0 +1,4 @@
+pub mod Balancing
+pub mod Finding
+pub mod Searching
+pub mod Trying
