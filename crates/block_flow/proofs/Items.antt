@@ -8,8 +8,8 @@ use Rattle.flow_data.specs.declared.data.Flow.{Flow}
 use Rattle.flow_data.specs.declared.data.FlowsData.{FlowsData}
 use Rattle.flow_data.specs.Flows.{item_of}
 use Rattle.flow_list.specs.Certificate.{Use}
-use Rattle.flow_list.specs.Column.{Filled, Inner, Place, Step, alone_place, avoids_at, best, choose, column, column_over}
-use Rattle.flow_list.specs.Column.{column_up_to, cut, fill_in_room, fills, inner_uses, inside, inside_place, is_cut, last_place}
+use Rattle.flow_list.specs.Column.{Filled, Inner, Place, Step, alone_place, avoids_at, choose, column, column_over}
+use Rattle.flow_list.specs.Column.{column_up_to, cut, fills, inside, inside_place, is_cut, last_place}
 use Rattle.flow_list.specs.Column.{room, row_from, row_list, rows_among, seams_before, seams_between, start_strip, steps_from}
 use Rattle.flow_list.specs.Column.{stopped, unstopped, whole_place}
 use Rattle.flow_list.specs.Looks.{looks, stop_count}

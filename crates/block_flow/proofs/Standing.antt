@@ -1,19 +1,18 @@
 -- Once what a column uses is entered in a book, its rows stand there and what the row that it fills uses: neither enters anything
 -- new.
-use Rattle.std.proofs.Common.{◌≡◌, ℕ, ◌+◌, ◌-◌, ◌<◌, ◌≤◌, Bool, true, false, List, [], ◌∷◌, ◌++◌, length, Option, Some, None}
-use Rattle.std.proofs.Common.{refl, sym, subst, ◌∙◌, ap, arith}
-use Rattle.std.specs.Option.{option_map}
+use Rattle.std.proofs.Common.{◌≡◌, ℕ, ◌+◌, ◌-◌, ◌<◌, Bool, true, List, [], ◌∷◌, ◌++◌, Option, Some, None}
+use Rattle.std.proofs.Common.{sym, subst, ◌∙◌, ap, arith}
 use Rattle.std.specs.List.{AllByRecursion as Each}
 use Rattle.std.proofs.lemmas.List.Elements.{All-from_recursion, recursion_from_All}
 use Rattle.flow_data.specs.declared.data.Flow.{Flow}
 use Rattle.flow_data.specs.declared.data.FlowsData.{FlowsData}
 use Rattle.flow_list.specs.Book.{AllStand, after_uses}
 use Rattle.flow_list.specs.Certificate.{Use, stands_in}
-use Rattle.flow_list.specs.Column.{Inner, Step, avoids_at, column, column_up_to, cut, fill_in_room, fills, inner_uses, room}
+use Rattle.flow_list.specs.Column.{Step, avoids_at, column, column_up_to, cut, fill_in_room, fills, inner_uses, room}
 use Rattle.flow_list.specs.Column.{rows_among, steps_from}
 use Rattle.flow_list.specs.Looks.{looks}
 use Rattle.flow_list.specs.Rows.{all_rows}
-use Rattle.flow_list.specs.Tokens.{IsPlaceBefore, Token, item_number, within}
+use Rattle.flow_list.specs.Tokens.{IsPlaceBefore, Token, item_number}
 use Rattle.flow_list.proofs.ColumnParts.{EachFrom, cut-each, through}
 use Rattle.range_laws.specs.Entering.{UsesEnter}
 use Rattle.column_maker.specs.Making.{items_in, last_item, rows_in_column}

@@ -62,7 +62,8 @@ fn fill_again<I: InnerRows, C: Tally>(
     requires engine { I.is_true inner.old flows.now book.old pool.old }
     requires book { AreTrue flows.now book.old }
     ensures room { IfOk result (λ cut. cut.room ≡ row.now.height) }
-    ensures frag { IfOk result (λ cut. StandsFor pool.new cut.made (fill_tree flows.now row.now.row row.now.from row.now.height)) }
+    ensures frag { IfOk result (λ cut.
+        StandsFor pool.new cut.made (fill_tree flows.now row.now.row row.now.from row.now.height)) }
     ensures depth { I.depth inner.new ≡ I.depth inner.old }
     ensures engine { I.is_true inner.new flows.now book.new pool.new }
     ensures book { BookAfter flows.now book.old book.new }
@@ -145,7 +146,8 @@ fn made_column<I: InnerRows, C: Tally>(
     requires some { All (λ r. 0 < length (flow_in flows.now r).items) (rows_in (flow_of flows.now flow)) }
     requires engine { I.is_true inner.old flows.now book.old pool.old }
     requires book { AreTrue flows.now book.old }
-    ensures column { IfOk result (IsColumn height (column_of (all_rows flows.now) flows.now (flow_of flows.now flow) from.now height)) }
+    ensures column { IfOk result
+        (IsColumn height (column_of (all_rows flows.now) flows.now (flow_of flows.now flow) from.now height)) }
     ensures frag { IfOk result (λ out. StandsFor pool.new out.frag (tree_of_column flows.now flow from.now height)) }
     ensures depth { I.depth inner.new ≡ I.depth inner.old }
     ensures engine { I.is_true inner.new flows.now book.new pool.new }
@@ -181,11 +183,13 @@ fn made_column<I: InnerRows, C: Tally>(
 
 /// The column of a flow that begins at a place before its end, at a height in units, with its fragment.
 ///
-/// It ends where the definition says: of the seams up to the first item that there is no room for, and the place within that item
-/// where it is a row, at the one of least level, and among equals at the latest (CSS Fragmentation 3, section 4.5).
+/// It ends where the definition says: of the seams up to the first item that there is no room for, and the place within that
+/// item where it is a row, at the one of least level, and among equals at the latest (CSS Fragmentation 3, section 4.5). The book
+/// gets the sizes that the column uses, where they aren't there. There are at most two reads for each item up to its stop, and
+/// two more.
 ///
-/// The rows of the flow have an item each, and a place within one has at most two numbers. When out of memory, the trial nodes are
-/// as they were, and the book may have further true entries; else what was live is live and unchanged.
+/// The rows of the flow have an item each, and a place within one has at most two numbers. When out of memory, the trial nodes
+/// are as they were, and the book may have further true entries; else what was live is live and unchanged.
 pub fn column<I: InnerRows, C: Tally>(
     alloc: Global,
     inner: &mut I,
@@ -204,7 +208,8 @@ pub fn column<I: InnerRows, C: Tally>(
     requires some { All (λ r. 0 < length (flow_in flows.now r).items) (rows_in (flow_of flows.now flow)) }
     requires engine { I.is_true inner.old flows.now book.old pool.old }
     requires book { AreTrue flows.now book.old }
-    ensures column { IfOk result (IsColumn height (column_of (all_rows flows.now) flows.now (flow_of flows.now flow) from.now height)) }
+    ensures column { IfOk result
+        (IsColumn height (column_of (all_rows flows.now) flows.now (flow_of flows.now flow) from.now height)) }
     ensures frag { IfOk result (λ out. StandsFor pool.new out.frag (tree_of_column flows.now flow from.now height)) }
     ensures depth { I.depth inner.new ≡ I.depth inner.old }
     ensures engine { I.is_true inner.new flows.now book.new pool.new }

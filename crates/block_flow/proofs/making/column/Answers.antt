@@ -5,7 +5,8 @@ use Rattle.block_flow.proofs.making.column.Goals as goal
 
 pub release-requires : goal.release-requires
 release-requires g c =
-    grown-within c.args.pool.now c.made_column.new.pool c.mark-mark.result.trial c.mark-mark.ensures.trial c.made_column.ensures.grown
+    grown-within c.args.pool.now c.made_column.new.pool c.mark-mark.result.trial c.mark-mark.ensures.trial
+    c.made_column.ensures.grown
 
 pub returns-in-Err-clause-engine : goal.returns-in-Err-clause-engine
 returns-in-Err-clause-engine g c =

@@ -29,7 +29,8 @@ returns-in_err-frag-clause-read g c =
     let d = c.args.flows.now in
     let few : items_in c.args.from.now c.in_ok-decision.decision.end
     ≤ looks (all_rows d) d (flow_of d c.args.flow) c.args.from.now c.args.height =
-    rw c.in_ok-decision.ensures.decided.end (items-few d (flow_of d c.args.flow) c.args.from.now c.args.height c.requires.place) in
+    rw c.in_ok-decision.ensures.decided.end
+    (items-few d (flow_of d c.args.flow) c.args.from.now c.args.height c.requires.place) in
     let a = c.in_ok-decision.ensures.read in
     let b = c.in_ok-cut.ensures.read in
     let e = c.in_err-frag.ensures.reads in
@@ -40,7 +41,8 @@ returns-clause-read g c =
     let d = c.args.flows.now in
     let few : items_in c.args.from.now c.in_ok-decision.decision.end
     ≤ looks (all_rows d) d (flow_of d c.args.flow) c.args.from.now c.args.height =
-    rw c.in_ok-decision.ensures.decided.end (items-few d (flow_of d c.args.flow) c.args.from.now c.args.height c.requires.place) in
+    rw c.in_ok-decision.ensures.decided.end
+    (items-few d (flow_of d c.args.flow) c.args.from.now c.args.height c.requires.place) in
     let a = c.in_ok-decision.ensures.read in
     let b = c.in_ok-cut.ensures.read in
     let e = c.in_ok-frag.ensures.reads in
