@@ -15,10 +15,10 @@ ghost use Rattle.inner_rows.specs.Filling.{row_tree};
 ghost use Rattle.inner_rows.specs.TrueBook.{AreTrue, BookAfter};
 ghost use Rattle.balancer.specs.Balancing.{IsBalanced, balanced_uses, limit_of};
 
-use column_row::{FoldMode, fold};
 use crate::search::search;
 use crate::standing::with_height;
 use column_laws::{columns_are_few, columns_follow, flows_are_sound};
+use column_row::{FoldMode, fold};
 use flow_laws::ranges_account;
 use flow_list::{Book, Flows, Range, Tally, flow_counts};
 use frag_pool::Pool;

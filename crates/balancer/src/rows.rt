@@ -8,8 +8,8 @@ ghost use Rattle.flow_list.specs.declared.book.SizeEntry.{SizeEntry};
 ghost use Rattle.frag_pool.specs.Nodes.{Nodes};
 
 use crate::balancing::least;
-use column_row::{FoldMode, fold};
 use column_laws::depths_are_alike;
+use column_row::{FoldMode, fold};
 use flow_list::{Book, Counts, Flows, SizeEntry, flow_counts, row_at};
 use frag_pool::Pool;
 use inner_rows::{Filled, InnerRows, NoRows};

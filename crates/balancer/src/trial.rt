@@ -18,8 +18,8 @@ ghost use Rattle.inner_rows.specs.TrueBook.{AreTrue, BookAfter};
 ghost use Rattle.range_finder.specs.Judging.{goes_on};
 ghost use Rattle.balancer.specs.Trying.{IfFits, IfRejected, range_of};
 
-use column_row::{FoldMode, fold};
 use column_laws::flows_are_sound;
+use column_row::{FoldMode, fold};
 use flow_list::{Book, Flows, Range, Tally, flow_counts};
 use frag_pool::Pool;
 use inner_rows::InnerRows;

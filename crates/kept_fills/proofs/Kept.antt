@@ -42,8 +42,8 @@ module _ (d : FlowsData) (book : List SizeEntry) (p : Nodes) where
       let height_is : k.height ≡ a.height = (unsigned_Decides k.height a.height).0 inner.1 in
       let from_is : k.from ≡ a.from = (bytes_decides k.from a.from).0 outer.1 in
       subst (λ r. IsKeptFill d book p r k.from k.height f) (sym row_is)
-          (subst (λ q. IsKeptFill d book p a.row q k.height f) (sym from_is)
-          (subst (λ h. IsKeptFill d book p a.row a.from h f) (sym height_is) kept))
+      (subst (λ q. IsKeptFill d book p a.row q k.height f) (sym from_is)
+      (subst (λ h. IsKeptFill d book p a.row a.from h f) (sym height_is) kept))
 
   moved_back : (a k : FillKey) (f : Filled) → same_key k a ≡ true → IsKeptFill d book p k.row k.from k.height f →
       IsKeptFill d book p a.row a.from a.height f
@@ -54,8 +54,8 @@ module _ (d : FlowsData) (book : List SizeEntry) (p : Nodes) where
       let height_is : k.height ≡ a.height = (unsigned_Decides k.height a.height).0 inner.1 in
       let from_is : k.from ≡ a.from = (bytes_decides k.from a.from).0 outer.1 in
       subst (λ r. IsKeptFill d book p r a.from a.height f) row_is
-          (subst (λ q. IsKeptFill d book p k.row q a.height f) from_is
-          (subst (λ h. IsKeptFill d book p k.row k.from h f) height_is kept))
+      (subst (λ q. IsKeptFill d book p k.row q a.height f) from_is
+      (subst (λ h. IsKeptFill d book p k.row k.from h f) height_is kept))
 
   -- what is found under a key is a kept fill of it
   pub kept-found : (es : List (FillKey × Filled)) (k : FillKey) (f : Filled) → EachIsKept d book p es →

@@ -13,7 +13,6 @@ use frag_printer::write_tree_within;
 use mc_base::{LimitName, NoMemory, Refusal, Text};
 use std::alloc::Global;
 
-
 /// How many bytes a result may have.
 const RESULT_LIMIT: u64 = 268_435_456;
 
