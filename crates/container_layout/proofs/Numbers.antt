@@ -31,7 +31,11 @@ book-all d = ap (book_behind d []) (sym (rows-all d))
 pub empty-true : (d : FlowsData) → AreTrue d []
 empty-true d = record {
   each = λ k e lt. absurd (omega arith);
-  order = record { once = λ first u rest is. none first u rest is; after_its_uses = λ first u rest is. absurd (split first u rest is) };
+  order = record {
+    once = λ first u rest is. none first u rest is;
+    after_its_uses =
+        λ first u rest is. absurd (split first u rest is);
+  };
 }
   where
     split : (first : List Use) (u : Use) (rest : List Use) → [] ≡ first ++ u ∷ rest → ⊥

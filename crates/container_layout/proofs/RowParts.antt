@@ -8,7 +8,8 @@ use Rattle.flow_data.specs.Soundness.{IsSound, NestsAtMost}
 use Rattle.flow_data.specs.Flows.{flow_in, no_row, row_of, rows_in}
 use Rattle.flow_list.specs.Data.{Flow, FlowsData}
 use Rattle.flow_list.specs.Certificate.{row_ranges, row_uses, uses_of, columns_from, range_uses}
-use Rattle.flow_list.specs.Column.{Column, ColumnLine, Inner, Step, avoids_at, column, column_up_to, cut, endless_column, steps_from}
+use Rattle.flow_list.specs.Column.{Column, ColumnLine, Inner, Step, avoids_at, column, column_up_to, cut, endless_column}
+use Rattle.flow_list.specs.Column.{steps_from}
 use Rattle.flow_list.specs.Column.{unstopped}
 use Rattle.flow_list.specs.Fragments.{all_trees, column_fragment, column_made, fragments_from, laid_start, laid_to, places_in}
 use Rattle.flow_list.specs.Fragments.{row_fragments, stop_of}
@@ -166,7 +167,8 @@ module _ (d : FlowsData) (sound : IsSound d) (r : ℕ) (known : r < length d.row
         ap (λ b. row_columns d r (cond b available (Some (balanced_height available (size_of d r row_start))))) auto
         ∙ row-columns most available le
 
-    pub auto-height : (most extent : ℕ) (unforced : Bool) → left ≤ most → extent ≡ greatest_extent (filled_columns most available) →
+    pub auto-height : (most extent : ℕ) (unforced : Bool) → left ≤ most → extent ≡ greatest_extent (filled_columns most
+        available) →
         unforced ≡ any_unforced (flow_in d r) (filled_columns most available) →
         filled_to available extent unforced ≡ row_height d r available
     unfolding row_height

@@ -34,7 +34,8 @@ module _ (d : FlowsData) (number : ℕ) (stack : Stack) (is : stack ≡ stack_of
       (length (flow_of d (stack_of d number).flow).items)).y →
       b ≡ bottoms d (open_across (flow_of d stack.flow) (length (flow_of d stack.flow).items)) → y + b ≡ far stack
   extent-is y b down low =
-      let own : b ≡ bottoms d (open_across (flow_of d (stack_of d number).flow) (length (flow_of d (stack_of d number).flow).items)) =
+      let own : b ≡ bottoms d (open_across (flow_of d (stack_of d number).flow) (length (flow_of d (stack_of d
+      number).flow).items)) =
       low ∙ ap (λ (s : Stack). bottoms d (open_across (flow_of d s.flow) (length (flow_of d s.flow).items))) is in
       let sum : y + b ≡ far (stack_of d number) = omega arith in
       sum ∙ sym (ap far is)
@@ -55,5 +56,6 @@ module _ (d : FlowsData) (number : ℕ) (stack : Stack) (is : stack ≡ stack_of
       let P : PlainTree → Type 0 = λ t. StandsFor q (Trial (length p.trial)) t in
       let Q : List Placed → Type 0 = λ ps. AllStandFor p ids (plain_trees (all_trees (columns_in d) ps)) in
       let own : placed ≡ places_in d stack (laid_in d stack) = there ∙ sym (ap (λ (s : Stack). places_in d s (laid_in d s)) is) in
-      subst P tree-is (column-made p q stack.flow row_start start (length (flow_of d stack.flow).items ∷ []) stop (far stack) extent
+      subst P tree-is (column-made p q stack.flow row_start start (length (flow_of d stack.flow).items ∷ []) stop (far stack)
+      extent
       ids _ from (to ∙ ap (λ n. n ∷ []) count) reach more (subst Q own stand))

@@ -1,6 +1,8 @@
 -- The rows directly in stacks, noted by their numbers: no two have one number.
-use Rattle.std.proofs.Common.{◌≡◌, ◌≢◌, ℕ, zero, suc, ◌+◌, ◌-◌, ◌==◌, ◌<◌, ◌≤◌, Bool, true, false, cond, List, [], ◌∷◌, ◌++◌, length}
-use Rattle.std.proofs.Common.{Option, Some, None, drop, get_or, map, refl, subst, sym, ◌∙◌, ap, arith, ◌⊎◌, inl, inr, append_assoc, set}
+use Rattle.std.proofs.Common.{◌≡◌, ◌≢◌, ℕ, zero, suc, ◌+◌, ◌-◌, ◌==◌, ◌<◌, ◌≤◌, Bool, true, false, cond, List, [], ◌∷◌, ◌++◌}
+use Rattle.std.proofs.Common.{length}
+use Rattle.std.proofs.Common.{Option, Some, None, drop, get_or, map, refl, subst, sym, ◌∙◌, ap, arith, ◌⊎◌, inl, inr}
+use Rattle.std.proofs.Common.{append_assoc, set}
 use Rattle.std.proofs.Common.{length-append, add-one}
 use Rattle.std.specs.Prelude.{replicate}
 use Rattle.std.specs.List.{flat_map}
@@ -14,11 +16,13 @@ use Rattle.flow_data.specs.Flows.{flow_of, item_of, no_flow, no_item, row_of, st
 use Rattle.flow_data.specs.Soundness.{IsSound, IsSoundItem, count_of}
 use Rattle.flow_data.proofs.Counts.{count-cons}
 use Rattle.flow_list.specs.Data.{Bound, Each, Flow, FlowsData, Free, Item, Left, Row, Stack}
-use Rattle.flow_list.specs.Certificate.{Entry, StackRow, Use, auto_entry, certificate, entries_behind, entry_of, numbers_below, row_book, row_entry}
+use Rattle.flow_list.specs.Certificate.{Entry, StackRow, Use, auto_entry, certificate, entries_behind, entry_of}
+use Rattle.flow_list.specs.Certificate.{numbers_below, row_book, row_entry}
 use Rattle.flow_list.specs.Certificate.{rows_in_stacks, size_entry, stack_row, stack_rows}
 use Rattle.flow_list.specs.Stacks.{available_at, available_to}
 use Rattle.range_laws.specs.Entries.{EntriesStandOnce, row_in_entry, rows_in_entries}
-use Rattle.container_layout.specs.Found.{HasFound, IsAlike, numbered, row_found, rows_before, rows_of_stack, rows_of_stacks}
+use Rattle.container_layout.specs.Found.{rows_are_alike, HasFound, numbered, row_found, rows_before, rows_of_stack}
+use Rattle.container_layout.specs.Found.{rows_of_stacks}
 use Rattle.container_layout.specs.Laid.{IsStack}
 use Rattle.container_layout.specs.declared.find.Found.{Found}
 
@@ -166,7 +170,8 @@ part-counted : (pick : ℕ → List StackRow) (r n : ℕ) → r < n →
 part-counted pick r zero lt = absurd (omega arith)
 part-counted pick r (suc n) lt = go (cases_lt r n) (λ low. part-counted pick r n low)
   where
-    both : numbers_of (flat_map pick (numbers_below (suc n))) ≡ numbers_of (flat_map pick (numbers_below n)) ++ numbers_of (pick n)
+    both : numbers_of (flat_map pick (numbers_below (suc n))) ≡ numbers_of (flat_map pick (numbers_below n)) ++ numbers_of (pick
+        n)
     both = ap numbers_of (flat_map-append pick (numbers_below n) (n ∷ [])
         ∙ ap (λ xs. flat_map pick (numbers_below n) ++ xs) (append-nil (pick n)))
         ∙ map-append (λ (x : StackRow). x.row) (flat_map pick (numbers_below n)) (pick n)
@@ -207,7 +212,8 @@ module _ (d : FlowsData) (sound : IsSound d) (stack : Stack) (is : IsStack d sta
       omega arith
 
   -- before a row of a stack there is no other one of its number
-  pub none-before : EntriesStandOnce d → (rows more : List StackRow) (x : StackRow) → x.row ≡ r → all_of d ≡ (rows ++ x ∷ []) ++ more →
+  pub none-before : EntriesStandOnce d → (rows more : List StackRow) (x : StackRow) → x.row ≡ r →
+      all_of d ≡ (rows ++ x ∷ []) ++ more →
       numbered r rows ≡ []
   none-before law rows more x own split = go (numbered r rows) refl
     where
@@ -347,10 +353,10 @@ stack-goes d n lt table new has step =
     subst P (sym (ap (rows_of_stacks d) (add-one n) ∙ stacks-more d n)) (step (rows_of_stacks d n) e.0 e.1 has)
 
 -- where what is available doesn't depend on the place, it is the same at each
-pub alike : (bound : Bound) → IsAlike bound → (x y : ℕ) → available_at bound x ≡ available_at bound y
+pub alike : (bound : Bound) → rows_are_alike bound ≡ true → (x y : ℕ) → available_at bound x ≡ available_at bound y
 alike Free is x y = refl
 alike (Each height) is x y = refl
-alike (Left height) is x y = absurd is
+alike (Left height) is x y = absurd (cc)
 
 -- ---- nothing noted yet
 

@@ -136,7 +136,8 @@ pub made-row : (d : FlowsData) (r : ℕ) (stands : Stands) (q : Nodes) (made : M
     laid_row made ≡ in_stack d r stands.available → StandsFor q made.made (piece_in_stack d r stands.available None) →
     IsMade q (plain_trees (columns_in d (laid_row made))) made
 made-row d r stands q made is from laid stand =
-    let P : ℕ → Token → RowLaid → Type 0 = λ r q' x. StandsFor q made.made (row_piece r q' 0 None (plain_trees (columns_in d x))) in
+    let P : ℕ → Token → RowLaid → Type 0 = λ r q' x. StandsFor q made.made (row_piece r q' 0 None (plain_trees (columns_in d
+    x))) in
     subst (λ x. P made.row made.from x) (sym laid) (subst (λ t. P made.row t (in_stack d r stands.available)) (sym from)
     (subst (λ n. P n row_start (in_stack d r stands.available)) (sym is) stand))
 

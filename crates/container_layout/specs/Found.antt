@@ -1,5 +1,6 @@
 -- The rows directly in stacks, found by their numbers.
-use Rattle.std.specs.Prelude.{◌≡◌, ℕ, zero, suc, ◌==◌, ◌<◌, List, [], ◌∷◌, ◌++◌, filter, flat_map, get_or, length, Option, Some, None}
+use Rattle.std.specs.Prelude.{◌≡◌, ℕ, zero, suc, ◌==◌, ◌<◌, Bool, true, false, List, [], ◌∷◌, ◌++◌, filter, flat_map, get_or}
+use Rattle.std.specs.Prelude.{length, Option, Some, None}
 use Rattle.flow_list.specs.Data.{Bound, Flow, FlowsData, Free, Each, Left}
 use Rattle.flow_data.specs.Flows.{flow_of, item_of, stack_of}
 use Rattle.flow_list.specs.Certificate.{StackRow, numbers_below, stack_row, stack_rows}
@@ -36,11 +37,11 @@ pub record HasFound (d : FlowsData) (rows : List StackRow) (table : List (Option
   pub count : length table ≡ length d.rows
   pub each : (n : ℕ) → n < length d.rows → numbered n rows ≡ row_found n (get_or table n None)
 
--- whether what is available doesn't depend on where a row begins
-abbrev pub IsAlike : Bound → Type 0
-IsAlike Free = Unit {0}
-IsAlike (Each height) = Unit {0}
-IsAlike (Left height) = ⊥
+-- whether what is available to rows doesn't depend on where they begin
+abbrev pub rows_are_alike : Bound → Bool
+rows_are_alike Free = true
+rows_are_alike (Each height) = true
+rows_are_alike (Left height) = false
 
 -- ---- the rows as they stand in stacks
 

@@ -8,7 +8,7 @@ ghost use Rattle.flow_list.specs.Stacks.{available_at, available_to, height_in_s
 ghost use Rattle.frag_pool.specs.Nodes.{SameTrial};
 ghost use Rattle.inner_rows.specs.TrueBook.{AreTrue, BookAfter};
 ghost use Rattle.container_layout.specs.Laid.{IsStack};
-ghost use Rattle.container_layout.specs.Found.{HasFound, IsAlike, rows_before, rows_of_stack, rows_of_stacks};
+ghost use Rattle.container_layout.specs.Found.{HasFound, rows_are_alike, rows_before, rows_of_stack, rows_of_stacks};
 
 use crate::lay::row_height;
 use crate::walk::begin_stack;
@@ -91,7 +91,7 @@ fn note_item(flows: &Flows, stack: Stack, k: u32, y: Units, table: &mut Vec<Opti
 /// Notes the rows directly in a stack in which what is available doesn't depend on where they begin.
 fn find_alike(flows: &Flows, stack: Stack, table: &mut Vec<Option<Found>>)
     requires stack { IsStack flows.now stack }
-    requires alike { IsAlike stack.bound }
+    requires alike { rows_are_alike stack.bound ≡ true }
     requires table { length table.old.items ≡ length flows.now.rows }
     ensures found { (rows more : List StackRow) → rows_of_stacks flows.now (length flows.now.stacks)
         ≡ (rows ++ rows_before flows.now stack.bound (flow_of flows.now stack.flow)
@@ -216,7 +216,7 @@ fn find_left<I: InnerRows>(
 
 /// Whether what is available in a stack doesn't depend on where a row begins.
 fn is_alike(bound: Bound) -> bool
-    ensures { result ≡ true → IsAlike bound }
+    ensures { result ≡ rows_are_alike bound }
 {
     match bound {
         Bound::Free => true,

@@ -30,7 +30,12 @@ pub struct RowMade {
     pub frag: FragId,
 }
 
-fn no_counts() -> Counts {
+/// Counts of no work.
+fn no_counts() -> Counts
+    ensures reads { result.reads ≡ 0 }
+    ensures below { result.below ≡ 0 }
+    ensures folds { result.folds ≡ 0 }
+{
     Counts {
         reads: 0,
         below: 0,

@@ -1,6 +1,7 @@
 //! What stands in a stack: its strip is walked once more, and each thing in it gets its place.
 
-ghost use Rattle.std.specs.Prelude.{◌≡◌, ◌+◌, ◌<◌, ◌^◌, ◌++◌, ◌∷◌, [], All, IfOk, List, None, OnOk, Some, cond, false, get_or, length, map};
+ghost use Rattle.std.specs.Prelude.{◌≡◌, ◌+◌, ◌<◌, ◌^◌, ◌++◌, ◌∷◌, [], All, IfOk, List, None, OnOk, Some, cond, false};
+ghost use Rattle.std.specs.Prelude.{get_or, length, map};
 ghost use Rattle.flow_data.specs.Flows.{flow_of, item_of, row_of, seam_of, stack_of};
 ghost use Rattle.flow_list.specs.ClonedEdges.{tops};
 ghost use Rattle.flow_list.specs.Fragments.{continued_from, laid_in_stack};

@@ -9,7 +9,9 @@ abbrev pub invariant-loop-k : goal.invariant-loop-k
 invariant-loop-k l =
     let f = flow_of l.flows l.stack.flow in
     record {
-      found : (rows more : List StackRow) → all_of l.flows ≡ (rows ++ rows_before l.flows l.stack.bound f (length f.items)) ++ more →
-          HasFound l.flows rows l.fn.table.items → HasFound l.flows (rows ++ rows_before l.flows l.stack.bound f l.k) l.table.items;
+      found : (rows more : List StackRow) → all_of l.flows ≡ (rows ++ rows_before l.flows l.stack.bound f (length f.items)) ++
+          more →
+          HasFound l.flows rows l.fn.table.items → HasFound l.flows (rows ++ rows_before l.flows l.stack.bound f l.k)
+          l.table.items;
       table : length l.table.items ≡ length l.flows.rows;
     }

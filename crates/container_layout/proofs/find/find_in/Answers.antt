@@ -1,4 +1,4 @@
-use Rattle.std.proofs.Common.{◌≡◌, refl, sym, subst, List, ◌++◌, OnOk}
+use Rattle.std.proofs.Common.{◌≡◌, ◌∙◌, refl, sym, subst, List, ◌++◌, OnOk}
 use Rattle.flow_data.specs.Flows.{stack_of}
 use Rattle.flow_list.specs.Certificate.{StackRow}
 use Rattle.frag_pool.proofs.Growth.{same-trial-refl}
@@ -8,10 +8,15 @@ use Rattle.container_layout.proofs.Tables.{all_of, stack-rows}
 use Rattle.container_layout.proofs.find.find_in.Goals as goal
 
 pub find_alike-requires-clause-stack : goal.find_alike-requires-clause-stack
-find_alike-requires-clause-stack g c = record { number = c.args.number; known = c.requires.number; is = c.stack_at-stack.ensures.same }
+find_alike-requires-clause-stack g c = record {
+  number = c.args.number;
+  known = c.requires.number;
+  is =
+      c.stack_at-stack.ensures.same;
+}
 
 pub find_alike-requires-clause-alike : goal.find_alike-requires-clause-alike
-find_alike-requires-clause-alike g c = c.is_alike-alike.ensures c.if-alike.true
+find_alike-requires-clause-alike g c = sym c.is_alike-alike.ensures ∙ c.if-alike.true
 
 pub returns-then-alike-clause-found : goal.returns-then-alike-clause-found
 returns-then-alike-clause-found g c = λ rows more split has.

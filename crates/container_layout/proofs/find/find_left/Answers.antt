@@ -12,7 +12,14 @@ use Rattle.container_layout.proofs.Tables.{all_of, item-goes, none-noted}
 use Rattle.container_layout.proofs.find.find_left.Goals as goal
 
 pub first_strip-requires : goal.first_strip-requires
-first_strip-requires g c = record { stack = record { number = c.args.number; known = c.requires.number; is = c.stack_at-stack.ensures.same } }
+first_strip-requires g c = record {
+  stack = record {
+    number = c.args.number;
+    known = c.requires.number;
+    is =
+        c.stack_at-stack.ensures.same;
+  };
+}
 
 pub returns-in_err-strip-clause-book : goal.returns-in_err-strip-clause-book
 returns-in_err-strip-clause-book g c = book-refl c.args.flows.now c.args.book.now c.requires.book
@@ -40,11 +47,17 @@ loop-k-init g c = record {
 pub overflow_add-y : goal.overflow_add-y
 overflow_add-y g c =
     let room = strip-room c.args.flows.now c.flow_counts-counts.ensures.sound c.stack_at-stack.result.now
-    (record { number = c.args.number; known = c.requires.number; is = c.stack_at-stack.ensures.same }) c.loop-k.k (strip_of c.loop-k.strip) c.loop-k.invariant.strip in
+    (record { number = c.args.number; known = c.requires.number; is = c.stack_at-stack.ensures.same }) c.loop-k.k (strip_of
+    c.loop-k.strip) c.loop-k.invariant.strip in
     omega arith
 
 pub note_item-requires-clause-stack : goal.note_item-requires-clause-stack
-note_item-requires-clause-stack g c = record { number = c.args.number; known = c.requires.number; is = c.stack_at-stack.ensures.same }
+note_item-requires-clause-stack g c = record {
+  number = c.args.number;
+  known = c.requires.number;
+  is =
+      c.stack_at-stack.ensures.same;
+}
 
 pub note_item-requires-clause-item : goal.note_item-requires-clause-item
 note_item-requires-clause-item g c = let n = c.item_count-count.ensures in let t = c.loop-k-test.true in omega arith
@@ -54,7 +67,12 @@ note_item-requires-clause-available g c =
     ap (λ (s : Strip). available_at c.stack_at-stack.result.now.bound (begins s)) c.loop-k.invariant.strip
 
 pub item_height-requires-clause-stack : goal.item_height-requires-clause-stack
-item_height-requires-clause-stack g c = record { number = c.args.number; known = c.requires.number; is = c.stack_at-stack.ensures.same }
+item_height-requires-clause-stack g c = record {
+  number = c.args.number;
+  known = c.requires.number;
+  is =
+      c.stack_at-stack.ensures.same;
+}
 
 pub item_height-requires-clause-item : goal.item_height-requires-clause-item
 item_height-requires-clause-item g c = let n = c.item_count-count.ensures in let t = c.loop-k-test.true in omega arith
@@ -63,7 +81,12 @@ pub item_height-requires-clause-book : goal.item_height-requires-clause-book
 item_height-requires-clause-book g c = c.loop-k.invariant.book.is_true
 
 pub next_strip-strip-requires-clause-stack : goal.next_strip-strip-requires-clause-stack
-next_strip-strip-requires-clause-stack g c = record { number = c.args.number; known = c.requires.number; is = c.stack_at-stack.ensures.same }
+next_strip-strip-requires-clause-stack g c = record {
+  number = c.args.number;
+  known = c.requires.number;
+  is =
+      c.stack_at-stack.ensures.same;
+}
 
 pub next_strip-strip-requires-clause-item : goal.next_strip-strip-requires-clause-item
 next_strip-strip-requires-clause-item g c = let n = c.item_count-count.ensures in let t = c.loop-k-test.true in omega arith

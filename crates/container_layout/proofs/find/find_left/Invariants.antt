@@ -13,8 +13,10 @@ abbrev pub invariant-loop-k : goal.invariant-loop-k
 invariant-loop-k g l =
     let f = flow_of l.flows l.stack.flow in
     record {
-      found : (rows more : List StackRow) → all_of l.flows ≡ (rows ++ rows_before l.flows l.stack.bound f (length f.items)) ++ more →
-          HasFound l.flows rows l.fn.table.items → HasFound l.flows (rows ++ rows_before l.flows l.stack.bound f l.k) l.table.items;
+      found : (rows more : List StackRow) → all_of l.flows ≡ (rows ++ rows_before l.flows l.stack.bound f (length f.items)) ++
+          more →
+          HasFound l.flows rows l.fn.table.items → HasFound l.flows (rows ++ rows_before l.flows l.stack.bound f l.k)
+          l.table.items;
       table : length l.table.items ≡ length l.flows.rows;
       strip : strip_of l.strip ≡ stack_strip l.flows l.stack.bound f l.k;
       depth : g.I.InnerRows.depth l.inner ≡ 2;

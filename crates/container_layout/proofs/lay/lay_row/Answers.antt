@@ -6,7 +6,8 @@ use Rattle.container_layout.proofs.Results.{ok-map}
 use Rattle.container_layout.proofs.lay.lay_row.Goals as goal
 
 pub release-requires : goal.release-requires
-release-requires g c = mark-known c.args.pool.now c.kept_row-laid.new.pool _ c.mark-mark.ensures.trial c.kept_row-laid.ensures.grown
+release-requires g c = mark-known c.args.pool.now c.kept_row-laid.new.pool _ c.mark-mark.ensures.trial
+    c.kept_row-laid.ensures.grown
 
 pub returns-clause-laid : goal.returns-clause-laid
 returns-clause-laid g c =
@@ -17,7 +18,8 @@ returns-clause-laid g c =
 
 pub returns-clause-engine : goal.returns-clause-engine
 returns-clause-engine g c =
-    g.met.I.InnerRows.stays c.kept_row-laid.new.inner c.args.flows.now c.kept_row-laid.new.book c.kept_row-laid.new.book c.kept_row-laid.new.pool
+    g.met.I.InnerRows.stays c.kept_row-laid.new.inner c.args.flows.now c.kept_row-laid.new.book c.kept_row-laid.new.book
+    c.kept_row-laid.new.pool
     c.release.new.self c.kept_row-laid.ensures.engine (extends-refl _) (given-up-kept _ _ _ c.release.ensures.back)
 
 pub returns-clause-pool : goal.returns-clause-pool

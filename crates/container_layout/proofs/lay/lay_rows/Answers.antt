@@ -48,7 +48,8 @@ loop-number-preserved g c =
     let S : List (Option Stands) → Type 0 = λ t. HasStanding d c.lay_number.new.pool (all_of d) t in
     record {
       rows = subst P (sym more) (e.rows (rows_to d n) old.uses old.rows);
-      stand = subst S (sym c.in_ok-push.ensures.items) (standing-pushed d c.lay_number.new.pool (all_of d) c.loop-number.stand.items
+      stand = subst S (sym c.in_ok-push.ensures.items) (standing-pushed d c.lay_number.new.pool (all_of d)
+          c.loop-number.stand.items
           c.in_ok-stands.stands
           (standing-grows d c.loop-number.pool c.lay_number.new.pool (grows-same-trial _ _ e.pool) (all_of d)
           c.loop-number.stand.items old.stand)

@@ -45,7 +45,8 @@ returns-clause-frag g c =
     let P : PlainTree → Type 0 = λ t. StandsFor c.least.new.pool c.in_ok-made.made.frag t in
     subst P (balanced-tree d c.flow_counts-counts.ensures.sound c.args.row c.requires.row c.requires.balanced c.args.available
     c.start-start.result c.in_ok-made.made.height c.start-start.ensures
-    (c.in_ok-made.ensures.least.height ∙ ap (λ q. balanced_height c.args.available (size_of d c.args.row q)) c.start-start.ensures))
+    (c.in_ok-made.ensures.least.height ∙ ap (λ q. balanced_height c.args.available (size_of d c.args.row q))
+    c.start-start.ensures))
     c.in_ok-made.ensures.frag
 
 pub returns-clause-uses : goal.returns-clause-uses

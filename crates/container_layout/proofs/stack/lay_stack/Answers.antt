@@ -5,7 +5,8 @@ use Rattle.container_layout.proofs.Results.{ok-map}
 use Rattle.container_layout.proofs.stack.lay_stack.Goals as goal
 
 pub release-requires : goal.release-requires
-release-requires c = mark-known c.args.pool.now c.kept_stack-laid.new.pool _ c.mark-mark.ensures.trial c.kept_stack-laid.ensures.grown
+release-requires c = mark-known c.args.pool.now c.kept_stack-laid.new.pool _ c.mark-mark.ensures.trial
+    c.kept_stack-laid.ensures.grown
 
 pub returns-clause-laid : goal.returns-clause-laid
 returns-clause-laid c =

@@ -9,7 +9,14 @@ use Rattle.container_layout.proofs.Walks.{live-placed, made-placed}
 use Rattle.container_layout.proofs.stack.make_stack.Goals as goal
 
 pub end_bottoms-requires : goal.end_bottoms-requires
-end_bottoms-requires c = record { stack = record { number = c.args.number; known = c.requires.number; is = c.stack_at-stack.ensures.same } }
+end_bottoms-requires c = record {
+  stack = record {
+    number = c.args.number;
+    known = c.requires.number;
+    is =
+        c.stack_at-stack.ensures.same;
+  };
+}
 
 pub build_all-requires : goal.build_all-requires
 build_all-requires c =
@@ -42,7 +49,11 @@ overflow_add-extent c =
     let s = c.stack_at-stack.result.now in
     let far = extent-is d c.args.number s c.stack_at-stack.ensures.same c.in_ok-placement.placement.y _
     c.in_ok-placement.ensures.y c.in_ok-extent.ensures in
-    let room = extent-room d c.flow_counts-counts.ensures.sound s (record { number = c.args.number; known = c.requires.number; is = c.stack_at-stack.ensures.same }) in
+    let room = extent-room d c.flow_counts-counts.ensures.sound s (record {
+      number = c.args.number;
+      known = c.requires.number;
+      is = c.stack_at-stack.ensures.same;
+    }) in
     omega arith
 
 pub returns-clause-height : goal.returns-clause-height

@@ -14,7 +14,14 @@ use Rattle.container_layout.proofs.Walks.{no-rows, places-begin, places-end, pla
 use Rattle.container_layout.proofs.walk.place_stack.Goals as goal
 
 pub begin_stack-requires : goal.begin_stack-requires
-begin_stack-requires c = record { stack = record { number = c.args.number; known = c.requires.number; is = c.stack_at-stack.ensures.same } }
+begin_stack-requires c = record {
+  stack = record {
+    number = c.args.number;
+    known = c.requires.number;
+    is =
+        c.stack_at-stack.ensures.same;
+  };
+}
 
 pub item_count-count-requires : goal.item_count-count-requires
 item_count-count-requires c =

@@ -88,8 +88,10 @@ pub returns-in_ok-stand_row-in-Row-clause-made : goal.returns-in_ok-stand_row-in
 returns-in_ok-stand_row-in-Row-clause-made c =
     let d = c.args.flows.now in
     let P : List MadeRow → Type 0 = λ rows. AllHaveColumns d c.standing_row.new.pool rows in
-    subst P (sym c.in_ok-stand_row-in-Row.ensures.rows) (row-pushed d c.standing_row.new.pool (rows_of c.args.at.now) c.in_ok-made-in-Row.made
-    (rows-grow d c.args.pool.now c.standing_row.new.pool c.in_ok-made-in-Row.ensures.grown (rows_of c.args.at.now) c.requires.made)
+    subst P (sym c.in_ok-stand_row-in-Row.ensures.rows) (row-pushed d c.standing_row.new.pool (rows_of c.args.at.now)
+    c.in_ok-made-in-Row.made
+    (rows-grow d c.args.pool.now c.standing_row.new.pool c.in_ok-made-in-Row.ensures.grown (rows_of c.args.at.now)
+    c.requires.made)
     c.in_ok-made-in-Row.ensures.made)
 
 pub returns-in_err-stand-in-Atom-clause-grown : goal.returns-in_err-stand-in-Atom-clause-grown
