@@ -1,3 +1,4 @@
+pub mod KeptRows
 pub mod Ends
 pub mod Follows
 pub mod Limits

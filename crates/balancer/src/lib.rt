@@ -1,6 +1,7 @@
 //! Rows at their least heights, and rows within rows.
 //!
-//! It stands on inner_rows, frag_pool and frag_maker, on range_finder and atom_needs, and on the laws of flow_list's definitions.
+//! It stands on inner_rows, kept_fills, frag_pool and frag_maker, on column_row, range_finder and atom_needs, and on the laws of
+//! flow_list's definitions.
 //! `least` promises the least height at which a row fits, or what is available where that is less, with the ranges of all lesser
 //! heights and why each doesn't fit, the fragment, and the sizes that these rest on in the book. `Rows` is an engine of rows one
 //! deeper than the engine that it is made over, and promises to keep the law of `InnerRows` where that one does; `two_deep` is

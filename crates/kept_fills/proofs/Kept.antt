@@ -1,16 +1,12 @@
 -- Fills that are kept are found by their keys, and stay kept while the book and the kept nodes grow.
-use Rattle.std.proofs.Common.{◌≡◌, Bool, true, false, cond, List, [], ◌∷◌, ◌++◌, ◌||◌, map, Option, Some, None, Bor, refl, sym, subst, ℕ}
+use Rattle.std.proofs.Common.{◌≡◌, Bool, true, false, cond, List, [], ◌∷◌, Option, Some, None, Bor, refl, sym, subst, ℕ}
 use Rattle.std.specs.Prelude.{◌&&◌, IfSome, ◌==◌, if◌then◌else◌, nat_eq}
 use Rattle.std.specs.Cmp.Lexicographic.{pointwise, bytes_decides}
 use Rattle.std.specs.Cmp.{unsigned_Decides}
 use Rattle.std.specs.Map.{lookup}
 use Rattle.std.specs.Option.{option_copied}
-use Rattle.std.proofs.lemmas.List.{map-append}
 use Rattle.indexmap.specs.IndexMap.{insert_entry}
 use Rattle.flow_data.specs.declared.data.FlowsData.{FlowsData}
-use Rattle.flow_list.specs.Book.{AllStand}
-use Rattle.flow_list.specs.Certificate.{Use, same_use, stands_in}
-use Rattle.flow_list.specs.Entries.{use_of, uses_in}
 use Rattle.flow_list.specs.Tokens.{Token}
 use Rattle.flow_list.specs.declared.book.SizeEntry.{SizeEntry}
 use Rattle.mc_base.specs.declared.fragment.FragId.{FragId}

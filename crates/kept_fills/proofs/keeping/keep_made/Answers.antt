@@ -1,6 +1,4 @@
-use Rattle.std.proofs.Common.{◌≡◌, List, sym, subst}
-use Rattle.flow_data.specs.declared.data.FlowsData.{FlowsData}
-use Rattle.flow_list.specs.declared.book.SizeEntry.{SizeEntry}
+use Rattle.std.proofs.Common.{sym, subst}
 use Rattle.inner_rows.specs.Keeping.{IsKeptFill}
 use Rattle.inner_rows.proofs.Calls.{extends-refl}
 use Rattle.kept_fills.proofs.Kept.{kept-after, kept-stays, made-kept}

@@ -2,8 +2,9 @@ use Rattle.std.proofs.Common.{◌≡◌, ◌∷◌, [], false, refl, sym, ◌∙
 use Rattle.flow_list.specs.Book.{after_uses}
 use Rattle.flow_list.specs.Certificate.{stands_in}
 use Rattle.flow_list.specs.Entries.{uses_in}
-use Rattle.frag_pool.proofs.Growth.{given-up-kept}
-use Rattle.inner_rows.proofs.Calls.{extends-same}
+use Rattle.frag_pool.proofs.Growth.{given-up-kept, grows-same-trial, kept-grows-grows, kept-grows-trans}
+use Rattle.inner_rows.proofs.Calls.{extends-same, extends-trans}
+use Rattle.kept_fills.proofs.Kept.{kept-stays}
 use Rattle.balancer.proofs.Sizes.{entered-book, entered-uses, found-size, found-stands, none-stands, own-uses}
 use Rattle.balancer.proofs.rows.RowsInnerRows.size.Goals as goal
 
@@ -33,6 +34,11 @@ returns-in_err-put-clause-engine g c = (
   g.met.I.InnerRows.stays c.least.new.inner c.args.flows.now c.least.new.book c.put.new.book c.least.new.pool
       c.release.new.self c.in_ok-made.ensures.engine (extends-same _ _ c.in_err-put.ensures.err)
       (given-up-kept _ _ _ c.release.ensures.back),
+  kept-stays c.args.flows.now c.args.book.now c.put.new.book c.args.pool.now c.release.new.self c.args.self.now.fills.fills.entries
+      (extends-trans c.args.book.now c.least.new.book c.put.new.book c.in_ok-made.ensures.book.held (extends-same _ _ c.in_err-put.ensures.err))
+      (kept-grows-trans c.args.pool.now c.least.new.pool c.release.new.self
+      (kept-grows-grows c.args.pool.now c.least.new.pool c.in_ok-made.ensures.grown) (given-up-kept _ _ _ c.release.ensures.back))
+      c.requires.engine.2,
 )
 
 pub returns-clause-engine : goal.returns-clause-engine
@@ -41,6 +47,11 @@ returns-clause-engine g c = (
   g.met.I.InnerRows.stays c.least.new.inner c.args.flows.now c.least.new.book c.put.new.book c.least.new.pool
       c.release.new.self c.in_ok-made.ensures.engine (record { more = _; is = c.in_ok-put.ensures.ok })
       (given-up-kept _ _ _ c.release.ensures.back),
+  kept-stays c.args.flows.now c.args.book.now c.put.new.book c.args.pool.now c.release.new.self c.args.self.now.fills.fills.entries
+      (extends-trans c.args.book.now c.least.new.book c.put.new.book c.in_ok-made.ensures.book.held (record { more = _; is = c.in_ok-put.ensures.ok }))
+      (kept-grows-trans c.args.pool.now c.least.new.pool c.release.new.self
+      (kept-grows-grows c.args.pool.now c.least.new.pool c.in_ok-made.ensures.grown) (given-up-kept _ _ _ c.release.ensures.back))
+      c.requires.engine.2,
 )
 
 pub returns-clause-uses : goal.returns-clause-uses
@@ -66,3 +77,13 @@ returns-clause-book g c =
     }) (rw c.copy.ensures none)
     (rw c.copy.ensures (c.in_ok-made.ensures.uses ∙ ap (after_uses c.args.flows.now (uses_in c.args.book.now))
     (own-uses c.args.flows.now c.args.row c.args.from.now))) c.in_ok-put.ensures.ok
+
+pub returns-in_err-made-clause-engine : goal.returns-in_err-made-clause-engine
+returns-in_err-made-clause-engine g c = (
+  rw c.in_err-made.ensures.depth c.requires.engine.0,
+  c.in_err-made.ensures.engine,
+  kept-stays c.args.flows.now c.args.book.now c.least.new.book c.args.pool.now c.least.new.pool
+      c.args.self.now.fills.fills.entries c.in_err-made.ensures.book.held
+      (kept-grows-grows c.args.pool.now c.least.new.pool
+      (grows-same-trial c.args.pool.now c.least.new.pool c.in_err-made.ensures.refused)) c.requires.engine.2,
+)
