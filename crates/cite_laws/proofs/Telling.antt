@@ -1,21 +1,20 @@
 -- Lines tell the rows that they rest on.
-use Rattle.std.proofs.Common.{◌≡◌, ℕ, zero, suc, ◌+◌, ◌-◌, ◌==◌, ◌<◌, ◌≤◌, Bool, true, false, List, [], ◌∷◌, ◌++◌, length, take, map}
-use Rattle.std.proofs.Common.{get_or, refl, sym, ◌∙◌, ap, subst, cond, arith, Option, Some, None, length-append}
-use Rattle.std.specs.Prelude.{nat_lt, nat_le, ◌||◌, slice_get}
-use Rattle.std.specs.List.{flat_map}
+use Rattle.std.proofs.Common.{◌≡◌, ℕ, zero, suc, ◌+◌, ◌-◌, Bool, true, false, List, [], ◌∷◌, ◌++◌, length, take, map}
+use Rattle.std.proofs.Common.{refl, sym, ◌∙◌, ap, subst, cond, arith, Option, Some, None, length-append}
+use Rattle.std.specs.Prelude.{nat_lt, ◌||◌, slice_get}
 use Rattle.std.proofs.lemmas.List.{append_assoc, append-nil, map-append}
 use Rattle.flow_list.specs.Data.{Flow, FlowsData}
-use Rattle.flow_data.specs.Flows.{row_of, flow_in, item_of}
-use Rattle.flow_list.specs.Tokens.{Token, row_start, item_number, within, is_end}
-use Rattle.flow_list.specs.Column.{Column, ColumnLine, Filled, Inner, Step, Cut, Place, steps_from, start_strip, cut, room, is_cut}
-use Rattle.flow_list.specs.Column.{row_from, row_list, fill_in_room, deeper, inner_lines, column_over, column_up_to, column}
+use Rattle.flow_data.specs.Flows.{row_of, flow_in}
+use Rattle.flow_list.specs.Tokens.{Token, item_number, within, is_end}
+use Rattle.flow_list.specs.Column.{Column, ColumnLine, Step, steps_from, start_strip, cut, room, is_cut}
+use Rattle.flow_list.specs.Column.{row_list, fill_in_room, deeper, inner_lines, column_up_to, column}
 use Rattle.flow_list.specs.Column.{avoids_at, rows_among}
-use Rattle.flow_list.specs.Rows.{columns_by, columns, up_to, to_overflow, filled_by, fill_in, rows_to, no_rows, all_rows, fails}
+use Rattle.flow_list.specs.Rows.{columns_by, columns, up_to, to_overflow, fill_in, rows_to, all_rows, fails}
 use Rattle.flow_list.specs.Rows.{most_columns}
 use Rattle.flow_list.specs.Ranges.{Range, judged, lines_of, to_failure}
-use Rattle.flow_list.specs.Certificate.{Use, Owned, owned_in_fill, owned_by, column_owned, columns_owned, owned_to, range_owned}
-use Rattle.cite_laws.specs.Starts.{rows_from, before_forced, items_to, rows_to_stop, next_start, inner_start, line_rows}
-use Rattle.cite_laws.specs.Starts.{starts_behind, starts_after, rows_of_lines, LinesTell}
+use Rattle.flow_list.specs.Certificate.{Use, owned_in_fill, owned_by, column_owned, columns_owned, owned_to, range_owned}
+use Rattle.cite_laws.specs.Starts.{rows_to_stop, next_start, inner_start, line_rows}
+use Rattle.cite_laws.specs.Starts.{starts_behind, rows_of_lines, LinesTell}
 use Rattle.cite_laws.proofs.Stops.{IsStop, StopSays, cut-says}
 
 -- ---- lines at a depth
