@@ -1,3 +1,5 @@
+pub mod FaultPlace
+pub mod FirstFault
 pub mod Gathering
 pub mod Holds
 pub mod LinesBack

@@ -37,16 +37,16 @@ abbrev pub AllPrinted : List (List ℕ) → Type 0
 AllPrinted [] = Unit {0}
 AllPrinted (t ∷ ts) = Printed t × AllPrinted ts
 
-cuts-none : (at : ℕ) → cuts at [] ≡ []
+pub cuts-none : (at : ℕ) → cuts at [] ≡ []
 unfolding cuts
 cuts-none at = refl
 
-cuts-feed : (at b : ℕ) (bytes : List ℕ) → (b == 10) ≡ true
+pub cuts-feed : (at b : ℕ) (bytes : List ℕ) → (b == 10) ≡ true
     → cuts at (b ∷ bytes) ≡ record { at = at; text = []; ended = true } ∷ cuts (at + 1) bytes
 unfolding cuts
 cuts-feed at b bytes e = rw e refl
 
-cuts-byte : (at b : ℕ) (bytes : List ℕ) → (b == 10) ≡ false → cuts at (b ∷ bytes) ≡ grown at b (cuts (at + 1) bytes)
+pub cuts-byte : (at b : ℕ) (bytes : List ℕ) → (b == 10) ≡ false → cuts at (b ∷ bytes) ≡ grown at b (cuts (at + 1) bytes)
 unfolding cuts
 cuts-byte at b bytes e = rw e refl
 
@@ -54,7 +54,7 @@ are-grown : (at b : ℕ) (t : List ℕ) (ts : List (List ℕ)) (cs : List Cut) �
 are-grown at b t ts [] a = absurd a
 are-grown at b t ts (c ∷ cs) a = (ap (λ (x : List ℕ). b ∷ x) a.0, a.1, a.2)
 
-line-cut : (at : ℕ) (t : List ℕ) (ts : List (List ℕ)) (rest : List ℕ) → Without 10 t → ((k : ℕ) → Are ts (cuts k rest))
+pub line-cut : (at : ℕ) (t : List ℕ) (ts : List (List ℕ)) (rest : List ℕ) → Without 10 t → ((k : ℕ) → Are ts (cuts k rest))
     → Are (t ∷ ts) (cuts at (t ++ 10 ∷ rest))
 line-cut at [] ts rest never a = rw (cuts-feed at 10 rest refl) (refl, refl, a (at + 1))
 line-cut at (b ∷ t) ts rest never a =
@@ -65,7 +65,7 @@ line-cut at (b ∷ t) ts rest never a =
 feed-last : (t rest : List ℕ) → (t ++ 10 ∷ []) ++ rest ≡ t ++ 10 ∷ rest
 feed-last t rest = append_assoc t (10 ∷ []) rest
 
-lines-cut : (at : ℕ) (ts : List (List ℕ)) → AllPrinted ts → Are ts (cuts at (ended_lines ts))
+pub lines-cut : (at : ℕ) (ts : List (List ℕ)) → AllPrinted ts → Are ts (cuts at (ended_lines ts))
 lines-cut at [] p = rw (cuts-none at) tt
 lines-cut at (t ∷ ts) p =
     rw (feed-last t (ended_lines ts))
@@ -148,7 +148,7 @@ first-never false y e f = refl
 first-never true true e f = absurd cc
 first-never true false e f = absurd cc
 
-cuts-printed : (at : ℕ) (bytes : List ℕ) → wrong_byte at bytes ≡ None → CutsPrinted (cuts at bytes)
+pub cuts-printed : (at : ℕ) (bytes : List ℕ) → wrong_byte at bytes ≡ None → CutsPrinted (cuts at bytes)
 cuts-printed at [] e = rw (cuts-none at) tt
 cuts-printed at (b ∷ bytes) e =
     let k = right-parts at b bytes e in
@@ -175,11 +175,11 @@ whole-after : (c : Cut) (cs : List Cut) → c.ended ≡ true → Whole cs → Wh
 whole-after c [] e w = tt
 whole-after c (d ∷ cs) e w = (e, w)
 
-whole-rest : (c : Cut) (cs : List Cut) → Whole (c ∷ cs) → Whole cs
+pub whole-rest : (c : Cut) (cs : List Cut) → Whole (c ∷ cs) → Whole cs
 whole-rest c [] w = tt
 whole-rest c (d ∷ cs) w = w.1
 
-cuts-whole : (at : ℕ) (bytes : List ℕ) → Whole (cuts at bytes)
+pub cuts-whole : (at : ℕ) (bytes : List ℕ) → Whole (cuts at bytes)
 cuts-whole at [] = rw (cuts-none at) tt
 cuts-whole at (b ∷ bytes) = go (b == 10) refl (cuts-whole (at + 1) bytes)
   where

@@ -1,5 +1,6 @@
 pub mod Clauses
 pub mod Failure
+pub mod FirstFault
 pub mod Given
 pub mod Laws
 pub mod OneReading

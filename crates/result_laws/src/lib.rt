@@ -8,6 +8,7 @@
 ghost use Rattle.std.specs.Prelude.{ℕ, ◌<◌, List, length};
 ghost use Rattle.flow_data.specs.Soundness.{IsSound};
 ghost use Rattle.flow_data.specs.declared.data.FlowsData.{FlowsData};
+ghost use Rattle.result_laws.specs.FirstFault.{FaultsAreFirst};
 ghost use Rattle.result_laws.specs.Laws.{ValidTells};
 ghost use Rattle.result_laws.specs.OwnEntries.{OwnEntriesPass};
 ghost use Rattle.result_laws.specs.OneReading.{OneReading};
@@ -42,4 +43,10 @@ pub fn huge_columns_are_endless()
 /// A text says a result exactly where that result is read in it, so a text says at most one.
 pub fn one_reading()
     ensures { (text : List ℕ) → OneReading text }
+{}
+
+/// The fault that is told of a text is its first: rule 1 stands at the first byte that no result has; before any other fault stands
+/// what some result begins with, and no result begins with that and the whole line at which the fault stands.
+pub fn faults_are_first()
+    ensures { (text : List ℕ) → FaultsAreFirst text }
 {}
