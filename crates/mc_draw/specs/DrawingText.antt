@@ -1,5 +1,5 @@
 -- The text of a drawing (SVG 2, sections 8.2 and 10.2), as the project writes it: a line for each rectangle.
-use Rattle.std.specs.Prelude.{ℕ, List, [], ◌∷◌, ◌++◌, codes}
+use Rattle.std.specs.Prelude.{ℕ, List, ◌++◌, codes}
 use Rattle.std.specs.List.{flat_map}
 use Rattle.std.specs.Fmt.{decimal}
 use Rattle.mc_base.specs.declared.units.Rect.{Rect}
