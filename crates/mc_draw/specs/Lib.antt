@@ -1,0 +1,3 @@
+pub mod Shapes
+pub mod DrawingText
+pub mod Laws
