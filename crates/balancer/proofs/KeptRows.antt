@@ -10,7 +10,8 @@ use Rattle.flow_list.specs.declared.book.SizeEntry.{SizeEntry}
 use Rattle.frag_pool.specs.Growing.{Grows, KeptGrows}
 use Rattle.frag_pool.specs.Nodes.{Nodes, SameTrial, back_to}
 use Rattle.frag_pool.specs.Standing.{StandsFor}
-use Rattle.frag_pool.proofs.Growth.{given-up, given-up-kept, grows-same-trial, kept-grows-grows, kept-grows-trans, same-trial-trans}
+use Rattle.frag_pool.proofs.Growth.{given-up, given-up-kept, grows-same-trial, kept-grows-grows}
+use Rattle.frag_pool.proofs.Growth.{kept-grows-trans, same-trial-trans}
 use Rattle.inner_rows.specs.Filling.{IsFilled, fill_tree}
 use Rattle.inner_rows.specs.declared.inner.Filled.{Filled}
 use Rattle.kept_fills.specs.Keeping.{IsMade}
@@ -26,7 +27,8 @@ module _ (p1 q : Nodes) (n : ℕ) (up : SameTrial (back_to p1 n) q) where
       (same-trial-trans p (back_to p1 n) q (given-up p p1 (back_to p1 n) n marked grown refl) up)
 
 -- what is answered of a fill that was made anew
-pub made-anew : (d : FlowsData) → UsesEnter d → (old new : List SizeEntry) (p : Nodes) (r : ℕ) (t : Token) (h : ℕ) (out : Filled) →
+pub made-anew : (d : FlowsData) → UsesEnter d → (old new : List SizeEntry) (p : Nodes) (r : ℕ) (t : Token) (h : ℕ)
+    (out : Filled) →
     IsFilled (fill_told (all_rows d) d r t h) out → uses_in new ≡ after_uses d (uses_in old) ((all_rows d).fill r t h).uses →
     StandsFor p out.frag (fill_tree d r t h) → IsMade d new p r t h out
 made-anew d enter old new p r t h out told uses frag = record {

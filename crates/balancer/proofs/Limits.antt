@@ -101,7 +101,8 @@ module _ (d : FlowsData) (r : ℕ) (q : Token) (account : (available : Option �
   unfolding searched
   searched-same zero low done le before with_limit without = refl
   searched-same (suc n) low done le before with_limit without =
-      go (searched-same n) (nat_le (a + 1) low) refl (reason_of (flow_in d r) 1 q (judged (all_rows d) d r q low)) with_limit without
+      go (searched-same n) (nat_le (a + 1) low) refl (reason_of (flow_in d r) 1 q (judged (all_rows d) d r q low)) with_limit
+      without
     where
       go : Same n → (p : Bool) → nat_le (a + 1) low ≡ p → (o : Option Reason) →
           ranges (all_rows d) d r q (Some a) ≡ done ++ elim p [ true ↦ [] | false ↦ by_reason (Some (a + 1)) n low o ] →

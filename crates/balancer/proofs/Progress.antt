@@ -8,7 +8,8 @@ use Rattle.std.proofs.lemmas.List.{append-nil}
 use Rattle.flow_data.specs.declared.data.FlowsData.{FlowsData}
 use Rattle.flow_data.specs.Flows.{flow_in}
 use Rattle.flow_list.specs.Column.{Inner}
-use Rattle.flow_list.specs.Ranges.{Range, Reason, Tallest, tall, area, bounds_of, is_past, judged, least_bound, lines_of, range_up_to, ranges}
+use Rattle.flow_list.specs.Ranges.{Range, Reason, Tallest, tall, area, bounds_of, is_past, judged}
+use Rattle.flow_list.specs.Ranges.{least_bound, lines_of, range_up_to, ranges}
 use Rattle.flow_list.specs.Ranges.{reason_of, searched, top_of}
 use Rattle.flow_list.specs.RowHeights.{balanced_fits, size_of}
 use Rattle.flow_list.specs.Rows.{all_rows, reach}
@@ -232,7 +233,8 @@ module _ (d : FlowsData) (r : ℕ) (q : Token) (account : (available : Option �
       subst (λ t. searched (all_rows d) d r q t (suc n) low ≡ goes_on (range_of other) (searched (all_rows d) d r q t n)) top_is
       (step n ∙ ap (λ w. goes_on (range_of w) (searched (all_rows d) d r q top n)) is)
 
-  pub next-at : (available top : Option ℕ) (low : ℕ) (done : List Range) (trial : Trial) (x : Range) (high : ℕ) (more : List Range) →
+  pub next-at : (available top : Option ℕ) (low : ℕ) (done : List Range) (trial : Trial) (x : Range) (high : ℕ)
+      (more : List Range) →
       top ≡ top_of available → Searching d r q available low done → is_past top low ≡ false → trial ≡ Rejected x →
       ((n : ℕ) → searched (all_rows d) d r q top (suc n) low
       ≡ goes_on (range_of trial) (searched (all_rows d) d r q top n)) → high ≡ x.high → more ≡ done ++ x ∷ [] →

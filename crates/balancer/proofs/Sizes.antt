@@ -92,7 +92,8 @@ pub entered-uses : (d : FlowsData) → BookStaysTrue d → (old mid new : List S
     stands_in (uses_in old) (use_of e) ≡ false → uses_in mid ≡ after_uses d (uses_in old) (size_uses d (use_of e)) →
     new ≡ mid ++ e ∷ [] → uses_in new ≡ after_uses d (uses_in old) (use_of e ∷ [])
 entered-uses d law old mid new e row none uses is =
-    ap uses_in is ∙ uses-more mid (e ∷ []) ∙ ap (λ us. us ++ use_of e ∷ []) uses ∙ sym (law.one_size (uses_in old) (use_of e) row none)
+    ap uses_in is ∙ uses-more mid (e ∷ []) ∙ ap (λ us. us ++ use_of e ∷ []) uses ∙ sym (law.one_size (uses_in old)
+    (use_of e) row none)
 
 -- and that book is true
 pub entered-book : (d : FlowsData) → BookStaysTrue d → (old mid new : List SizeEntry) (e : SizeEntry) → AreTrue d old →

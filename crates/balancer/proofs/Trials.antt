@@ -70,7 +70,8 @@ short-small low (b ∷ bs) lt small =
     omega arith
 
 -- the height that the shortage adds to fits in 64 bits
-pub short-fits : (d : FlowsData) → ((f : ℕ) → f < length d.flows → FlowIsSound d f) → (r : ℕ) → (row_of d r).flow < length d.flows →
+pub short-fits : (d : FlowsData) → ((f : ℕ) → f < length d.flows → FlowIsSound d f) → (r : ℕ) →
+    (row_of d r).flow < length d.flows →
     (q : Token) (low most : ℕ) → low < 2 ^ 64 → (out : FoldOut) → IsFold (fold_in fitting (all_rows d) d r most q low) out →
     IfSome out.short (λ short. low + short < 2 ^ 64)
 short-fits d law r flow q low most lt out made =
@@ -79,8 +80,10 @@ short-fits d law r flow q low most lt out made =
     each-made (λ (c : Column). All IsSmall c.bounds) (λ t. column (all_rows d) d (flow_in d r) t low) (flow_in d r)
     (λ t. (law (row_of d r).flow flow).small.bounds_are_small t low) most q in
     let judged_small = each-up-to (λ (c : Column). All IsSmall c.bounds) fails cs small in
-    let over_small = each-up-to (λ (c : Column). All IsSmall c.bounds) (λ (c : Column). c.overflow) (to_failure cs) judged_small in
-    rw made.short (short-small low (bounds_of (to_overflow (to_failure cs))) lt (small-bounds (to_overflow (to_failure cs)) over_small))
+    let over_small = each-up-to (λ (c : Column). All IsSmall c.bounds) (λ (c : Column). c.overflow)
+    (to_failure cs) judged_small in
+    rw made.short (short-small low (bounds_of (to_overflow (to_failure cs))) lt (small-bounds (to_overflow
+    (to_failure cs)) over_small))
 
 -- ---- what is judged
 

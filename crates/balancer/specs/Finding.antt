@@ -1,5 +1,5 @@
--- What a search for a row's least height finds (this project's own; CSS Multi-column 1, section 7.1, leaves the height of balanced
--- columns open).
+-- What a search for a row's least height finds (this project's own; CSS Multi-column 1, section 7.1, leaves the height of
+-- balanced columns open).
 use Rattle.std.specs.Prelude.{◌≡◌, ℕ, true, false, List, [], ◌++◌, Option, Some, None}
 use Rattle.std.specs.List.{flat_map}
 use Rattle.mc_base.specs.declared.fragment.FragId.{FragId}

@@ -51,7 +51,8 @@ impl<I> Rows<I> {
     }
 }
 
-/// An engine of rows of which at most two stand one inside another. It takes no memory, and is true of any flows, book and region.
+/// An engine of rows of which at most two stand one inside another. It takes no memory, and is true of any flows, book and
+/// region.
 pub fn two_deep(alloc: Global) -> Rows<Rows<NoRows>>
     ensures depth { ⟦<Rows<Rows<NoRows>> as InnerRows>⟧.depth result ≡ 2 }
     ensures engine { (d : FlowsData) (b : List SizeEntry) (p : Nodes) → ⟦<Rows<Rows<NoRows>> as InnerRows>⟧.is_true result d b p }
@@ -220,5 +221,10 @@ impl<I: InnerRows> InnerRows for Rows<I> {
         Ok(kept)
     }
 
-    ghost stays = { λ e d b c p q h x k. (h.0, I.stays e.inner d b c p q h.1 x k, kept-stays d b c p q e.fills.fills.entries x k h.2) };
+    ghost stays = { λ e d b c p q h x k. (
+      h.0,
+      I.stays e.inner d b c p q h.1 x k,
+      kept-stays d b c p q e.fills.fills.entries x k
+          h.2,
+    ) };
 }

@@ -68,7 +68,11 @@ begins-in b outer u starts e f = go outer b starts e (let k : b + 1 ≡ suc b = 
     go : (outer : List Use) (b : ℕ) (starts : List Use) → length outer ≡ b → take (suc b) starts ≡ outer ++ u ∷ []
         → Begins b outer u starts
     go [] zero [] e f = absurd cc
-    go [] zero (x ∷ xs) e f = record { here = (let k : x ∷ [] ≡ u ∷ [] = f in let same : x ≡ u = cc in ap (λ (v : Use). Some v) same); around = refl }
+    go [] zero (x ∷ xs) e f = record {
+      here = (let k : x ∷ [] ≡ u ∷ [] = f in let same : x ≡ u = cc in ap (λ
+          (v : Use). Some v) same);
+      around = refl;
+    }
     go [] (suc b) starts e f = absurd (omega arith)
     go (o ∷ outer) zero starts e f = absurd (omega arith)
     go (o ∷ outer) (suc b) [] e f = absurd cc
@@ -131,10 +135,12 @@ alone-goes d b outer u starts end stop rest said e k is = record {
 }
 
 -- one with the lines of a fill below it
-filled-goes : (d : FlowsData) (depth b : ℕ) (outer : List Use) (u v : Use) (starts : List Use) (end : Option Token) (stop : Option ℕ)
+filled-goes : (d : FlowsData) (depth b : ℕ) (outer : List Use) (u v : Use) (starts : List Use) (end : Option Token)
+    (stop : Option ℕ)
     (a : ℕ) (rest : List ColumnLine) (said : List Use) → FillsGo d depth → length outer ≡ b → Begins b outer u starts
     → said ≡ rows_to_stop d u stop → inner_start d u stop ≡ v ∷ []
-    → GoesTo d b outer (next_start u end) starts (deep b (line_at end stop ∷ map deeper ((rows_to d depth).fill v.0 v.1 a).lines)) rest
+    → GoesTo d b outer (next_start u end) starts (deep b (line_at end stop ∷ map deeper ((rows_to d depth).fill v.0 v.1
+    a).lines)) rest
     (said ∷ (owned_to d depth).fill v.0 v.1 a)
 filled-goes d depth b outer u v starts end stop a rest said fills e k is row =
     let ls = ((rows_to d depth).fill v.0 v.1 a).lines in
@@ -179,7 +185,8 @@ stopped-goes d depth b outer r t starts h rest before s fills e k is None row cu
 stopped-goes d depth b outer r t starts h rest before s fills e k is (Some v) row false end =
     alone-goes d b outer (r, t) starts end (Some s.item) rest (rows_among (before ++ s ∷ [])) e k is.rows
 stopped-goes d depth b outer r t starts h rest before s fills e k is (Some v) row true end =
-    filled-goes d depth b outer (r, t) v starts end (Some s.item) (room s h) rest (rows_among (before ++ s ∷ [])) fills e k is.rows
+    filled-goes d depth b outer (r, t) v starts end (Some s.item) (room s h) rest (rows_among (before
+    ++ s ∷ [])) fills e k is.rows
     (ap row_list (sym is.row ∙ row))
 
 column-goes : (d : FlowsData) (depth b : ℕ) (outer : List Use) (r : ℕ) (t : Token) (starts : List Use) (h : ℕ)
@@ -199,7 +206,8 @@ column-goes d depth b outer r t starts h rest fills e k =
         → ColumnGoes d depth b outer r t starts h rest
         (column_up_to (rows_to d depth) (avoids_at d (flow_in d r)) h before stop) (owned_by (owned_to d depth) h before stop)
     go before None is =
-        alone-goes d b outer (r, t) starts (end_line (column_up_to (rows_to d depth) (avoids_at d (flow_in d r)) h before None)) None
+        alone-goes d b outer (r, t) starts (end_line (column_up_to (rows_to d depth) (avoids_at d
+        (flow_in d r)) h before None)) None
         rest (rows_among before) e k is
     go before (Some s) is =
         stopped-goes d depth b outer r t starts h rest before s fills e k is s.row refl (is_cut s h)
@@ -246,7 +254,8 @@ columns-go d depth b outer r h rest fills e [] t starts chain k =
 columns-go d depth b outer r h rest fills e (c ∷ cs) t starts chain k =
     let later = deep b (lines_of cs) in
     let g = column-goes d depth b outer r t starts h (later ++ rest) fills e k in
-    let own = subst (λ (x : Column). ColumnGoes d depth b outer r t starts h (later ++ rest) x (owning d depth r h t)) (sym chain.0) g in
+    let own = subst (λ (x : Column). ColumnGoes d depth b outer r t starts h (later ++ rest) x (owning d depth r h t))
+    (sym chain.0) g in
     go c.overflow refl own.after own.begins own.lines
     (λ after begins. columns-go d depth b outer r h rest fills e cs c.end after chain.2 begins)
   where
@@ -285,7 +294,8 @@ columns-go d depth b outer r h rest fills e (c ∷ cs) t starts chain k =
           begins = g.begins;
           lines =
               split ∙ lines ∙ ap (λ (us : List (List Use)). owning d depth r h t ++ us) g.lines
-              ∙ sym (append_assoc (owning d depth r h t) (columns_owned (owning d depth r h) c.end cs) (rows_of_lines d g.after rest));
+              ∙ sym (append_assoc (owning d depth r h t) (columns_owned (owning d depth r h) c.end cs)
+              (rows_of_lines d g.after rest));
         }
 
 -- ---- fills, and the whole
@@ -305,8 +315,10 @@ tell d r q range =
     let f = flow_in d r in
     let cs = to_failure (columns (rows_to d n) d f (most_columns (row_of d r).n f q) q range.low) in
     let chain = chain-up fails (λ c o. fails-over c o) (making d n r range.low) f (most_columns (row_of d r).n f q) q in
-    let g = columns-go d n 0 [] r range.low [] (fills-go d n) refl cs q ((r, q) ∷ []) chain (record { here = refl; around = refl }) in
-    ap (λ (ls : List ColumnLine). rows_of_lines d ((r, q) ∷ []) ls) (sym (append-nil (deep 0 (lines_of cs)) ∙ deep-none (lines_of cs)))
+    let g = columns-go d n 0 [] r range.low [] (fills-go d n) refl cs q ((r, q) ∷ []) chain
+    (record { here = refl; around = refl }) in
+    ap (λ (ls : List ColumnLine). rows_of_lines d ((r, q) ∷ []) ls) (sym (append-nil (deep 0 (lines_of cs)) ∙ deep-none
+    (lines_of cs)))
     ∙ g.lines ∙ append-nil (columns_owned (owning d n r range.low) q cs)
   where
     fails-over : (c : Column) → c.overflow ≡ true → fails c ≡ true

@@ -1,5 +1,6 @@
 -- Where the columns of lines begin, and which rows stand in them (this project's own).
-use Rattle.std.specs.Prelude.{◌≡◌, ℕ, zero, suc, ◌+◌, ◌-◌, ◌==◌, cond, List, [], ◌∷◌, ◌++◌, length, take, slice_get, Option, Some, None}
+use Rattle.std.specs.Prelude.{◌≡◌, ℕ, zero, suc, ◌+◌, ◌-◌, ◌==◌, cond, List, [], ◌∷◌, ◌++◌}
+use Rattle.std.specs.Prelude.{length, take, slice_get, Option, Some, None}
 use Rattle.flow_list.specs.Data.{Flow, FlowsData}
 use Rattle.flow_data.specs.Flows.{flow_in, item_of, seam_of}
 use Rattle.flow_list.specs.Tokens.{Token, item_number, within, row_start}
@@ -36,7 +37,8 @@ next_start u (Some end) = (u.0, end)
 -- where the first column of the row that is the stop begins, if it is one
 abbrev pub inner_start : FlowsData → Use → Option ℕ → List Use
 inner_start d u None = []
-inner_start d u (Some stop) = row_list (row_from (item_of (flow_in d u.0) stop) (cond (stop == item_number u.1) (within u.1) row_start))
+inner_start d u (Some stop) = row_list (row_from (item_of (flow_in d u.0) stop) (cond (stop == item_number u.1)
+    (within u.1) row_start))
 
 -- the rows that a line rests on whose column begins here, if columns of its depth do
 abbrev pub line_rows : FlowsData → Option Use → Option ℕ → List Use

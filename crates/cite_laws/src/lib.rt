@@ -1,7 +1,7 @@
 //! Which sizes the column lines of a range rest on, told by the lines.
 //!
-//! It stands on mc_base, flow_data and flow_list. Its `specs/` say how the lines alone tell, from the place of the range on, which
-//! rows stand among the items of each line's column. Its function promises one law, does nothing, and takes no memory.
+//! It stands on mc_base, flow_data and flow_list. Its `specs/` say how the lines alone tell, from the place of the range on,
+//! which rows stand among the items of each line's column. Its function promises one law, does nothing, and takes no memory.
 #![tactic(auto)]
 
 ghost use Rattle.std.specs.Prelude.{◌≡◌, ℕ};

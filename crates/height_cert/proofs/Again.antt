@@ -39,7 +39,8 @@ cited-fit cites [] a b = All-nil (IsCitedLine true)
 cited-fit cites (l ∷ ls) a b =
     let k = All-head IsFitLine l ls b in
     All-cons (IsCitedLine true) (record { line = l; cites = first_cites cites }) (cited (drop 1 cites) ls)
-    (k.0, k.1, k.2, first-fit cites a, λ e. absurd cc) (cited-fit (drop 1 cites) ls (cites-after 1 cites a) (All-tail IsFitLine l ls b))
+    (k.0, k.1, k.2, first-fit cites a, λ e. absurd cc) (cited-fit (drop 1 cites) ls (cites-after 1 cites a)
+    (All-tail IsFitLine l ls b))
 
 cited-length : (cites : List Cites) (ls : List ColumnLine) → length (cited cites ls) ≡ length ls
 cited-length cites [] = refl

@@ -70,7 +70,8 @@ fn put_columns<'a>(
 /// Adds the line of a range without its column lines.
 fn put_bounds(alloc: Global, out: &mut Text, range: &Range) -> Result<(), NoMemory>
     ensures { OnOk result (out.new ≡ out.old
-        ++ line_words (codes "range" ∷ decimal range.now.low ∷ decimal range.now.high ∷ reason_words range.now.reason) ++ 10 ∷ []) }
+        ++ line_words (codes "range" ∷ decimal range.now.low ∷ decimal range.now.high ∷ reason_words range.now.reason)
+        ++ 10 ∷ []) }
 {
     out.extend(b"range")?;
     put_number(out, range.lo)?;

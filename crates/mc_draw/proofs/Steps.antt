@@ -27,7 +27,8 @@ unfolding shapes_after
 next_line d rule before after then later x h k =
     let front = rule_before d rule (lines_of before) (kind_of x.kind) (line_of x) in
     ap (λ (ls : List TreeLine). shapes_after d rule (lines_of before) (lines_of ls)) h
-    ∙ ap (λ (ls : List AnyLine). front ++ shape_of (line_of x) ∷ shapes_after d rule ls (lines_of later)) (sym (map_last before x))
+    ∙ ap (λ (ls : List AnyLine). front ++ shape_of (line_of x) ∷ shapes_after d rule ls (lines_of later)) (sym
+    (map_last before x))
     ∙ ap (λ (ls : List TreeLine). front ++ shape_of (line_of x) ∷ shapes_after d rule (lines_of ls) (lines_of later)) (sym k)
     ∙ sym (append_assoc front (shape_of (line_of x) ∷ []) (shapes_after d rule (lines_of then) (lines_of later)))
 

@@ -1,6 +1,6 @@
--- The shapes of a drawing: the rectangles of the lines of a tree, in order, and a rule in each gap between two neighbouring columns
--- of a piece of a row. A rule takes no room and stands in the middle of its gap (CSS Multi-column Layout 1, section 4.3). That a
--- rule is never wider than its gap is the project's own.
+-- The shapes of a drawing: the rectangles of the lines of a tree, in order, and a rule in each gap between two neighbouring
+-- columns of a piece of a row. A rule takes no room and stands in the middle of its gap (CSS Multi-column Layout 1, section 4.3).
+-- That a rule is never wider than its gap is the project's own.
 use Rattle.std.specs.Prelude.{ℕ, ◌+◌, ◌-◌, ◌/◌, ◌==◌, min, List, [], ◌∷◌, ◌++◌, if◌then◌else◌, Option, Some, None, slice_get}
 use Rattle.mc_base.specs.declared.units.Rect.{Rect}
 use Rattle.flow_list.specs.Data.{FlowsData, RowInfo}

@@ -1,7 +1,7 @@
 //! A drawing of a layout: the rectangles of its tree, and a rule in each gap between two columns, as SVG text.
 //!
-//! It stands on mc_base, flow_data, flow_list and tree_lines. It promises the shapes that `specs/Shapes.antt` says of the lines of a
-//! tree, and the text that `specs/DrawingText.antt` says of shapes.
+//! It stands on mc_base, flow_data, flow_list and tree_lines. It promises the shapes that `specs/Shapes.antt` says of the lines
+//! of a tree, and the text that `specs/DrawingText.antt` says of shapes.
 #![tactic(auto)]
 
 mod drawing;

@@ -1,6 +1,7 @@
 -- Where the first fault of a text stands.
 use Rattle.std.proofs.Common.{◌≡◌, ℕ, suc, ◌+◌, ◌==◌, ◌<◌, Bool, true, false, ◌&&◌, ◌||◌, not, List, [], ◌∷◌}
-use Rattle.std.proofs.Common.{◌++◌, length, take, drop, get_or, refl, sym, ◌∙◌, ap, subst, arith, cond, Option, Some, None, Result, Ok}
+use Rattle.std.proofs.Common.{◌++◌, length, take, drop, get_or, refl, sym, ◌∙◌, ap, subst, arith}
+use Rattle.std.proofs.Common.{cond, Option, Some, None, Result, Ok}
 use Rattle.std.proofs.Common.{Err, inl, inr, length-append}
 use Rattle.std.specs.Prelude.{◌≢◌, nat_lt, All}
 use Rattle.std.specs.List.{list_any}
@@ -266,7 +267,8 @@ drop-front : (xs ys : List ℕ) → drop (length xs) (xs ++ ys) ≡ ys
 drop-front [] ys = refl
 drop-front (x ∷ xs) ys = drop-front xs ys
 
-module _ (text : List ℕ) (f : Fault) (right : wrong_byte 0 text ≡ None) (k : FaultOf read_first (length text) (cuts 0 text) f) where
+module _ (text : List ℕ) (f : Fault) (right : wrong_byte 0 text ≡ None) (k : FaultOf read_first (length text)
+    (cuts 0 text) f) where
   over : LeftOver 0 text k.texts k.rest
   over = left-over 0 text k.texts k.rest k.after
 

@@ -77,7 +77,8 @@ later read next len c cs f ended step k = record {
 
 -- a fault at this line
 at-line : (read : ℕ → List Cut → Result GivenResult Fault) (len : ℕ) (c : Cut) (cs : List Cut) (f : Fault) (more : List (List ℕ))
-    (result : GivenResult) → AllPrinted more → f.at ≡ c.at → (f.rule ≡ 1 → ⊥) → ((n : ℕ) (ds : List Cut) → Are more ds → read n ds ≡ okay result)
+    (result : GivenResult) → AllPrinted more → f.at ≡ c.at → (f.rule ≡ 1 → ⊥) → ((n : ℕ) (ds : List Cut) → Are more ds
+    → read n ds ≡ okay result)
     → ((n : ℕ) (d : Cut) (ds : List Cut) (r : GivenResult) → c.ended ≡ true → d.text ≡ c.text → d.ended ≡ true
     → read n (d ∷ ds) ≡ okay r → ⊥)
     → FaultOf read len (c ∷ cs) f
@@ -170,7 +171,8 @@ ended-line cites place c x e = go c.ended refl e
     go true is e = is
     go false is e = absurd cc
 
-entries-fault : (cites : Bool) (len : ℕ) (tree : List (List ℕ)) (place : Place) (lines : List CertLine) (cs : List Cut) (f : Fault)
+entries-fault : (cites : Bool) (len : ℕ) (tree : List (List ℕ)) (place : Place) (lines : List CertLine) (cs : List Cut)
+    (f : Fault)
     → read_entries cites len tree place lines cs ≡ Err f
     → FaultOf (λ n ds. read_entries cites n tree place lines ds) len cs f
 entries-fault cites len tree place lines [] f e =
@@ -240,7 +242,13 @@ loose-end cites len tree c f p bare spot other = record {
   loose = c.text;
   stands = inr (spot, bare, refl, refl);
   more = (c.text ++ 35 ∷ []) ∷ codes "cert" ∷ codes "end" ∷ [];
-  printed = (list_any-append not_printed c.text (35 ∷ []) ∙ or_from (list_any not_printed c.text) false p refl, (refl, (refl, tt)));
+  printed = (
+    list_any-append not_printed c.text (35 ∷ []) ∙ or_from (list_any not_printed c.text) false p refl,
+    (
+      refl,
+      (refl, tt),
+    ),
+  );
   begins = (
     35 ∷ 10 ∷ ended_lines (codes "cert" ∷ codes "end" ∷ []),
     append_assoc (c.text ++ 35 ∷ []) (10 ∷ []) (ended_lines (codes "cert" ∷ codes "end" ∷ []))
@@ -306,7 +314,8 @@ first-off-fault len c cs f at one two e =
     (sym (first-off n d ds (same-cut c d (codes "mcol 1") same there end ∙ one)
     (same-cut c d (codes "mcol 2") same there end ∙ two)) ∙ ok))
 
-pub first-fault : (len : ℕ) (cs : List Cut) (f : Fault) → (cs ≡ [] → len ≡ 0) → ((c : Cut) (ds : List Cut) → cs ≡ c ∷ ds → c.at ≡ 0)
+pub first-fault : (len : ℕ) (cs : List Cut) (f : Fault) → (cs ≡ [] → len ≡ 0) → ((c : Cut) (ds : List Cut) → cs ≡ c ∷ ds → c.at
+    ≡ 0)
     → Whole cs → CutsPrinted cs → read_first len cs ≡ Err f → FaultOf read_first len cs f
 first-fault len [] f none at w p e =
     let told-so = sym (first-none len) ∙ e in

@@ -234,7 +234,8 @@ entries-step cites len tree place lines c cs = go (line_here place (line_in cite
     go None = refl
     go (Some next) = closes next (is_close next.0)
 
-pub entries-more : (cites : Bool) (len : ℕ) (tree : List (List ℕ)) (place q : Place) (lines : List CertLine) (c : Cut) (cs : List Cut)
+pub entries-more : (cites : Bool) (len : ℕ) (tree : List (List ℕ)) (place q : Place) (lines : List CertLine) (c : Cut)
+    (cs : List Cut)
     (l : CertLine) → line_here place (line_in cites c) ≡ Some (l, q) → is_close l ≡ false
     → read_entries cites len tree place lines (c ∷ cs) ≡ read_entries cites len tree q (lines ++ l ∷ []) cs
 entries-more cites len tree place q lines c cs l e f =
@@ -242,7 +243,8 @@ entries-more cites len tree place q lines c cs l e f =
     ∙ ap (λ (o : Option (CertLine × Place)). after-line cites len tree lines c.at cs o) e
     ∙ ap (λ (t : Bool). after-close cites len tree lines cs (l, q) t) f
 
-pub entries-end : (cites : Bool) (len : ℕ) (tree : List (List ℕ)) (place q : Place) (lines : List CertLine) (c : Cut) (cs : List Cut)
+pub entries-end : (cites : Bool) (len : ℕ) (tree : List (List ℕ)) (place q : Place) (lines : List CertLine) (c : Cut)
+    (cs : List Cut)
     (l : CertLine) → line_here place (line_in cites c) ≡ Some (l, q) → is_close l ≡ true
     → read_entries cites len tree place lines (c ∷ cs) ≡ none_after (told cites tree lines) cs
 entries-end cites len tree place q lines c cs l e f =
@@ -250,7 +252,8 @@ entries-end cites len tree place q lines c cs l e f =
     ∙ ap (λ (o : Option (CertLine × Place)). after-line cites len tree lines c.at cs o) e
     ∙ ap (λ (t : Bool). after-close cites len tree lines cs (l, q) t) f
 
-pub entries-off : (cites : Bool) (len : ℕ) (tree : List (List ℕ)) (place : Place) (lines : List CertLine) (c : Cut) (cs : List Cut)
+pub entries-off : (cites : Bool) (len : ℕ) (tree : List (List ℕ)) (place : Place) (lines : List CertLine) (c : Cut)
+    (cs : List Cut)
     → line_here place (line_in cites c) ≡ None → read_entries cites len tree place lines (c ∷ cs) ≡ fault c.at 4
 entries-off cites len tree place lines c cs e =
     entries-step cites len tree place lines c cs
@@ -647,7 +650,8 @@ all-printed r a m n e =
           (tree-printed r.tree a) (refl, printed-both (map text_in (lines_in r.entries)) (codes "end" ∷ []) cert (refl, tt)),
     )
 
-pub lines-in-first : (cites : Bool) (len : ℕ) (ts : List (List ℕ)) (cs : List Cut) (r : GivenResult) → Are (first_text cites ∷ ts) cs
+pub lines-in-first : (cites : Bool) (len : ℕ) (ts : List (List ℕ)) (cs : List Cut) (r : GivenResult) → Are
+    (first_text cites ∷ ts) cs
     → ((ds : List Cut) → Are ts ds → read_tree cites len [] ds ≡ Ok r) → read_first len cs ≡ Ok r
 lines-in-first cites len ts [] r a later = absurd a
 lines-in-first cites len ts (c ∷ cs) r a later = first-read cites len c cs a.0 a.1 ∙ later cs a.2

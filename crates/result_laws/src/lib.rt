@@ -45,8 +45,8 @@ pub fn one_reading()
     ensures { (text : List ℕ) → OneReading text }
 {}
 
-/// The fault that is told of a text is its first: rule 1 stands at the first byte that no result has; before any other fault stands
-/// what some result begins with, and no result begins with that and the whole line at which the fault stands.
+/// The fault that is told of a text is its first: rule 1 stands at the first byte that no result has; before any other fault
+/// stands what some result begins with, and no result begins with that and the whole line at which the fault stands.
 pub fn faults_are_first()
     ensures { (text : List ℕ) → FaultsAreFirst text }
 {}

@@ -8,7 +8,8 @@ use Rattle.css_prelude.specs.declared.media.Awaits.{Awaits}
 use Rattle.css_prelude.specs.declared.media.Awaits.TheVariants as awaits
 use Rattle.css_prelude.specs.declared.media.Listed.{Listed}
 use Rattle.css_prelude.specs.Options.{◌>>=◌}
-use Rattle.css_prelude.specs.Media.{is_medium, is_screen, listed_as, word_taken, with_word, with_comma, ended, listed_from, media_of}
+use Rattle.css_prelude.specs.Media.{is_medium, is_screen, listed_as, word_taken, with_word, with_comma}
+use Rattle.css_prelude.specs.Media.{ended, listed_from, media_of}
 use Rattle.selector_laws.specs.Spaces.{AreSpaces, Spaced, IsSign}
 use Rattle.selector_laws.specs.Media.{IsMedium, AreListed, screen_among, AreMedia}
 use Rattle.selector_laws.proofs.Starts.{ident_only, none_no_sign, sign_no_space}

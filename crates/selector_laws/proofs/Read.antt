@@ -161,7 +161,8 @@ comma_read xs rest h b =
     let spaced = begins_space xs in
     record {
       is = ap (follow_behind spaced) s.in_front
-          ∙ ap (λ (c : Bool). cond c (follows.Comma, behind_spaces ys) (joined_or_spaced spaced (join_sign (y ∷ ys)) (y ∷ ys))) s.is
+          ∙ ap (λ (c : Bool). cond c (follows.Comma, behind_spaces ys) (joined_or_spaced spaced (join_sign (y ∷ ys))
+          (y ∷ ys))) s.is
           ∙ ap (λ (zs : List Lexeme). (follows.Comma, zs)) s.behind;
       shorter = s.shorter;
       no_test = s.no_test;

@@ -1,4 +1,5 @@
--- Tests of an element (Selectors 3, sections 6 and 7): a hash, a class, an attribute in brackets, or a pseudo-class or pseudo-element.
+-- Tests of an element (Selectors 3, sections 6 and 7): a hash, a class, an attribute in brackets, or a pseudo-class or
+-- pseudo-element.
 use Rattle.std.specs.Prelude.{◌≡◌, ℕ, List, [], ◌∷◌, true, Some}
 use Rattle.css_data.specs.declared.selector.AttrOp.{AttrOp}
 use Rattle.css_data.specs.declared.selector.AttrOp.TheVariants as ops

@@ -11,7 +11,8 @@ use Rattle.flow_list.specs.Column.{Column}
 use Rattle.flow_list.specs.Rows.{columns_by, rows_to}
 use Rattle.flow_list.specs.Placing.{RowLaid, Placed, opens_at, closes_at, atom_at, row_at}
 use Rattle.flow_list.specs.Fragments.{closes_here, inside_box, behind_box, trees_of, column_made, fragment_of}
-use Rattle.flow_list.specs.Fragments.{fragments_from, columns_wanted, row_fragments, stack_fragment, places_in, laid_start, laid_to}
+use Rattle.flow_list.specs.Fragments.{fragments_from, columns_wanted, row_fragments, stack_fragment}
+use Rattle.flow_list.specs.Fragments.{places_in, laid_start, laid_to}
 use Rattle.flow_list.specs.Fragments.{stop_of}
 use Rattle.flow_laws.proofs.Descent.{row-known}
 use Rattle.flow_laws.proofs.LaidSums.{IsRowOf}
@@ -81,7 +82,8 @@ module _ (d : FlowsData) (sound : IsSound d) where
   columns-inside : (depth : ℕ) → RowsInside (row_fragments d depth) → (n f : ℕ) (t : Token) (r : RowLaid)
       → r.row < length d.rows →
       AreInside d f (plain_trees
-      (fragments_from (fragment_of (row_fragments d depth) (rows_to d depth) d (row_of d r.row).flow (flow_in d r.row) r.made_at) t
+      (fragments_from (fragment_of (row_fragments d depth) (rows_to d depth) d (row_of d r.row).flow
+      (flow_in d r.row) r.made_at) t
       (columns_by (column_made (rows_to d depth) d (flow_in d r.row) r.made_at) (flow_in d r.row) n t)))
   unfolding columns_by IsInside
   columns-inside depth rows zero f t r known = tt
@@ -114,7 +116,8 @@ module _ (d : FlowsData) (sound : IsSound d) where
       go false e more =
           let before : item_number t < length (flow_in d r.row).items = grind (arith, nat_tests) in (
             trees-inside (row_fragments d depth) rows (length placed) (row_of d r.row).flow placed in_flow
-                (column-named d (flow_in d r.row) (sound.flows (row_of d r.row).flow no_flow in_flow) (rows_to d depth) t r.made_at
+                (column-named d (flow_in d r.row) (sound.flows (row_of d r.row).flow no_flow in_flow)
+                (rows_to d depth) t r.made_at
                 before),
             more made.end,
           )

@@ -17,7 +17,8 @@ use Rattle.flow_list.specs.Stacks.{height_in_stack, stack_strip}
 use Rattle.flow_list.specs.Placing.{Laid, margin, solid, wall, opens, closes, atom, row, laid_edge, laid_edges, ends_gap}
 use Rattle.flow_list.specs.Placing.{gap_of, behind_gap, gap_height, Placed, opens_at, closes_at, atom_at, row_at, placed_in_gap}
 use Rattle.flow_list.specs.Placing.{gap_places, placed_item, laid_height, places_from}
-use Rattle.flow_list.specs.Fragments.{laid_item, laid_items, laid_start, laid_before, laid_filled, filled_row, laid_to, strip_after}
+use Rattle.flow_list.specs.Fragments.{laid_item, laid_items, laid_start, laid_before, laid_filled}
+use Rattle.flow_list.specs.Fragments.{filled_row, laid_to, strip_after}
 use Rattle.flow_list.specs.Fragments.{strip_filled, fills_item, continuing, continued_from, stop_of, column_made, places_in}
 use Rattle.flow_list.specs.Fragments.{laid_in_stack, stack_laid}
 use Rattle.flow_list.proofs.ColumnParts.{OfStop}
@@ -58,7 +59,8 @@ module _ (d : FlowsData) (f : Flow) where
 
   in-gaps : (y end : ℕ) (before gap : List Laid) → Each IsNamed gap → Each IsNamedAt (gap_places y end before gap)
   in-gaps y end before [] all = tt
-  in-gaps y end before (x ∷ xs) all = Each-append IsNamedAt (placed_in_gap y end before x) (gap_places y end (before ++ x ∷ []) xs)
+  in-gaps y end before (x ∷ xs) all = Each-append IsNamedAt (placed_in_gap y end before x) (gap_places y end (before
+      ++ x ∷ []) xs)
       (in-gap y end before x all.0) (in-gaps y end (before ++ x ∷ []) xs all.1)
 
   in-item : (y : ℕ) (x : Laid) → IsNamed x → Each IsNamedAt (placed_item y x)
@@ -253,7 +255,8 @@ module _ (d : FlowsData) (f : Flow) where
       abbrev IsWithin : Token → Token → Type 0
       IsWithin t end = (item_number t ≤ item_number end) × (item_number end ≤ length f.items)
 
-      seam-within : (t : Token) (h : Option ℕ) (stop : Option Step) (end : Token) → EndsAtSeam inner f t h stop end → IsWithin t end
+      seam-within : (t : Token) (h : Option ℕ) (stop : Option Step) (end : Token) → EndsAtSeam inner f t h stop end
+          → IsWithin t end
       seam-within t h stop end e =
           let later = e.later in
           let known = e.known in

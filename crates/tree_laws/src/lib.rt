@@ -1,8 +1,8 @@
 //! Laws of the trees of layouts: what is true of the definitions of flow_list, whatever prints them.
 //!
-//! It stands on flow_list, flow_laws, frag_pool and tree_lines. Each function promises one law, does nothing, and takes no memory:
-//! that the trees of a layout name only parts that there are, and that the lines of what a layout's ids stand for are those of
-//! its tree.
+//! It stands on flow_list, flow_laws, frag_pool and tree_lines. Each function promises one law, does nothing, and takes no
+//! memory: that the trees of a layout name only parts that there are, and that the lines of what a layout's ids stand for are
+//! those of its tree.
 #![tactic(auto)]
 
 ghost use Rattle.std.specs.Prelude.{ℕ, ◌<◌, length};

@@ -18,7 +18,8 @@ with_height-requires g c =
 pub returns-in_err-frag-in-Some-clause-engine : goal.returns-in_err-frag-in-Some-clause-engine
 returns-in_err-frag-in-Some-clause-engine g c =
     g.met.I.InnerRows.stays c.search.new.inner c.args.flows.now c.search.new.book c.search.new.book c.search.new.pool
-    c.with_height.new.pool c.in_ok-found.ensures.engine (extends-refl _) (kept-grows-grows _ _ c.in_err-frag-in-Some.ensures.grown)
+    c.with_height.new.pool c.in_ok-found.ensures.engine (extends-refl _) (kept-grows-grows _ _
+    c.in_err-frag-in-Some.ensures.grown)
 
 pub with_height-requires-in-None : goal.with_height-requires-in-None
 with_height-requires-in-None g c =

@@ -22,5 +22,6 @@ pub returns-clause-low : goal.returns-clause-low
 returns-clause-low g c =
     c.max.ensures
     ∙ ap (λ n. max n c.div_ceil-wide.result) (ap (λ (t : Tallest). t.need) c.tallest_atom-tallest.ensures.tallest)
-    ∙ ap (λ w. max (tallest_in c.args.flows.now c.args.row c.args.from.now).need w) (wide-is c.args.flows.now c.args.row c.args.from.now c.atoms_height.result c.args.most c.from.result
+    ∙ ap (λ w. max (tallest_in c.args.flows.now c.args.row c.args.from.now).need w) (wide-is c.args.flows.now c.args.row
+    c.args.from.now c.atoms_height.result c.args.most c.from.result
     c.div_ceil-wide.result c.atoms_height.ensures.sum c.from.ensures c.requires.most c.div_ceil-wide.ensures)

@@ -47,13 +47,15 @@ loop-alloc-preserved g c =
           c.loop-alloc.ranges c.in-Rejected.range old.uses told.uses
           (trial-used d c.args.row c.args.from.now c.top_above-top.result c.loop-alloc.low c.in_ok-trial.trial c.in-Rejected.range
           c.in-Rejected.is told.step)
-          ∙ ap (λ (xs : List Range). after_uses d (uses_in c.args.book.now) (flat_map (range_uses d c.args.row c.args.from.now) xs))
+          ∙ ap (λ (xs : List Range). after_uses d (uses_in c.args.book.now) (flat_map (range_uses d c.args.row c.args.from.now)
+          xs))
           (sym c.in_ok-push-in-Rejected.ensures.ok);
       depth = told.depth ∙ old.depth;
       engine = told.engine;
       book = book-trans d c.args.book.now c.loop-alloc.book c.try_height.new.book old.book told.book;
       same = same-trial-trans c.args.pool.now c.loop-alloc.pool c.try_height.new.pool old.same
-          (subst (λ (t : Trial). IfRejected t (SameTrial c.loop-alloc.pool c.try_height.new.pool)) c.in-Rejected.is told.given_up);
+          (subst (λ (t : Trial). IfRejected t (SameTrial c.loop-alloc.pool c.try_height.new.pool)) c.in-Rejected.is
+          told.given_up);
     }
 
 pub loop-alloc-smaller : goal.loop-alloc-smaller

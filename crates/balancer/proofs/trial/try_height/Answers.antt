@@ -14,7 +14,8 @@ use Rattle.balancer.proofs.trial.try_height.Goals as goal
 pub next_range-requires : goal.next_range-requires
 next_range-requires g c =
     short-fits c.args.flows.now (c.flows_are_sound.ensures c.args.flows.now c.flow_counts-counts.ensures.sound) c.args.row
-    (row-flow c.args.flows.now c.args.row c.flow_counts-counts.ensures.sound c.requires.row) c.args.from.now c.args.low c.args.most
+    (row-flow c.args.flows.now c.args.row c.flow_counts-counts.ensures.sound c.requires.row) c.args.from.now c.args.low
+    c.args.most
     c.ranges.low.fits c.in_ok-made.made c.in_ok-made.ensures.fold
 
 pub returns-in-None-clause-step : goal.returns-in-None-clause-step

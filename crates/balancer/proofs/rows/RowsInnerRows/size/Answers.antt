@@ -34,8 +34,10 @@ returns-in_err-put-clause-engine g c = (
   g.met.I.InnerRows.stays c.least.new.inner c.args.flows.now c.least.new.book c.put.new.book c.least.new.pool
       c.release.new.self c.in_ok-made.ensures.engine (extends-same _ _ c.in_err-put.ensures.err)
       (given-up-kept _ _ _ c.release.ensures.back),
-  kept-stays c.args.flows.now c.args.book.now c.put.new.book c.args.pool.now c.release.new.self c.args.self.now.fills.fills.entries
-      (extends-trans c.args.book.now c.least.new.book c.put.new.book c.in_ok-made.ensures.book.held (extends-same _ _ c.in_err-put.ensures.err))
+  kept-stays c.args.flows.now c.args.book.now c.put.new.book c.args.pool.now c.release.new.self
+      c.args.self.now.fills.fills.entries
+      (extends-trans c.args.book.now c.least.new.book c.put.new.book c.in_ok-made.ensures.book.held
+      (extends-same _ _ c.in_err-put.ensures.err))
       (kept-grows-trans c.args.pool.now c.least.new.pool c.release.new.self
       (kept-grows-grows c.args.pool.now c.least.new.pool c.in_ok-made.ensures.grown) (given-up-kept _ _ _ c.release.ensures.back))
       c.requires.engine.2,
@@ -47,8 +49,10 @@ returns-clause-engine g c = (
   g.met.I.InnerRows.stays c.least.new.inner c.args.flows.now c.least.new.book c.put.new.book c.least.new.pool
       c.release.new.self c.in_ok-made.ensures.engine (record { more = _; is = c.in_ok-put.ensures.ok })
       (given-up-kept _ _ _ c.release.ensures.back),
-  kept-stays c.args.flows.now c.args.book.now c.put.new.book c.args.pool.now c.release.new.self c.args.self.now.fills.fills.entries
-      (extends-trans c.args.book.now c.least.new.book c.put.new.book c.in_ok-made.ensures.book.held (record { more = _; is = c.in_ok-put.ensures.ok }))
+  kept-stays c.args.flows.now c.args.book.now c.put.new.book c.args.pool.now c.release.new.self
+      c.args.self.now.fills.fills.entries
+      (extends-trans c.args.book.now c.least.new.book c.put.new.book c.in_ok-made.ensures.book.held
+      (record { more = _; is = c.in_ok-put.ensures.ok }))
       (kept-grows-trans c.args.pool.now c.least.new.pool c.release.new.self
       (kept-grows-grows c.args.pool.now c.least.new.pool c.in_ok-made.ensures.grown) (given-up-kept _ _ _ c.release.ensures.back))
       c.requires.engine.2,

@@ -5,7 +5,8 @@ use Rattle.kept_fills.proofs.store.KeptFills.put.Goals as goal
 
 pub returns-in-Ok-clause-kept : goal.returns-in-Ok-clause-kept
 returns-in-Ok-clause-kept c = λ d b p kept new.
-    subst (EachIsKept d b p) (sym c.in-Ok.ensures.entries) (kept-more d b p c.args.self.now.fills.entries c.args.key c.args.fill kept new)
+    subst (EachIsKept d b p) (sym c.in-Ok.ensures.entries) (kept-more d b p c.args.self.now.fills.entries c.args.key c.args.fill
+    kept new)
 
 pub returns-clause-kept : goal.returns-clause-kept
 returns-clause-kept c = λ d b p kept new. subst (EachIsKept d b p) (sym c.in-Err.ensures.err) kept
