@@ -1,17 +1,17 @@
 -- The certificate that is made of a layout is the layout's.
 use Rattle.std.proofs.Common.{◌≡◌, ℕ, zero, suc, ◌+◌, ◌-◌, ◌≤◌, Bool, true, false, List, [], ◌∷◌, ◌++◌, length, map, take, drop, refl}
-use Rattle.std.proofs.Common.{sym, ◌∙◌, ap, subst, cond, arith, Option, Some, None, inl, inr}
-use Rattle.std.specs.Prelude.{◌⊎◌, codes, All, max, min, nat_lt, if◌then◌else◌}
+use Rattle.std.proofs.Common.{sym, ◌∙◌, ap, cond, arith, Option, Some, None, inl, inr}
+use Rattle.std.specs.Prelude.{◌⊎◌, codes, All, max, min, nat_lt}
 use Rattle.std.specs.Fmt.{decimal}
 use Rattle.std.specs.List.{flat_map}
 use Rattle.std.proofs.lemmas.Grind.{flat_map-append}
-use Rattle.std.proofs.lemmas.List.{append_assoc, append-nil, drop-take}
+use Rattle.std.proofs.lemmas.List.{drop-take}
 use Rattle.std.proofs.lemmas.List.Elements.{All-nil, All-cons, All-head, All-tail, All-take, All-drop, All-append}
 use Rattle.flow_list.specs.Column.{ColumnLine}
 use Rattle.flow_list.specs.Data.{FlowsData}
 use Rattle.flow_data.specs.Flows.{row_of, flow_in}
-use Rattle.flow_list.specs.Certificate.{Use, StackRow, Entry, size_entry, row_entry, auto_entry, entry_of, row_book, entries_behind}
-use Rattle.flow_list.specs.Certificate.{rows_in_stacks, certificate, book_of, size_ranges, row_ranges, range_owned}
+use Rattle.flow_list.specs.Certificate.{Use, StackRow, size_entry, row_entry, auto_entry, entry_of, row_book, entries_behind}
+use Rattle.flow_list.specs.Certificate.{rows_in_stacks, certificate, size_ranges, row_ranges, range_owned}
 use Rattle.flow_list.specs.Entries.{use_of, uses_in}
 use Rattle.flow_list.specs.Ranges.{Range, Reason, ranges, searched, range_up_to, judged, lines_of, reason_of, least_bound, bounds_of}
 use Rattle.flow_list.specs.Ranges.{is_past, top_of, tallest_from, spread, atoms_height, tall, area}
@@ -25,12 +25,12 @@ use Rattle.flow_list.specs.declared.book.SizeEntry.{SizeEntry}
 use Rattle.flow_list.specs.declared.laid.LaidRow.{LaidRow}
 use Rattle.height_cert.specs.declared.cert.CertEntry.{CertEntry}
 use Rattle.height_cert.specs.declared.cert.CertEntry.TheVariants.{Size, Row, Auto}
-use Rattle.height_cert.specs.Certs.{cited, cert_texts}
+use Rattle.height_cert.specs.Certs.{cited}
 use Rattle.result_laws.specs.Given.{cited_text, column_words, fits_text}
 use Rattle.cite_laws.specs.Starts.{rows_of_lines}
 use Rattle.cite_laws.proofs.Telling.{tell}
-use Rattle.cert_laws.specs.Made.{as_cites, entry_of_row, entries_made, cert_made}
-use Rattle.cert_laws.specs.Laid.{IsSizeEntry, IsLaidRow, AreLaidRows, IsLayout, MadeIsLayouts}
+use Rattle.cert_laws.specs.Made.{as_cites, entry_of_row, entries_made}
+use Rattle.cert_laws.specs.Laid.{IsSizeEntry, IsLaidRow, AreLaidRows, MadeIsLayouts}
 use Rattle.cert_laws.proofs.MadeTexts as texts
 use Rattle.cert_laws.proofs.MadeTexts.{made_range, made_entry}
 

@@ -1,20 +1,19 @@
 -- The text of a certificate that is made, entry by entry.
-use Rattle.std.proofs.Common.{◌≡◌, ℕ, zero, suc, ◌+◌, List, [], ◌∷◌, ◌++◌, length, map, drop, refl, sym, ◌∙◌, ap, arith}
+use Rattle.std.proofs.Common.{◌≡◌, ℕ, zero, suc, ◌+◌, List, [], ◌∷◌, ◌++◌, length, map, drop, refl, ◌∙◌, ap, arith}
 use Rattle.std.proofs.Common.{length-append}
 use Rattle.std.specs.Prelude.{codes}
 use Rattle.std.specs.Fmt.{decimal}
 use Rattle.std.specs.List.{flat_map}
-use Rattle.std.proofs.lemmas.List.{append_assoc, append-nil}
+use Rattle.std.proofs.lemmas.List.{append_assoc}
 use Rattle.flow_list.specs.Column.{ColumnLine}
 use Rattle.flow_list.specs.Data.{FlowsData}
 use Rattle.flow_list.specs.Certificate.{Use}
-use Rattle.flow_list.specs.Entries.{uses_in}
 use Rattle.flow_list.specs.Ranges.{Range}
-use Rattle.flow_list.specs.ResultText.{line_words, reason_words, number_in}
+use Rattle.flow_list.specs.ResultText.{line_words, reason_words}
 use Rattle.flow_list.specs.declared.book.SizeEntry.{SizeEntry}
 use Rattle.height_cert.specs.declared.cert.Cites.{Cites}
 use Rattle.height_cert.specs.declared.cert.CertEntry.{CertEntry}
-use Rattle.height_cert.specs.Certs.{head_of, ranges_in, first_cites, cited, given_ranges, given_entries, column_count, line_count}
+use Rattle.height_cert.specs.Certs.{head_of, ranges_in, cited, given_ranges, given_entries, column_count, line_count}
 use Rattle.result_laws.specs.Clauses.{row_in, from_in}
 use Rattle.result_laws.specs.Given.{cited_text, range_texts, entry_texts, head_words}
 use Rattle.cite_laws.specs.Starts.{rows_of_lines, starts_after}

@@ -1,5 +1,5 @@
 -- When a book and rows are those of the layout, and what their certificate is then (this project's own).
-use Rattle.std.specs.Prelude.{◌≡◌, ℕ, ◌≤◌, List, [], ◌∷◌, length, take, All}
+use Rattle.std.specs.Prelude.{◌≡◌, ◌≤◌, List, [], ◌∷◌, length, take, All}
 use Rattle.flow_list.specs.Data.{FlowsData}
 use Rattle.flow_data.specs.Flows.{row_of}
 use Rattle.flow_list.specs.Certificate.{Use, StackRow, rows_in_stacks, row_book, book_of, size_ranges, row_ranges}

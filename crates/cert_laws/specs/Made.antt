@@ -1,5 +1,5 @@
 -- The certificate that is made of a book of sizes and the rows of a layout (this project's own).
-use Rattle.std.specs.Prelude.{◌≡◌, ℕ, ◌+◌, ◌-◌, ◌≤◌, ◌<◌, cond, List, [], ◌∷◌, ◌++◌, length, take, drop, map, Option, Some, None}
+use Rattle.std.specs.Prelude.{ℕ, ◌+◌, ◌-◌, ◌≤◌, cond, List, [], ◌∷◌, ◌++◌, length, take, drop, map, Option, Some, None}
 use Rattle.std.specs.List.{flat_map}
 use Rattle.flow_list.specs.Data.{Flow, FlowsData}
 use Rattle.flow_list.specs.Tokens.{Token}
