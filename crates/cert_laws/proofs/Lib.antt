@@ -1,0 +1,2 @@
+pub mod LayoutTexts
+pub mod MadeTexts
