@@ -1,8 +1,8 @@
 -- The stacks that were laid out are those of the flows.
 use Rattle.mc_run.proofs.rows.rows_of.Goals as goal
 
-pub write_tree_within-requires-layout : goal.write_tree_within-requires-layout
-write_tree_within-requires-layout c =
+pub write_tree_within-requires-clause-layout : goal.write_tree_within-requires-clause-layout
+write_tree_within-requires-clause-layout c =
     let laid = c.in_ok-laid.ensures in
     record {
       count = laid.count;
