@@ -13,6 +13,8 @@ mod calls;
 #[cfg(test)]
 mod data;
 #[cfg(test)]
+mod engine;
+#[cfg(test)]
 mod memory;
 #[cfg(test)]
 mod places;

@@ -1,0 +1,4 @@
+pub mod Built
+pub mod Lines
+pub mod Read
+pub mod Words
