@@ -1,5 +1,6 @@
 -- Lines are taken one after the other.
-use Rattle.std.proofs.Common.{◌≡◌, ℕ, suc, ◌+◌, Bool, true, false, List, [], ◌∷◌, ◌++◌, length, drop, map, refl, sym}
+use Rattle.std.proofs.Common.{◌≡◌, ℕ, suc, ◌+◌, Bool, true, false, List, [], ◌∷◌, ◌++◌, length, drop, map, refl}
+use Rattle.std.proofs.Common.{sym}
 use Rattle.std.proofs.Common.{◌∙◌, ap, cond, arith, length-append, Option, Some, None}
 use Rattle.std.specs.List.{flat_map}
 use Rattle.std.proofs.lemmas.Grind.{flat_map-append}
@@ -14,9 +15,11 @@ use Rattle.result_laws.specs.Given.{CitedLine}
 use Rattle.result_laws.specs.Reading.{CertLine, entry, range, column, close, Place, no_range, no_column, any_line, after_reason}
 use Rattle.result_laws.specs.Reading.{place_after, after_head}
 use Rattle.result_reader.specs.declared.build.Building.{Building}
-use Rattle.result_reader.specs.Built.{plain_column, plain_range, plain_entry, plain_lines, open_entry, open_range, taken, with_cites}
+use Rattle.result_reader.specs.Built.{plain_column, plain_range, plain_entry, plain_lines, open_entry, open_range, taken}
+use Rattle.result_reader.specs.Built.{with_cites}
 use Rattle.result_reader.specs.Built.{columns_among, numbers_from, lines_taken, HasCites, MayHold, MayOpen, MayStand, may_range}
-use Rattle.result_reader.specs.Built.{has_columns, may_column, IsHeld, place_after_range, place_in, place_of, IsBuilt, Takes, Steps}
+use Rattle.result_reader.specs.Built.{has_columns, may_column, IsHeld, place_after_range, place_in, place_of, IsBuilt, Takes}
+use Rattle.result_reader.specs.Built.{Steps}
 
 -- ---- what is closed
 
@@ -56,7 +59,8 @@ no-range-lines (y ∷ ys) e = absurd cc
 none-closed : (xs ys : List Range) (ls : List ColumnLine) → xs ≡ [] → ls ≡ []
     → flat_map plain_range ys ≡ flat_map plain_range xs ++ (open_range None ++ map plain_column ls) → ys ≡ []
 none-closed xs ys ls none bare e =
-    no-range-lines ys (e ∙ ap (λ (xs : List Range). flat_map plain_range xs ++ map plain_column ls) none ∙ ap (map plain_column) bare)
+    no-range-lines ys
+    (e ∙ ap (λ (xs : List Range). flat_map plain_range xs ++ map plain_column ls) none ∙ ap (map plain_column) bare)
 
 -- ranges that are closed stand where those before stood
 pub held-closed : (e : Option CertEntry) (xs ys : List Range) (r : Option Range) (ls : List ColumnLine) → MayHold e xs
@@ -116,7 +120,8 @@ range-held (Some (Size e)) xs may = tt
 range-held (Some (Row row available height fits ranges)) xs may = tt
 range-held (Some (Auto row available height)) xs may = absurd cc
 
-column-after : (x : Reason) (c : CitedLine) → has_columns x ≡ true → place_after (after_reason x) (column c) ≡ Some (after_reason x)
+column-after : (x : Reason) (c : CitedLine) → has_columns x ≡ true
+    → place_after (after_reason x) (column c) ≡ Some (after_reason x)
 column-after (tall k) c may = absurd cc
 column-after area c may = absurd cc
 column-after (left q) c may = refl
@@ -312,8 +317,8 @@ mark-step second n at b next l m built is_at takes cites numbers = record {
 -- ---- a column line is taken
 
 column-cited : (cites : List Cites) (c : Cites) (ls : List CertLine) (l : ColumnLine) → length cites ≡ columns_among ls
-    → with_cites (cites ++ c ∷ []) (ls ++ plain_column l ∷ []) ≡ with_cites cites ls ++ column (record { line = l; cites = c.sizes })
-    ∷ []
+    → with_cites (cites ++ c ∷ []) (ls ++ plain_column l ∷ [])
+    ≡ with_cites cites ls ++ column (record { line = l; cites = c.sizes }) ∷ []
 column-cited [] c [] l e = refl
 column-cited (d ∷ cs) c [] l e = absurd (omega arith)
 column-cited cites c (entry h ∷ ls) l e = ap (λ (xs : List CertLine). entry h ∷ xs) (column-cited cites c ls l e)
@@ -391,4 +396,13 @@ column-step second n b next l c built none takes cites numbers = record {
 
 pub ruleset close_rules = (range-closed, no-range-closed, entry-closed, no-entry-closed)
 
-pub ruleset take_rules = (entry-taken, range-taken, column-taken, no-range-place, no-column-place, mark-step, column-step, same-place)
+pub ruleset take_rules = (
+  entry-taken,
+  range-taken,
+  column-taken,
+  no-range-place,
+  no-column-place,
+  mark-step,
+  column-step,
+  same-place,
+)

@@ -7,7 +7,8 @@ use Rattle.mc_base.specs.declared.read_error.Fault.{Fault}
 use Rattle.flow_text.specs.Text.{Cut, cuts, line_len}
 use Rattle.flow_text.proofs.TextLemmas.{first_line}
 use Rattle.result_laws.specs.Given.{GivenResult}
-use Rattle.result_laws.specs.Reading.{CertLine, close, Place, no_range, place_after, is_close, is_cut, line_in, line_here, none_after}
+use Rattle.result_laws.specs.Reading.{CertLine, close, Place, no_range, place_after, is_close, is_cut, line_in, line_here}
+use Rattle.result_laws.specs.Reading.{none_after}
 use Rattle.result_laws.specs.Reading.{read_entries, read_first, read_tree, fault}
 use Rattle.result_laws.proofs.TextRead.{entries-more, entries-end, entries-off, entries-out, tree-more, tree-cert, tree-out}
 use Rattle.result_laws.proofs.TextRead.{first-none, first-one, first-two, first-off}
@@ -42,7 +43,8 @@ here : (place q : Place) (l : CertLine) (o : Option CertLine) → o ≡ Some l �
     → line_here place o ≡ Some (l, q)
 here place q l o e f = rw (e, f) refl
 
-not-here : (place : Place) (l : CertLine) (o : Option CertLine) → o ≡ Some l → place_after place l ≡ None → line_here place o ≡ None
+not-here : (place : Place) (l : CertLine) (o : Option CertLine) → o ≡ Some l → place_after place l ≡ None
+    → line_here place o ≡ None
 not-here place l o e f = rw (e, f) refl
 
 -- it is taken
@@ -51,7 +53,8 @@ pub line-taken : (cites : Bool) (len : ℕ) (tree : List (List ℕ)) (place q : 
     → place_after place l ≡ Some q → is_close l ≡ false
     → read_entries cites len tree place lines (cut_of at front ended ∷ cs) ≡ read_entries cites len tree q (lines ++ l ∷ []) cs
 line-taken cites len tree place q lines at front ended cs l e f g =
-    entries-more cites len tree place q lines (cut_of at front ended) cs l (here place q l (line_in cites (cut_of at front ended)) e f) g
+    entries-more cites len tree place q lines (cut_of at front ended) cs l
+    (here place q l (line_in cites (cut_of at front ended)) e f) g
 
 -- it is of no form, or may not stand here
 pub line-off : (cites : Bool) (len : ℕ) (tree : List (List ℕ)) (place : Place) (lines : List CertLine) (at : ℕ)
@@ -149,12 +152,13 @@ entries-begin cites text tree b at none place =
 -- a line after `cert`
 pub entries-on : (cites : Bool) (text front : List ℕ) (ended : Bool) (tree : List (List ℕ)) (b next : Building) (l : CertLine)
     (n at after : ℕ) (total : Result GivenResult Fault) → Cutting text front ended at after
-    → line_in cites (cut_of 0 front ended) ≡ Some l → is_close l ≡ false → Steps cites n b l next → Reads cites text tree b at total
+    → line_in cites (cut_of 0 front ended) ≡ Some l → is_close l ≡ false → Steps cites n b l next
+    → Reads cites text tree b at total
     → Reads cites text tree next after total
 entries-on cites text front ended tree b next l n at after total cut line goes steps so =
     ap (λ ls. read_entries cites (length text) tree (place_of next) ls (cuts_from text after)) steps.lines
-    ∙ sym (line-taken cites (length text) tree (place_of b) (place_of next) (lines_taken b) at front ended (cuts_from text after) l
-    line steps.place goes)
+    ∙ sym (line-taken cites (length text) tree (place_of b) (place_of next) (lines_taken b) at front ended (cuts_from text after)
+    l line steps.place goes)
     ∙ ap (reading cites text tree b) (sym cut) ∙ so
 
 -- one of no form

@@ -13,7 +13,8 @@ use Rattle.height_cert.specs.Laws.{columns_count}
 use Rattle.result_laws.specs.Given.{CitedLine, GivenRange, GivenEntry, GivenResult}
 use Rattle.result_laws.specs.Reading.{CertLine, entry, range, column, close, Rest, onto_rest, gathered}
 use Rattle.result_laws.proofs.Gathering.{columns_onto, ranges_onto, lines_in}
-use Rattle.result_reader.specs.Built.{plain_column, plain_range, plain_lines, with_cites, columns_among, numbers_from}
+use Rattle.result_reader.specs.Built.{plain_column, plain_range, plain_lines, with_cites, columns_among}
+use Rattle.result_reader.specs.Built.{numbers_from}
 use Rattle.result_reader.specs.Read.{numbers_in, with_lines}
 
 -- ---- the lines with their sizes
@@ -145,7 +146,8 @@ ranges-numbers n cites (x ∷ xs) rest =
     ∙ ap (λ (ns : List ℕ). n ∷ ns)
     (columns-numbers (n + 1) x.lines (flat_map plain_range xs ++ rest)
     ∙ ranges-numbers (n + 1 + length x.lines) (drop (length x.lines) cites) xs rest
-    ∙ ap (λ (k : ℕ). map range_at (given_ranges (n + 1 + length x.lines) (drop (length x.lines) cites) xs) ++ numbers_from k rest) e)
+    ∙ ap (λ (k : ℕ). map range_at (given_ranges (n + 1 + length x.lines) (drop (length x.lines) cites) xs)
+    ++ numbers_from k rest) e)
 
 pub entries-numbers : (n : ℕ) (cites : List Cites) (es : List CertEntry)
     → numbers_from n (plain_lines es) ≡ numbers_in (given_entries n cites es)

@@ -22,7 +22,8 @@ abbrev numbered : Bool → ℕ → List ℕ → Option ℕ
 numbered t v rest = cond t (Some (v, rest)) None >>= all_of
 
 number-parts : (w : List ℕ)
-    → number_of w ≡ numbered (is_numeral (take (digits_len w) w)) (digits_value 10 (take (digits_len w) w)) (drop (digits_len w) w)
+    → number_of w
+    ≡ numbered (is_numeral (take (digits_len w) w)) (digits_value 10 (take (digits_len w) w)) (drop (digits_len w) w)
 unfolding number_of number_at
 number-parts w = refl
 

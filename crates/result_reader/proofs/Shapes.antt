@@ -1,12 +1,13 @@
 -- Lines, read word by word, are those of the definitions.
-use Rattle.std.proofs.Common.{◌≡◌, ℕ, ◌<◌, Bool, true, false, List, [], ◌∷◌, ◌++◌, length, refl, sym, ◌∙◌, ap, cond}
+use Rattle.std.proofs.Common.{◌≡◌, ℕ, ◌+◌, ◌<◌, Bool, true, false, List, [], ◌∷◌, ◌++◌, length, refl, sym, ◌∙◌, ap, cond}
 use Rattle.std.proofs.Common.{Option, Some, None}
 use Rattle.std.specs.Prelude.{codes}
 use Rattle.std.specs.Str.{bytes_eq}
 use Rattle.std.proofs.lemmas.List.{append_assoc, append-nil}
 use Rattle.flow_list.specs.Column.{ColumnLine}
 use Rattle.flow_list.specs.Tokens.{Token}
-use Rattle.result_laws.specs.Reading.{CertLine, column, close, range_of_words, head_of_size, head_of_row, head_of_auto, reason_of_words, column_of_words}
+use Rattle.result_laws.specs.Reading.{CertLine, column, close, range_of_words, head_of_size, head_of_row, head_of_auto}
+use Rattle.result_laws.specs.Reading.{reason_of_words, column_of_words}
 use Rattle.result_laws.specs.Reading.{cites_of, line_of_words, line_of}
 use Rattle.result_laws.specs.Words.{◌>>=◌, number_of, small_of, numbers_of, dash_or, end_of_word, parted}
 use Rattle.result_reader.specs.Lines.{size_line, row_line, auto_line, column_front, other_of_words}

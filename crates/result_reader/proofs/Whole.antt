@@ -16,7 +16,8 @@ use Rattle.result_laws.proofs.TextRead.{right-read, wrong-read}
 use Rattle.result_reader.specs.declared.build.Building.{Building}
 use Rattle.result_reader.specs.declared.read.ReadResult.{ReadResult}
 use Rattle.result_reader.specs.Built.{columns_among, numbers_from, plain_lines, taken, with_cites, IsBuilt}
-use Rattle.result_reader.specs.Read.{AreEntries, CitesFit, FailsIn, IsAgain, IsFirstLine, IsTree, cuts_from, given, numbers_in}
+use Rattle.result_reader.specs.Read.{AreEntries, CitesFit, FailsIn, IsAgain, IsFirstLine, IsTree, cuts_from, given}
+use Rattle.result_reader.specs.Read.{numbers_in}
 use Rattle.result_reader.specs.Read.{with_lines}
 use Rattle.result_reader.proofs.Gathered.{lines-cert, entries-numbers, entries-counted}
 

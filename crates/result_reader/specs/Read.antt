@@ -36,8 +36,8 @@ line_at text at = 1 + count_by (λ b. b == 10) (take at text)
 -- Out of memory, or the fault that is told of the text, with its line.
 abbrev pub IsBad : List ℕ → BadResult → Type 0
 IsBad text bad.NoMemory = Unit {0}
-IsBad text (bad.BadLine line offset rule) = (result_of text ≡ Err (record { at = offset; rule = rule.number })) × (rule.letter ≡ 114)
-    × (line ≡ line_at text offset)
+IsBad text (bad.BadLine line offset rule) =
+    (result_of text ≡ Err (record { at = offset; rule = rule.number })) × (rule.letter ≡ 114) × (line ≡ line_at text offset)
 
 -- the line at an offset, and the lines after it
 abbrev pub cut_of : ℕ → List ℕ → Bool → Cut

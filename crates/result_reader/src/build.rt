@@ -6,7 +6,7 @@ ghost use Rattle.height_cert.specs.Certs.{head_of, ranges_in};
 ghost use Rattle.result_laws.specs.Reading as reading;
 ghost use Rattle.result_reader.specs.Built.{IsBuilt, IsHeld, MayHold, MayStand, StepsOrNot, Takes, TakesOrNot, may_column};
 ghost use Rattle.result_reader.specs.Built.{may_range, open_entry, open_range, place_of, plain_column, plain_lines, plain_range};
-ghost use Rattle.result_reader.specs.Built.{lines_taken, taken};
+ghost use Rattle.result_reader.specs.Built.{taken};
 ghost use Rattle.result_reader.specs.Lines.{NoSizes, said};
 
 use crate::line::CertLine;

@@ -4,7 +4,7 @@ ghost use Rattle.std.specs.Prelude.{◌≡◌, ◌≤◌, ◌-◌, length};
 ghost use Rattle.std.specs.Str.Parse.{digits_value, AllDigits};
 ghost use Rattle.flow_text.specs.Numbers.{digits_len, is_numeral};
 ghost use Rattle.result_laws.specs.Words.{number_of, small_of, token_of};
-ghost use Rattle.result_reader.specs.Words.{behind, token_to};
+ghost use Rattle.result_reader.specs.Words.{token_to};
 
 use crate::words::part;
 use mc_base::Token;

@@ -1,6 +1,7 @@
 //! Reading a result line by line.
 
-ghost use Rattle.std.specs.Prelude.{◌≡◌, ◌+◌, ◌<◌, ◌≤◌, Bool, ℕ, [], ◌∷◌, All, List, length, option_map, if◌then◌else◌, IfOk, IfErr, IfSome, Ok};
+ghost use Rattle.std.specs.Prelude.{◌≡◌, ◌+◌, ◌<◌, ◌≤◌, ℕ, ◌∷◌, All, List, length, option_map, if◌then◌else◌, IfOk};
+ghost use Rattle.std.specs.Prelude.{IfErr, IfSome, Ok};
 ghost use Rattle.std.specs.Prelude.{◌⊎◌};
 ghost use Rattle.height_cert.specs.Certs.{result_text};
 ghost use Rattle.height_cert.specs.Laws.{CanBeRead};

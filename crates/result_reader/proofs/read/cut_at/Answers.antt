@@ -9,5 +9,5 @@ returns-clause-here c =
     let rest = rw c.split_at.ensures.back at c.split_at-2.ensures.back in
     let long = c.split_at-2.ensures.front_len in
     let next : c.args.at + length c.split_at-2.result.0.now + 1 ≡ c.args.at + c.before-2.result + 1 = omega arith in
-    rw c.is_empty.ensures (line-there c.args.text.now c.split_at-2.result.0.now c.split_at-2.result.1.now c.args.at c.before-2.result _
-    c.requires n front rest next)
+    rw c.is_empty.ensures (line-there c.args.text.now c.split_at-2.result.0.now c.split_at-2.result.1.now c.args.at
+    c.before-2.result _ c.requires n front rest next)

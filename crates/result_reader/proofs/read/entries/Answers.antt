@@ -9,11 +9,12 @@ use Rattle.result_reader.proofs.read.entries.Goals as goal
 
 pub loop-at-init : goal.loop-at-init
 loop-at-init c =
-    let none : length (taken c.new-building.result) ≡ 0 = ap (λ (ls : List reading.CertLine). length ls) c.new-building.ensures.lines in
+    let none : length (taken c.new-building.result) ≡ 0 =
+    ap (λ (ls : List reading.CertLine). length ls) c.new-building.ensures.lines in
     let tree = c.len.ensures in
     record {
-      read = entries-begin c.args.cites c.args.text.now c.args.tree.now c.new-building.result c.args.at c.new-building.ensures.lines
-          c.new-building.ensures.place;
+      read = entries-begin c.args.cites c.args.text.now c.args.tree.now c.new-building.result c.args.at
+          c.new-building.ensures.lines c.new-building.ensures.place;
       built = c.new-building.ensures.built c.args.cites (3 + length c.args.tree.now);
       number = omega arith;
       bound = c.requires.bound;
@@ -25,8 +26,8 @@ returns-in-Ok-None-clause-entries c =
     let here = c.cut_at-here.result in
     let line = rw c.in-Ok-None.field-0-is at c.in-Ok-None.ensures.line in
     rw c.fault_at.ensures (
-      entries-bad c.args.cites c.args.text.now here.text.now here.ended c.args.tree.now c.loop-at.building c.loop-at.at here.next _
-          c.cut_at-here.ensures.here (sym line) c.loop-at.invariant.read,
+      entries-bad c.args.cites c.args.text.now here.text.now here.ended c.args.tree.now c.loop-at.building c.loop-at.at
+          here.next _ c.cut_at-here.ensures.here (sym line) c.loop-at.invariant.read,
       omega arith,
     )
 
@@ -36,8 +37,8 @@ returns-in-Close-clause-entries c =
     let line = rw c.in-Ok-Some.field-0-is at c.in-Ok-Some.ensures.line in
     let close = sym line ∙ ap (λ (l : CertLine). Some (said l)) c.in-Close.is in
     last-entries c.args.text.now c.args.cites c.args.at c.args.tree.now c.loop-at.building here.next c.last.result c.last.ensures
-    (entries-closed c.args.cites c.args.text.now here.text.now here.ended c.args.tree.now c.loop-at.building c.loop-at.at here.next _
-    c.cut_at-here.ensures.here close c.loop-at.invariant.read)
+    (entries-closed c.args.cites c.args.text.now here.text.now here.ended c.args.tree.now c.loop-at.building c.loop-at.at
+    here.next _ c.cut_at-here.ensures.here close c.loop-at.invariant.read)
 
 pub returns-in-Ok-None-with_line : goal.returns-in-Ok-None-with_line
 returns-in-Ok-None-with_line c =
@@ -48,7 +49,8 @@ returns-in-Ok-None-with_line c =
     record {
       entries = rw c.fault_at-in-Ok-None-with_line.ensures (
         entries-misplaced c.args.cites c.args.text.now here.text.now here.ended c.args.tree.now c.loop-at.building
-            (said c.in-Ok-Some.line) c.loop-at.at here.next _ c.cut_at-here.ensures.here (sym line) place c.loop-at.invariant.read,
+            (said c.in-Ok-Some.line) c.loop-at.at here.next _ c.cut_at-here.ensures.here (sym line) place
+            c.loop-at.invariant.read,
         omega arith,
       );
       built = tt;
@@ -62,7 +64,8 @@ loop-at-preserved c =
     let n = 3 + length c.args.tree.now in
     let line = rw c.in-Ok-Some.field-0-is at c.in-Ok-Some.ensures.line in
     let on = rw c.in-Ok-Some-with_line.field-0-is at c.in-Ok-Some-with_line.ensures in
-    let steps : Steps c.args.cites n b (said c.in-Ok-Some.line) next = on n c.loop-at.invariant.built c.loop-at.invariant.number in
+    let steps : Steps c.args.cites n b (said c.in-Ok-Some.line) next =
+    on n c.loop-at.invariant.built c.loop-at.invariant.number in
     let goes : reading.is_close (said c.in-Ok-Some.line) ≡ false = search rules in
     let count : length (taken next) ≡ length (taken b) + 1 = steps.count in
     record {

@@ -20,7 +20,8 @@ loop-at-preserved c =
     let long : length c.push.new.self ≡ length c.loop-at.lines + 1 =
     ap (λ (ts : List (List ℕ)). length ts) grown ∙ length-append c.loop-at.lines (line.text.now ∷ []) in
     record {
-      read = λ cites. ap (λ (ts : List (List ℕ)). read_tree cites (length c.args.text.now) ts (cuts_from c.args.text.now line.next)) grown
+      read = λ cites. ap (λ (ts : List (List ℕ)). read_tree cites (length c.args.text.now) ts
+          (cuts_from c.args.text.now line.next)) grown
           ∙ tree-on cites c.args.text.now line.text.now line.ended c.loop-at.lines c.loop-at.at line.next _
           c.cut_at-line.ensures.here (sym c.is_line.ensures ∙ c.if-is_line.false) (c.loop-at.invariant.read cites);
       bound = c.cut_at-line.ensures.bound;
