@@ -173,7 +173,13 @@ fn balance<I: InnerRows, C: Tally>(
     }
 }
 
-/// The least height at which a row fits from a place on, or what is available where that is less.
+/// The least height in units (1 unit is 1/64 px) at which a row fits from a place on, or what is available where none up to that
+/// fits, and the ranges of lesser heights, each with the reason why none of them fits (CSS Multi-column 1, section 7.1, leaves
+/// the height of balanced columns open; that it is the least is this project's own). The book gets the sizes that the ranges and
+/// the row's own columns use, where they aren't there.
+///
+/// When out of memory, the region's trial nodes are as they were, and the book may have further true entries; else what was live
+/// is live and unchanged.
 pub fn least<I: InnerRows, C: Tally>(
     alloc: Global,
     inner: &mut I,

@@ -1,5 +1,6 @@
 -- The certificate that is made of a layout is the layout's.
-use Rattle.std.proofs.Common.{◌≡◌, ℕ, zero, suc, ◌+◌, ◌-◌, ◌≤◌, Bool, true, false, List, [], ◌∷◌, ◌++◌, length, map, take, drop, refl}
+use Rattle.std.proofs.Common.{◌≡◌, ℕ, zero, suc, ◌+◌, ◌-◌, ◌≤◌, Bool, true, false, List, [], ◌∷◌, ◌++◌}
+use Rattle.std.proofs.Common.{length, map, take, drop, refl}
 use Rattle.std.proofs.Common.{sym, ◌∙◌, ap, cond, arith, Option, Some, None, inl, inr}
 use Rattle.std.specs.Prelude.{◌⊎◌, codes, All, max, min, nat_lt}
 use Rattle.std.specs.Fmt.{decimal}
@@ -13,7 +14,8 @@ use Rattle.flow_data.specs.Flows.{row_of, flow_in}
 use Rattle.flow_list.specs.Certificate.{Use, StackRow, size_entry, row_entry, auto_entry, entry_of, row_book, entries_behind}
 use Rattle.flow_list.specs.Certificate.{rows_in_stacks, certificate, size_ranges, row_ranges, range_owned}
 use Rattle.flow_list.specs.Entries.{use_of, uses_in}
-use Rattle.flow_list.specs.Ranges.{Range, Reason, ranges, searched, range_up_to, judged, lines_of, reason_of, least_bound, bounds_of}
+use Rattle.flow_list.specs.Ranges.{Range, Reason, ranges, searched, range_up_to, judged}
+use Rattle.flow_list.specs.Ranges.{lines_of, reason_of, least_bound, bounds_of}
 use Rattle.flow_list.specs.Ranges.{is_past, top_of, tallest_from, spread, atoms_height, tall, area}
 use Rattle.flow_list.specs.Rows.{all_rows, most_columns, reach}
 use Rattle.flow_list.specs.ResultText.{line_words, reason_words, number_in, column_line, column_lines, range_lines, entry_lines}

@@ -1,8 +1,8 @@
 //! Which certificate is made of a book of sizes and the rows of a layout, and that it is the layout's.
 //!
-//! It stands on flow_list, height_cert, cite_laws and result_laws. Its `specs/` say which entries are made, in which order, and what
-//! their column lines cite; and when a book and rows are those of a layout. Its function promises one law, does nothing, and takes
-//! no memory.
+//! It stands on flow_list, height_cert, cite_laws and result_laws. Its `specs/` say which entries are made, in which order, and
+//! what their column lines cite; and when a book and rows are those of a layout. Its function promises one law, does nothing, and
+//! takes no memory.
 #![tactic(auto)]
 
 ghost use Rattle.std.specs.Prelude.{List};

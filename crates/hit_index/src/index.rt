@@ -106,7 +106,8 @@ impl Index {
         Ok(path)
     }
 
-    /// The leaves that have a point in common with a rectangle, in order. The error is out of memory.
+    /// The leaves that have a point in common with a rectangle, in units from the document's top left, in order. The error is out
+    /// of memory.
     pub fn within(&self, alloc: Global, rect: Rect) -> Result<List<u64>, NoMemory>
         ensures { IfOk result (λ leaves. leaves ≡ scan.within self.now rect) }
     {

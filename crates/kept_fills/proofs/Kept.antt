@@ -28,30 +28,19 @@ both : (a b : Bool) → (a && b) ≡ true → (a ≡ true) × (b ≡ true)
 both true b h = (refl, h)
 both false b h = absurd cc
 
-module _ (d : FlowsData) (book : List SizeEntry) (p : Nodes) where
-  moved : (a k : FillKey) (f : Filled) → same_key k a ≡ true → IsKeptFill d book p a.row a.from a.height f →
-      IsKeptFill d book p k.row k.from k.height f
-  moved a k f same kept =
-      let outer = both ((k.row == a.row) && (k.height == a.height)) (pointwise nat_eq k.from a.from) same in
-      let inner = both (k.row == a.row) (k.height == a.height) outer.0 in
-      let row_is : k.row ≡ a.row = (unsigned_Decides k.row a.row).0 inner.0 in
-      let height_is : k.height ≡ a.height = (unsigned_Decides k.height a.height).0 inner.1 in
-      let from_is : k.from ≡ a.from = (bytes_decides k.from a.from).0 outer.1 in
-      subst (λ r. IsKeptFill d book p r k.from k.height f) (sym row_is)
-      (subst (λ q. IsKeptFill d book p a.row q k.height f) (sym from_is)
-      (subst (λ h. IsKeptFill d book p a.row a.from h f) (sym height_is) kept))
+-- equal keys are the same
+key-is : (a k : FillKey) → same_key k a ≡ true → k ≡ a
+key-is a k same =
+    let outer = both ((k.row == a.row) && (k.height == a.height)) (pointwise nat_eq k.from a.from) same in
+    let inner = both (k.row == a.row) (k.height == a.height) outer.0 in
+    let row_is : k.row ≡ a.row = (unsigned_Decides k.row a.row).0 inner.0 in
+    let height_is : k.height ≡ a.height = (unsigned_Decides k.height a.height).0 inner.1 in
+    let from_is : k.from ≡ a.from = (bytes_decides k.from a.from).0 outer.1 in
+    λ i. record { row = row_is i; height = height_is i; from = from_is i }
 
-  moved_back : (a k : FillKey) (f : Filled) → same_key k a ≡ true → IsKeptFill d book p k.row k.from k.height f →
-      IsKeptFill d book p a.row a.from a.height f
-  moved_back a k f same kept =
-      let outer = both ((k.row == a.row) && (k.height == a.height)) (pointwise nat_eq k.from a.from) same in
-      let inner = both (k.row == a.row) (k.height == a.height) outer.0 in
-      let row_is : k.row ≡ a.row = (unsigned_Decides k.row a.row).0 inner.0 in
-      let height_is : k.height ≡ a.height = (unsigned_Decides k.height a.height).0 inner.1 in
-      let from_is : k.from ≡ a.from = (bytes_decides k.from a.from).0 outer.1 in
-      subst (λ r. IsKeptFill d book p r a.from a.height f) row_is
-      (subst (λ q. IsKeptFill d book p k.row q a.height f) from_is
-      (subst (λ h. IsKeptFill d book p k.row k.from h f) height_is kept))
+module _ (d : FlowsData) (book : List SizeEntry) (p : Nodes) where
+  abbrev KeptOf : FillKey → Filled → Type 0
+  KeptOf k f = IsKeptFill d book p k.row k.from k.height f
 
   -- what is found under a key is a kept fill of it
   pub kept-found : (es : List (FillKey × Filled)) (k : FillKey) (f : Filled) → EachIsKept d book p es →
@@ -64,7 +53,7 @@ module _ (d : FlowsData) (book : List SizeEntry) (p : Nodes) where
           IsKeptFill d book p k.row k.from k.height f
       by true same is rest =
           let value : e.1 ≡ f = cc in
-          subst (λ g. IsKeptFill d book p k.row k.from k.height g) value (moved e.0 k e.1 same kept.0)
+          subst (KeptOf k) value (subst (λ a. KeptOf a e.1) (sym (key-is e.0 k same)) kept.0)
       by false same is rest = rest is
 
   pub some-found : (es : List (FillKey × Filled)) (k : FillKey) (r : Option (Bor Filled)) → EachIsKept d book p es →
@@ -80,7 +69,7 @@ module _ (d : FlowsData) (book : List SizeEntry) (p : Nodes) where
     where
       by : (t : Bool) → same_key k e.0 ≡ t → EachIsKept d book p (insert_entry same_key es k f) →
           EachIsKept d book p (if t then (e.0, f) ∷ es else e ∷ insert_entry same_key es k f)
-      by true same rest = (moved_back e.0 k f same new, kept.1)
+      by true same rest = (subst (λ a. KeptOf a f) (key-is e.0 k same) new, kept.1)
       by false same rest = (kept.0, rest)
 
 -- ---- where the book and the kept nodes grow
