@@ -4,6 +4,7 @@ ghost use Rattle.std.specs.Prelude.{◌≡◌, ◌<◌, [], ◌∷◌, ◌++◌,
 ghost use Rattle.std.specs.Option.{option_copied};
 ghost use Rattle.flow_list.specs.Certificate.{stands_in};
 ghost use Rattle.flow_list.specs.Entries.{entry_for, uses_in};
+ghost use Rattle.flow_list.specs.ResultText.{number_in};
 
 use crate::place::Place;
 use crate::range::Range;
@@ -59,6 +60,21 @@ impl Book {
             from: from.copy(),
         };
         self.sizes.get(&place)
+    }
+
+    /// The number of the entry of a row from a place on: how many entries stand before it, or how many there are where it isn't
+    /// there. It takes no memory.
+    pub fn number(&self, row: u32, from: &Token) -> u64
+        ensures { result ≡ number_in (uses_in self.now) (row, from.now) }
+    {
+        let place = Place {
+            row,
+            from: from.copy(),
+        };
+        match self.sizes.get_index_of(&place) {
+            Some(number) => number as u64,
+            None => self.count(),
+        }
     }
 
     /// Adds the entry of a row and a place that has none, at the end. Want of memory hands the entry back, and the book is

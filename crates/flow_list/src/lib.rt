@@ -4,7 +4,7 @@
 //! what the layout is: strips, columns, heights that fit, row heights. Every flow file is read as sealed flows: `read_flow`
 //! promises the flows that the file says, or its first fault or limit. All that is sealed is sound. Each look promises
 //! which part of the data it answers, and a look at an item is counted. A `Book` of sizes promises to find each entry that was
-//! entered, and keeps them in order; it hands an entry back where there is no memory for it.
+//! entered and its number, and keeps them in order; it hands an entry back where there is no memory for it.
 #![tactic(auto)]
 
 mod book;
