@@ -1,6 +1,6 @@
 //! Copies of ranges and of what they hold.
 
-ghost use Rattle.std.specs.Prelude.{◌≡◌, map, IfOk};
+ghost use Rattle.std.specs.Prelude.{◌≡◌, IfOk};
 
 use flow_list::{ColLine, Range, Reason, SizeEntry};
 use mc_base::{List, NoMemory, Token};

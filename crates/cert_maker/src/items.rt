@@ -1,6 +1,6 @@
 //! The rows among the items of a column.
 
-ghost use Rattle.std.specs.Prelude.{◌≡◌, ℕ, ◌+◌, ◌-◌, ◌<◌, ◌≤◌, ◌++◌, length, map, OnOk, IfSome, MatchOption};
+ghost use Rattle.std.specs.Prelude.{◌≡◌, ◌+◌, ◌-◌, ◌<◌, ◌≤◌, ◌++◌, length, map, OnOk, IfSome};
 ghost use Rattle.cite_laws.specs.Starts.{before_forced, rows_from};
 ghost use Rattle.flow_data.specs.Flows.{flow_of, item_of};
 ghost use Rattle.flow_list.specs.Column.{is_forced, row_from, row_list};
