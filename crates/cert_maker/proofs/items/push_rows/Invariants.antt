@@ -10,4 +10,5 @@ abbrev pub invariant-loop-k : goal.invariant-loop-k
 invariant-loop-k l =
     let f = flow_of l.flows l.flow in
     l.sizes ++ map (number_in (uses_in l.book)) (rows_from f l.k l.place (l.end - l.k))
-    ≡ l.initial.sizes ++ map (number_in (uses_in l.book)) (rows_from f (item_number l.from) (within l.from) (l.end - item_number l.from))
+    ≡ l.initial.sizes ++ map (number_in (uses_in l.book))
+    (rows_from f (item_number l.from) (within l.from) (l.end - item_number l.from))
