@@ -1,5 +1,5 @@
 -- The seams of a flow file's rows are sound: starts stand in heads and ends in tails, with their cloned edges.
-use Rattle.std.proofs.Common.{◌≡◌, ℕ, ◌-◌, ◌<◌, List, [], ◌∷◌, ◌++◌, length, eqb, cond, Bool, true, false, Option, Some, None}
+use Rattle.std.proofs.Common.{◌≡◌, ℕ, ◌<◌, List, [], ◌∷◌, ◌++◌, length, eqb, cond, Bool, true, false, Option, Some, None}
 use Rattle.std.proofs.Common.{refl, sym, ap, subst, arith}
 use Rattle.std.specs.Prelude.{slice_get}
 use Rattle.std.specs.List.{AllByRecursion}
@@ -10,8 +10,8 @@ use Rattle.flow_text.specs.declared.line.Form.{Form}
 use Rattle.flow_text.specs.declared.line.Form.TheVariants as forms
 use Rattle.flow_text.specs.Grammar.{Rest, no_more, edge, place, atom, row, line, lines_of, boxes_behind, IsRest, BeginsSolid}
 use Rattle.flow_text.specs.Grammar.{solid_of}
-use Rattle.flow_list.specs.Data.{BoxInfo, FlowsData, Margin, Solid, Wall, Start, End}
-use Rattle.flow_data.specs.Flows.{box_of, started, ended}
+use Rattle.flow_list.specs.Data.{BoxInfo, FlowsData}
+use Rattle.flow_data.specs.Flows.{box_of, ended}
 use Rattle.flow_list.specs.FileFlows.{line_edges, edges_before, edges_behind, seam_behind, seams_behind, first_seam}
 use Rattle.flow_data.specs.Soundness.{IsSoundSeam}
 use Rattle.flow_data.proofs.SeamEdges.{IsHead, IsTail, empty_head, empty_tail, seam_from, some_amount, some_solid}

@@ -1,5 +1,5 @@
 -- The book of sizes as they are entered: which books are true, and what a book is after sizes are entered (this project's own).
-use Rattle.std.specs.Prelude.{◌≡◌, ℕ, suc, ◌<◌, true, false, List, ◌∷◌, ◌++◌, length, All}
+use Rattle.std.specs.Prelude.{◌≡◌, suc, ◌<◌, true, false, List, ◌∷◌, ◌++◌, length, All}
 use Rattle.flow_data.specs.declared.data.FlowsData.{FlowsData}
 use Rattle.flow_list.specs.Certificate.{Use, stands_in, size_uses, entered}
 

@@ -9,7 +9,6 @@
 
 mod book;
 mod build;
-mod flat_row;
 mod flows;
 mod laid;
 mod place;
@@ -18,7 +17,6 @@ mod read;
 mod tally;
 
 pub use book::{Book, SizeEntry};
-pub use flat_row::FlatRow;
 pub use flow_data::{
     AtomKind, Bound, BoxInfo, Edge, Flow, FlowsData, Item, RowInfo, Seam, Stack, sound,
 };
