@@ -1,4 +1,5 @@
 pub mod KeptRows
+pub mod Costs
 pub mod Ends
 pub mod Follows
 pub mod Limits

@@ -1,4 +1,5 @@
 pub mod Balancing
+pub mod Cost
 pub mod Finding
 pub mod Searching
 pub mod Trying

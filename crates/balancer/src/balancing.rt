@@ -5,6 +5,7 @@ ghost use Rattle.flow_data.specs.Flows.{flow_in, rows_in};
 ghost use Rattle.flow_data.specs.Soundness.{NestsAtMost};
 ghost use Rattle.flow_list.specs.Book.{after_uses};
 ghost use Rattle.flow_list.specs.Certificate.{columns_from, uses_of};
+ghost use Rattle.flow_list.specs.Counts.{raised};
 ghost use Rattle.flow_list.specs.Entries.{uses_in};
 ghost use Rattle.flow_list.specs.RowHeights.{balanced_fits, balanced_height};
 ghost use Rattle.flow_list.specs.Tokens.{IsPlace};
@@ -14,6 +15,7 @@ ghost use Rattle.frag_pool.specs.Standing.{StandsFor};
 ghost use Rattle.inner_rows.specs.Filling.{row_tree};
 ghost use Rattle.inner_rows.specs.TrueBook.{AreTrue, BookAfter};
 ghost use Rattle.balancer.specs.Balancing.{IsBalanced, balanced_uses, limit_of};
+ghost use Rattle.balancer.specs.Cost.{balanced_cost, columns_cost};
 
 use crate::search::search;
 use crate::standing::with_height;
@@ -90,6 +92,8 @@ fn whole_piece<I: InnerRows, C: Tally>(
         ≡ after_uses flows.now (uses_in book.old) (uses_of (columns_from flows.now row from.now height))) }
     ensures grown { OnOk result (Grows pool.old pool.new) }
     ensures refused { OnErr result (SameTrial pool.old pool.new) }
+    ensures reads { C.read_count tally.new ≤ C.read_count tally.old + columns_cost flows.now row from.now height }
+    ensures folds { C.fold_count tally.new ≡ raised (C.fold_count tally.old) 1 }
 {
     // In sealed flows, which are sound, these are laws: there are fewer columns than 2^32.
     let _counts = flow_counts(flows);
@@ -141,6 +145,9 @@ fn balance<I: InnerRows, C: Tally>(
     ensures uses { OnOk result (uses_in book.new
         ≡ after_uses flows.now (uses_in book.old) (balanced_uses flows.now row from.now available)) }
     ensures grown { Grows pool.old pool.new }
+    ensures folds { IfOk result (λ out. C.fold_count tally.new ≤ C.fold_count tally.old + (length out.ranges + 1)) }
+    ensures reads { IfOk result (λ out. C.read_count tally.new
+        ≤ C.read_count tally.old + balanced_cost flows.now row from.now out.ranges out.height) }
 {
     // In sealed flows, which are sound, these are laws.
     let _counts = flow_counts(flows);
@@ -178,6 +185,9 @@ fn balance<I: InnerRows, C: Tally>(
 /// the height of balanced columns open; that it is the least is this project's own). The book gets the sizes that the ranges and
 /// the row's own columns use, where they aren't there.
 ///
+/// Columns are made once for each range at most, and once for the row. For the ranges and the row's own columns, items are read
+/// as often as those columns ask for, and each item from the place on twice more.
+///
 /// When out of memory, the region's trial nodes are as they were, and the book may have further true entries; else what was live
 /// is live and unchanged.
 pub fn least<I: InnerRows, C: Tally>(
@@ -207,6 +217,9 @@ pub fn least<I: InnerRows, C: Tally>(
         ≡ after_uses flows.now (uses_in book.old) (balanced_uses flows.now row from.now available)) }
     ensures grown { OnOk result (Grows pool.old pool.new) }
     ensures refused { OnErr result (SameTrial pool.old pool.new) }
+    ensures folds { IfOk result (λ out. C.fold_count tally.new ≤ C.fold_count tally.old + (length out.ranges + 1)) }
+    ensures reads { IfOk result (λ out. C.read_count tally.new
+        ≤ C.read_count tally.old + balanced_cost flows.now row from.now out.ranges out.height) }
 {
     // In sealed flows, which are sound, these are laws.
     let _counts = flow_counts(flows);

@@ -1,11 +1,12 @@
 //! The ranges of heights at which an atom is too high, or the columns don't hold the atoms.
 
-ghost use Rattle.std.specs.Prelude.{◌≡◌, ◌++◌, ◌<◌, ◌≤◌, IfOk, OnOk, max, length};
+ghost use Rattle.std.specs.Prelude.{◌≡◌, ◌+◌, ◌*◌, ◌++◌, ◌<◌, ◌≤◌, IfOk, OnOk, max, length};
 ghost use Rattle.flow_data.specs.Flows.{flow_in, row_of};
 ghost use Rattle.flow_list.specs.Ranges.{range_up_to, tall, area};
 ghost use Rattle.flow_list.specs.Rows.{most_columns as most_of};
 ghost use Rattle.flow_list.specs.Tokens.{IsPlace};
 ghost use Rattle.range_finder.specs.Judging.{as_list};
+ghost use Rattle.balancer.specs.Cost.{items_left};
 ghost use Rattle.balancer.specs.Searching.{spread_of, tallest_in};
 
 use atom_needs::tallest_atom;
@@ -50,6 +51,7 @@ pub fn first_ranges<C: Tally>(
         ++ range_up_to top need (spread_of flows.now row from.now) area) }
     ensures low { IfOk result (λ first. first.low
         ≡ max (tallest_in flows.now row from.now).need (spread_of flows.now row from.now)) }
+    ensures reads { C.read_count tally.new ≤ C.read_count tally.old + 2 * items_left flows.now row from.now }
     ensures folds { C.fold_count tally.new ≡ C.fold_count tally.old }
 {
     let tallest = tallest_atom(flows, row, from, tally);

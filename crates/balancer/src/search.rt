@@ -13,6 +13,7 @@ ghost use Rattle.frag_pool.specs.Nodes.{SameTrial};
 ghost use Rattle.frag_pool.specs.Standing.{StandsFor};
 ghost use Rattle.inner_rows.specs.Filling.{row_tree};
 ghost use Rattle.inner_rows.specs.TrueBook.{AreTrue, BookAfter};
+ghost use Rattle.balancer.specs.Cost.{fragment_cost, fragment_folds, ranges_cost};
 ghost use Rattle.balancer.specs.Finding.{IsFound, found_uses};
 
 use crate::first::first_ranges;
@@ -85,6 +86,10 @@ pub fn search<I: InnerRows, C: Tally>(
         ≡ after_uses flows.now (uses_in book.old) (found_uses flows.now row from.now found)) }
     ensures grown { OnOk result (Grows pool.old pool.new) }
     ensures refused { OnErr result (SameTrial pool.old pool.new) }
+    ensures folds { IfOk result (λ found. C.fold_count tally.new
+        ≤ C.fold_count tally.old + (length found.ranges + fragment_folds found.frag)) }
+    ensures reads { IfOk result (λ found. C.read_count tally.new ≤ C.read_count tally.old
+        + (ranges_cost flows.now row from.now found.ranges + fragment_cost flows.now row from.now found.height found.frag)) }
 {
     // In sealed flows, which are sound, these are laws.
     let _counts = flow_counts(flows);

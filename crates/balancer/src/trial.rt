@@ -1,6 +1,6 @@
 //! One height of a search: its columns are made and given up, unless they fit.
 
-ghost use Rattle.std.specs.Prelude.{◌≡◌, ℕ, suc, ◌<◌, ◌≤◌, IfOk, OnOk, OnErr, All, length, None};
+ghost use Rattle.std.specs.Prelude.{◌≡◌, ℕ, suc, ◌+◌, ◌<◌, ◌≤◌, IfOk, OnOk, OnErr, All, length, None};
 ghost use Rattle.flow_data.specs.Flows.{flow_in, rows_in, row_of};
 ghost use Rattle.flow_data.specs.Soundness.{NestsAtMost};
 ghost use Rattle.flow_list.specs.Book.{after_uses};
@@ -16,6 +16,7 @@ ghost use Rattle.frag_pool.specs.Standing.{StandsFor};
 ghost use Rattle.inner_rows.specs.Filling.{row_tree};
 ghost use Rattle.inner_rows.specs.TrueBook.{AreTrue, BookAfter};
 ghost use Rattle.range_finder.specs.Judging.{goes_on};
+ghost use Rattle.balancer.specs.Cost.{judged_cost};
 ghost use Rattle.balancer.specs.Trying.{IfFits, IfRejected, range_of};
 
 use column_laws::flows_are_sound;
@@ -68,6 +69,7 @@ pub fn try_height<I: InnerRows, C: Tally>(
     ensures grown { OnOk result (Grows pool.old pool.new) }
     ensures given_up { IfOk result (λ trial. IfRejected trial (SameTrial pool.old pool.new)) }
     ensures refused { OnErr result (SameTrial pool.old pool.new) }
+    ensures reads { C.read_count tally.new ≤ C.read_count tally.old + judged_cost flows.now row from.now low }
     ensures folds { C.fold_count tally.new ≡ raised (C.fold_count tally.old) 1 }
 {
     // In sealed flows, which are sound, this is a law.

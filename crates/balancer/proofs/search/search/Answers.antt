@@ -1,4 +1,4 @@
-use Rattle.std.proofs.Common.{List, refl, sym, ◌∙◌, ap, subst}
+use Rattle.std.proofs.Common.{List, refl, sym, ◌∙◌, ap, subst, arith}
 use Rattle.std.specs.List.{flat_map}
 use Rattle.std.proofs.lemmas.List.{append-nil}
 use Rattle.flow_list.specs.Book.{after_uses}
@@ -12,6 +12,7 @@ use Rattle.frag_pool.proofs.Growth.{grows-same-trial, grows-trans, same-trial-re
 use Rattle.inner_rows.proofs.Calls.{book-refl, book-trans}
 use Rattle.balancer.specs.Trying.{IfRejected}
 use Rattle.balancer.specs.declared.trial.Trial.{Trial}
+use Rattle.balancer.proofs.Costs.{first-reads, more-folds, more-reads, trial-cost}
 use Rattle.balancer.proofs.Progress.{ended-at, less-left, next-at, on-err, passed-at, start-at}
 use Rattle.balancer.proofs.Uses.{firsts-used, last-used, more-used, trial-used}
 use Rattle.balancer.proofs.search.search.Goals as goal
@@ -29,6 +30,9 @@ loop-alloc-init g c =
       engine = c.requires.engine;
       book = book-refl d c.args.book.now c.requires.book;
       same = same-trial-refl c.args.pool.now;
+      folds = let same = c.in_ok-first.ensures.folds in omega arith;
+      reads = first-reads d c.args.row c.args.from.now c.in_ok-first.first.ranges (g.C.Tally.read_count c.args.tally.now)
+          (g.C.Tally.read_count c.first_ranges.new.tally) c.in_ok-first.ensures.reads;
     }
 
 pub loop-alloc-preserved : goal.loop-alloc-preserved
@@ -56,6 +60,14 @@ loop-alloc-preserved g c =
       same = same-trial-trans c.args.pool.now c.loop-alloc.pool c.try_height.new.pool old.same
           (subst (λ (t : Trial). IfRejected t (SameTrial c.loop-alloc.pool c.try_height.new.pool)) c.in-Rejected.is
           told.given_up);
+      folds = more-folds (g.C.Tally.fold_count c.args.tally.now) (g.C.Tally.fold_count c.loop-alloc.tally)
+          (g.C.Tally.fold_count c.try_height.new.tally) c.loop-alloc.ranges c.push.new.self c.in-Rejected.range old.folds
+          told.folds c.in_ok-push-in-Rejected.ensures.ok;
+      reads = more-reads d c.args.row c.args.from.now c.loop-alloc.low (g.C.Tally.read_count c.args.tally.now)
+          (g.C.Tally.read_count c.loop-alloc.tally) (g.C.Tally.read_count c.try_height.new.tally) c.loop-alloc.ranges
+          c.push.new.self c.in-Rejected.range old.reads told.reads
+          (trial-cost d c.args.row c.args.from.now c.top_above-top.result c.loop-alloc.low c.in_ok-trial.trial
+          c.in-Rejected.range c.in-Rejected.is told.step) c.in_ok-push-in-Rejected.ensures.ok;
     }
 
 pub loop-alloc-smaller : goal.loop-alloc-smaller

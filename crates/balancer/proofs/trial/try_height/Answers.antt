@@ -8,6 +8,7 @@ use Rattle.frag_pool.specs.Standing.{StandsFor}
 use Rattle.frag_pool.proofs.Growth.{given-up, given-up-kept, grows-same-trial}
 use Rattle.inner_rows.specs.Filling.{row_tree}
 use Rattle.inner_rows.proofs.Calls.{extends-refl}
+use Rattle.balancer.proofs.Costs.{made-cost}
 use Rattle.balancer.proofs.Trials.{judged-made, judged-of, row-flow, short-fits}
 use Rattle.balancer.proofs.trial.try_height.Goals as goal
 
@@ -58,3 +59,18 @@ returns-in-Some-clause-uses g c =
 pub returns-in-Some-clause-grown : goal.returns-in-Some-clause-grown
 returns-in-Some-clause-grown g c =
     grows-same-trial _ _ (given-up _ _ _ _ c.mark-mark.ensures.trial c.in_ok-made.ensures.grown c.release.ensures.back)
+
+pub returns-in_err-made-clause-reads : goal.returns-in_err-made-clause-reads
+returns-in_err-made-clause-reads g c =
+    made-cost c.args.flows.now c.args.row c.args.from.now c.args.low c.args.most c.requires.most
+    (g.C.Tally.read_count c.args.tally.now) (g.C.Tally.read_count c.fold.new.tally) c.fold.ensures.read
+
+pub returns-in-None-clause-reads : goal.returns-in-None-clause-reads
+returns-in-None-clause-reads g c =
+    made-cost c.args.flows.now c.args.row c.args.from.now c.args.low c.args.most c.requires.most
+    (g.C.Tally.read_count c.args.tally.now) (g.C.Tally.read_count c.fold.new.tally) c.fold.ensures.read
+
+pub returns-in-Some-clause-reads : goal.returns-in-Some-clause-reads
+returns-in-Some-clause-reads g c =
+    made-cost c.args.flows.now c.args.row c.args.from.now c.args.low c.args.most c.requires.most
+    (g.C.Tally.read_count c.args.tally.now) (g.C.Tally.read_count c.fold.new.tally) c.fold.ensures.read
