@@ -1,0 +1,2 @@
+//! What the computed styles of a document's elements say of their boxes.
+#![tactic(auto)]
