@@ -14,6 +14,7 @@ use Rattle.css_winner.specs.Own.{own_settings}
 use Rattle.css_data.specs.declared.rule.Sheet.{Sheet}
 use Rattle.css_select.proofs.Parents.{element_within}
 use Rattle.css_cascade.specs.declared.styles.NodeStyle.{NodeStyle}
+use Rattle.css_cascade.specs.Entries.{entry_at}
 use Rattle.css_cascade.specs.Attributes.{AllAreRead, IsFirstFault, read_as, settings_or_none, node_settings}
 use Rattle.css_cascade.specs.Cascaded.{AreOwn, HasEntry, HasEntries, IsCascaded}
 
@@ -67,6 +68,8 @@ cascaded_is sheets dom own read settings same nodes made styles is =
     let long = ap length same ∙ count in
     record {
       read = all_read own dom.nodes read;
+      size = ap length is ∙ made.size ∙ long;
+      others = λ n outside. ap (λ s. entry_at s n) is ∙ made.others n outside;
       each = λ n element.
           let below = element_within dom n element in
           subst (λ s. HasEntry sheets dom s n) (sym is) (made.each n (omega (arith, below, long)) element);

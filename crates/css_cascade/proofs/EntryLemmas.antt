@@ -15,7 +15,7 @@ use Rattle.css_winner.specs.Rules.{all_sheets}
 use Rattle.css_cascade.specs.declared.styles.NodeStyle.{NodeStyle}
 use Rattle.css_cascade.specs.Entries.{itself, entry_at, style_at}
 use Rattle.css_cascade.specs.Attributes.{own_at}
-use Rattle.css_cascade.specs.Cascaded.{parent_style, root_size, IsStyled, HasEntry, IsEntry, HasEntries, IsCascaded}
+use Rattle.css_cascade.specs.Cascaded.{parent_style, root_size, IsStyled, HasEntry, IsEntry, HasEntries, IsCascaded, OthersHaveNone}
 
 get_front : {X : Type 0} (xs ys : List X) (k : ℕ) → k < length xs → slice_get (xs ++ ys) k ≡ slice_get xs k
 get_front [] ys k h = absurd (omega arith)
@@ -77,6 +77,20 @@ module _ (xs ys : List (Option NodeStyle)) where
         styled = styled_kept (all_sheets sheets) dom (own_at dom n) n it.entry earlier (omega arith) it.styled;
       }
 
+-- after the last entry, and at one that is none, stands none
+none-from : (xs : List (Option NodeStyle)) (k : ℕ) → length xs ≤ k → entry_at (xs ++ None ∷ []) k ≡ None
+none-from [] zero h = refl
+none-from [] (suc k) h = refl
+none-from (x ∷ xs) zero h = absurd (omega (arith, h))
+none-from (x ∷ xs) (suc k) h = none-from xs k (omega (arith, h))
+
+past-one : (xs : List (Option NodeStyle)) (entry : NodeStyle) (k : ℕ) → length xs ≤ k → (k ≡ length xs → ⊥)
+    → entry_at (xs ++ Some entry ∷ []) k ≡ None
+past-one [] entry zero h outside = absurd (outside refl)
+past-one [] entry (suc k) h outside = refl
+past-one (x ∷ xs) entry zero h outside = absurd (omega (arith, h))
+past-one (x ∷ xs) entry (suc k) h outside = past-one xs entry k (omega (arith, h)) (λ e. outside (ap suc e))
+
 sooner : (k n : ℕ) → k < n + 1 → (k < n) ⊎ (k ≡ n)
 sooner k n h = elim (cases_lt k n) [ inl a ↦ inl a | inr b ↦ inr (omega arith) ]
 
@@ -85,22 +99,34 @@ module _ (sheets : List Sheet) (dom : Dom) (earlier : ParentsAreEarlier dom) (xs
   made : (entry : Option NodeStyle) → IsEntry (all_sheets sheets) dom (own_at dom n) xs n entry → IsElementAt dom n
       → HasEntry sheets dom (xs ++ entry ∷ []) n
   made None none element = absurd (none element)
-  made (Some entry) it element =
+  made (Some entry) (element-is, it) element =
       record {
         entry = entry;
         stands = ap (option_and_then itself) (ap (slice_get (xs ++ Some entry ∷ [])) (sym long) ∙ get_last xs (Some entry));
         styled = styled_kept xs (Some entry ∷ []) (all_sheets sheets) dom (own_at dom n) n entry earlier (omega arith) it;
       }
 
-  pub entries_more : ((k : ℕ) → k < n → IsElementAt dom k → HasEntry sheets dom xs k) → (entry : Option NodeStyle)
+  -- a node from the last one on that is no element has no entry
+  last-none : (entry : Option NodeStyle) → IsEntry (all_sheets sheets) dom (own_at dom n) xs n entry → (k : ℕ) → n ≤ k
+      → (IsElementAt dom k → ⊥) → entry_at (xs ++ entry ∷ []) k ≡ None
+  last-none None none k after outside = none-from xs k (omega (arith, after, long))
+  last-none (Some entry) (element, it) k after outside = past-one xs entry k (omega (arith, after, long))
+      (λ same. outside (subst (IsElementAt dom) (sym long ∙ sym same) element))
+
+  pub entries_more : ((k : ℕ) → k < n → IsElementAt dom k → HasEntry sheets dom xs k) → OthersHaveNone dom xs
+      → (entry : Option NodeStyle)
       → IsEntry (all_sheets sheets) dom (own_at dom n) xs n entry → HasEntries sheets dom (n + 1) (xs ++ entry ∷ [])
-  entries_more so_far entry it =
+  entries_more so_far before-none entry it =
       record {
         size = length-append xs (entry ∷ []) ∙ ap (λ k. k + 1) long;
         each = λ k below element. elim (sooner k n below) [
           | inl before ↦ has_kept xs (entry ∷ []) sheets dom k earlier (omega arith) (so_far k before element)
           | inr now ↦ subst (HasEntry sheets dom (xs ++ entry ∷ [])) (sym now)
               (made entry it (subst (IsElementAt dom) now element))
+        ];
+        others = λ k outside. elim (cases_lt k n) [
+          | inl before ↦ entry_kept xs (entry ∷ []) k (omega (arith, before, long)) ∙ before-none k outside
+          | inr after ↦ last-none entry it k after outside
         ];
       }
 
@@ -113,7 +139,12 @@ element_has_entry sheets dom styles n cascaded element =
 
 -- no node has its entry yet
 pub no_entries : (sheets : List Sheet) (dom : Dom) (xs : List (Option NodeStyle)) → xs ≡ [] → HasEntries sheets dom 0 xs
-no_entries sheets dom xs e = record { size = ap length e; each = λ n below element. absurd (omega arith) }
+no_entries sheets dom xs e =
+    record {
+      size = ap length e;
+      each = λ n below element. absurd (omega arith);
+      others = λ n outside. ap (λ s. entry_at s n) e;
+    }
 
 -- one more node has
 pub entries_step : (sheets : List Sheet) (dom : Dom) → ParentsAreEarlier dom → (xs : List (Option NodeStyle)) (n : ℕ)
@@ -125,4 +156,4 @@ entries_step sheets dom earlier xs n so_far before same own sets entry it new is
     let here : IsEntry (all_sheets sheets) dom (own_at dom n) xs n entry =
     subst (λ o. IsEntry (all_sheets sheets) dom o xs n entry) sets
     (subst (λ b. IsEntry (all_sheets sheets) dom own b n entry) same it) in
-    subst (HasEntries sheets dom (n + 1)) (sym is) (entries_more sheets dom earlier xs n so_far.size so_far.each entry here)
+    subst (HasEntries sheets dom (n + 1)) (sym is) (entries_more sheets dom earlier xs n so_far.size so_far.each so_far.others entry here)

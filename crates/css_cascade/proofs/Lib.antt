@@ -2,3 +2,4 @@ pub mod PlaceLemmas
 pub mod WonLemmas
 pub mod EntryLemmas
 pub mod AttributeLemmas
+pub mod OneStyling

@@ -70,15 +70,22 @@ pub record HasEntry (sheets : List Sheet) (dom : Dom) (styles : List (Option Nod
   pub stands : entry_at styles n ≡ Some entry
   pub styled : IsStyled (all_sheets sheets) dom (own_at dom n) styles n entry
 
--- every style attribute is on its grammar, and every element has its style
+-- a node that is no element has no entry
+abbrev pub OthersHaveNone : Dom → List (Option NodeStyle) → Type 0
+OthersHaveNone dom styles = (n : ℕ) → (IsElementAt dom n → ⊥) → entry_at styles n ≡ None
+
+-- every style attribute is on its grammar, and every element has its style; there is one entry for each node, which is none where
+-- that is no element
 pub record IsCascaded (sheets : List Sheet) (dom : Dom) (styles : List (Option NodeStyle)) : Type 0 where
   pub read : AllAreRead dom.nodes
+  pub size : length styles ≡ length dom.nodes
   pub each : (n : ℕ) → IsElementAt dom n → HasEntry sheets dom styles n
+  pub others : OthersHaveNone dom styles
 
--- what is made for a node: an entry, if it is an element
+-- what is made for a node: an entry, if it is an element, and only then
 abbrev pub IsEntry : List Sheet → Dom → List Setting → List (Option NodeStyle) → ℕ → Option NodeStyle → Type 0
 IsEntry sheets dom own styles n entry =
-    MatchOption entry (IsElementAt dom n → ⊥) (λ entry. IsStyled sheets dom own styles n entry)
+    MatchOption entry (IsElementAt dom n → ⊥) (λ entry. IsElementAt dom n × IsStyled sheets dom own styles n entry)
 
 -- these are what the style attributes of the first nodes set, and no more than the nodes
 pub record AreOwn (dom : Dom) (own : List (List Setting)) : Type 0 where
@@ -89,3 +96,4 @@ pub record AreOwn (dom : Dom) (own : List (List Setting)) : Type 0 where
 pub record HasEntries (sheets : List Sheet) (dom : Dom) (count : ℕ) (styles : List (Option NodeStyle)) : Type 0 where
   pub size : length styles ≡ count
   pub each : (n : ℕ) → n < count → IsElementAt dom n → HasEntry sheets dom styles n
+  pub others : OthersHaveNone dom styles

@@ -2,3 +2,4 @@ pub mod Entries
 pub mod Won
 pub mod Attributes
 pub mod Cascaded
+pub mod Laws

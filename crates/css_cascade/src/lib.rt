@@ -8,6 +8,7 @@
 
 mod attributes;
 mod cascading;
+mod laws;
 mod styles;
 #[cfg(test)]
 mod tests;
@@ -15,4 +16,5 @@ mod won;
 
 pub use cascading::cascade;
 pub use css_computed::{Computed, Style};
+pub use laws::styles_are_one;
 pub use styles::{NodeStyle, Styles};

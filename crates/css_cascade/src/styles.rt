@@ -49,6 +49,13 @@ impl Styles {
         Styles { nodes }
     }
 
+    /// The entries of all nodes, in order. It takes no memory.
+    pub fn entries(&self) -> &[Option<NodeStyle>]
+        ensures { result.now ≡ self.now }
+    {
+        self.nodes.as_slice()
+    }
+
     /// The style of an element. It takes no memory.
     pub fn of(&self, node: NodeId) -> &Style
         requires { IsSome (entries.entry_at self.now node) }
