@@ -58,6 +58,28 @@ pub fn collapse(alloc: Global, runs: &Runs) -> Result<Runs, NoMemory>
     })
 }
 
+/// The pieces after the collapsing of white space by these styles, as `collapse` has them.
+///
+/// A style that isn't there doesn't keep its white space.
+pub fn collapse_pieces(
+    alloc: Global,
+    styles: &[RunStyle],
+    pieces: &[Piece],
+) -> Result<Vec<Piece>, AllocError>
+    ensures { IfOk result
+        (λ answer. answer.items ≡ collapsed (record { pieces = pieces.now; styles = styles.now })) }
+{
+    let mut found = Vec::new(alloc);
+    let mut follows = false;
+    let mut rest = pieces;
+    while let Some((piece, after)) = rest.split_first() {
+        push_piece(&mut found, styles, follows, piece, after)?;
+        follows = is_content_or(kind(styles, piece), follows);
+        rest = after;
+    }
+    Ok(found)
+}
+
 /// Whether pieces are nothing but white space that collapses and `wbr`. Such a run makes no line, and no anonymous block
 /// (CSS 2.1, section 9.2.2.1).
 pub fn is_blank(styles: &[RunStyle], pieces: &[Piece]) -> bool
@@ -92,16 +114,7 @@ fn is_blank_kind(kind: Kind) -> bool
 fn collapsed_pieces(alloc: Global, runs: &Runs) -> Result<Vec<Piece>, AllocError>
     ensures { IfOk result (λ pieces. pieces.items ≡ collapsed runs.now) }
 {
-    let styles = runs.styles.as_slice();
-    let mut pieces = Vec::new(alloc);
-    let mut follows = false;
-    let mut rest = runs.pieces.as_slice();
-    while let Some((piece, after)) = rest.split_first() {
-        push_piece(&mut pieces, styles, follows, piece, after)?;
-        follows = is_content_or(kind(styles, piece), follows);
-        rest = after;
-    }
-    Ok(pieces)
+    collapse_pieces(alloc, runs.styles.as_slice(), runs.pieces.as_slice())
 }
 
 /// Adds what a piece becomes before the pieces `after`; `follows` says whether it follows content.

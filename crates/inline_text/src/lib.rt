@@ -10,7 +10,7 @@ mod laws;
 mod places;
 mod styles;
 
-pub use collapsing::{collapse, is_blank};
+pub use collapsing::{collapse, collapse_pieces, is_blank};
 pub use content::{Kind, Piece, RunStyle, Runs};
 pub use laws::numbering_styles_anew_changes_nothing_else;
 pub use places::opportunities;
