@@ -1,3 +1,4 @@
 pub mod Styles
 pub mod Texts
 pub mod Lengths
+pub mod Laws

@@ -1,5 +1,5 @@
 -- What the computed style of an element says of its box.
-use Rattle.std.specs.Prelude.{ℕ, ◌*◌, ◌/◌, ◌^◌, ◌-◌, min, max, Bool, false, true, List, map, Option, Some, None, codes, if◌then◌else◌}
+use Rattle.std.specs.Prelude.{ℕ, ◌*◌, ◌/◌, ◌^◌, ◌-◌, min, max, Bool, false, List, map, Option, Some, None, codes, if◌then◌else◌}
 use Rattle.std.specs.Str.{bytes_eq}
 use Rattle.mc_base.specs.declared.decimal.Decimal.{Decimal}
 use Rattle.mc_base.specs.declared.refusal.ConstructName.{ConstructName}
@@ -9,7 +9,16 @@ use Rattle.css_computed.specs.declared.style.Computed.{Computed}
 use Rattle.css_computed.specs.declared.style.Computed.TheVariants as computed
 use Rattle.css_computed.specs.declared.style.Style.{Style}
 use Rattle.css_cascade.specs.declared.styles.NodeStyle.{NodeStyle}
-use Rattle.box_data.specs.Styles.{Length, auto, units, percent, Display, hidden, inline, block, Align, left, right, center, BoxStyle, initial, capped}
+use Rattle.box_data.specs.declared.style.Length.{Length}
+use Rattle.box_data.specs.declared.style.Length.TheVariants.{Auto as auto, Units as units, Percent as percent}
+use Rattle.box_data.specs.declared.style.Display.{Display}
+use Rattle.box_data.specs.declared.style.Display.TheVariants.{Hidden as hidden, Inline as inline, Block as block}
+use Rattle.box_data.specs.declared.style.Align.{Align}
+use Rattle.box_data.specs.declared.style.Align.TheVariants.{Left as left, Right as right, Center as center}
+use Rattle.box_data.specs.declared.style.SideLengths.{SideLengths}
+use Rattle.box_data.specs.declared.style.SideAmounts.{SideAmounts}
+use Rattle.box_data.specs.declared.style.BoxStyle.{BoxStyle}
+use Rattle.box_data.specs.Styles.{initial, capped}
 
 -- ---- what the values say
 
@@ -65,11 +74,11 @@ column_width_of (computed.Names names) = None
 
 -- a line height: a length, or a number of times the font size (CSS 2.1, section 10.8.1)
 abbrev pub line_of : Computed → (size : ℕ) → ℕ
-line_of (computed.Word name) size = size
+line_of (computed.Word name) size = capped size
 line_of (computed.Length u) size = capped u
-line_of (computed.Percent value) size = size
+line_of (computed.Percent value) size = capped size
 line_of (computed.Number value) size = capped (value.billionths * size / 10 ^ 9)
-line_of (computed.Names names) size = size
+line_of (computed.Names names) size = capped size
 
 -- `none` makes no box, `block` and `list-item` block-level ones (CSS 2.1, section 9.2)
 abbrev pub display_of : Computed → Display
@@ -87,6 +96,30 @@ break_of value =
 
 -- ---- the style of a box
 
+abbrev pub margin_of : Style → SideLengths
+margin_of s = record {
+  top = length_of s.margin_top;
+  right = length_of s.margin_right;
+  bottom = length_of s.margin_bottom;
+  left = length_of s.margin_left;
+}
+
+abbrev pub border_of : Style → SideAmounts
+border_of s = record {
+  top = amount_of s.border_top_width;
+  right = amount_of s.border_right_width;
+  bottom = amount_of s.border_bottom_width;
+  left = amount_of s.border_left_width;
+}
+
+abbrev pub padding_of : Style → SideLengths
+padding_of s = record {
+  top = length_of s.padding_top;
+  right = length_of s.padding_right;
+  bottom = length_of s.padding_bottom;
+  left = length_of s.padding_left;
+}
+
 -- with this first winning declaration that isn't laid out
 unfoldable pub box_style_of : Style → Option ConstructName → BoxStyle
 box_style_of s refused = record {
@@ -99,12 +132,9 @@ box_style_of s refused = record {
   align = align_of s.text_align;
   orphans = count_of s.orphans;
   widows = count_of s.widows;
-  margin = record { top = length_of s.margin_top; right = length_of s.margin_right; bottom = length_of s.margin_bottom; left = length_of s.margin_left };
-  border = record {
-    top = amount_of s.border_top_width; right = amount_of s.border_right_width;
-    bottom = amount_of s.border_bottom_width; left = amount_of s.border_left_width;
-  };
-  padding = record { top = length_of s.padding_top; right = length_of s.padding_right; bottom = length_of s.padding_bottom; left = length_of s.padding_left };
+  margin = margin_of s;
+  border = border_of s;
+  padding = padding_of s;
   width = length_of s.width;
   max_width = length_of s.max_width;
   height = length_of s.height;
@@ -120,7 +150,6 @@ box_style_of s refused = record {
   cloned = is_word (codes "clone") s.box_decoration_break;
   refused = refused;
 }
-
 
 -- ---- the styles of a document's nodes, of which only elements have one that counts
 

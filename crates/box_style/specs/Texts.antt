@@ -7,6 +7,7 @@ use Rattle.css_computed.specs.declared.style.Computed.{Computed}
 use Rattle.css_computed.specs.declared.style.Computed.TheVariants as computed
 use Rattle.css_computed.specs.declared.style.Style.{Style}
 use Rattle.css_cascade.specs.declared.styles.NodeStyle.{NodeStyle}
+use Rattle.box_data.specs.declared.style.BoxStyle.{BoxStyle}
 use Rattle.box_data.specs.Styles.{initial, text_of}
 use Rattle.box_style.specs.Styles.{box_style_of, is_word, whole_of}
 
@@ -28,13 +29,18 @@ weight_of (computed.Names names) = 400
 abbrev pub face_of : List Face → Style → ℕ
 face_of faces s = chosen faces (families_of s.font_family) (weight_of s.font_weight) (is_word (codes "italic") s.font_style)
 
--- What the style of a node says of its text. A font size above the limit of lengths is refused where the element is shown, and
+-- What a style says of text in this face. A font size above the limit of lengths is refused where the element is shown, and
 -- counts as that limit elsewhere.
+abbrev pub short_text : (face : ℕ) → BoxStyle → RunStyle
+short_text face s = text_of face (record s { size = min s.size (2 ^ 24) })
+
+abbrev pub style_text : List Face → NodeStyle → RunStyle
+style_text faces entry = short_text (face_of faces entry.style) (box_style_of entry.style entry.refused)
+
+-- what the style of a node says of its text
 abbrev pub entry_text : List Face → Option NodeStyle → RunStyle
 entry_text faces None = text_of 0 initial
-entry_text faces (Some entry) =
-    let s = box_style_of entry.style entry.refused in
-    text_of (face_of faces entry.style) (record s { size = min s.size (2 ^ 24) })
+entry_text faces (Some entry) = style_text faces entry
 
 abbrev pub run_texts : List Face → List (Option NodeStyle) → List RunStyle
 run_texts faces entries = map (entry_text faces) entries

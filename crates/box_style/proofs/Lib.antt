@@ -1,0 +1,3 @@
+mod Products
+mod LengthLemmas
+mod ShortLemmas
