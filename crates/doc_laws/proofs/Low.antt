@@ -27,7 +27,7 @@ AreLow ns = AllByRecursion (λ n. n ≤ 2 ^ 24) ns
 -- columns of a container that is no wider than 2^24
 pub record AreLowColumns (c : Columns) : Type 0 where
   pub some : 0 < c.n
-  pub count : c.n ≤ 2 ^ 32
+  pub count : c.n < 2 ^ 32
   pub w : c.w ≤ 2 ^ 25
   pub step : c.step ≤ 2 ^ 25
 
@@ -84,7 +84,7 @@ quotient_low a b some =
     let lt = div_below a b (suc a) some (omega arith) in
     omega arith
 
-by_count_low : (u n gap : ℕ) → 0 < n → n ≤ 2 ^ 32 → u ≤ 2 ^ 24 → gap ≤ 2 ^ 24 → AreLowColumns (columns_by_count u n gap)
+by_count_low : (u n gap : ℕ) → 0 < n → n < 2 ^ 32 → u ≤ 2 ^ 24 → gap ≤ 2 ^ 24 → AreLowColumns (columns_by_count u n gap)
 by_count_low u n gap some few wide apart =
     let q = quotient_low (u + gap) n some in
     record { some = some; count = few; w = omega arith; step = omega arith }

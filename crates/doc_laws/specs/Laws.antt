@@ -40,7 +40,7 @@ pub record IsNear (p : Placed) : Type 0 where
   pub w : p.w < 2 ^ 60
   pub columns_w : p.columns.w < 2 ^ 60
   pub step : p.columns.step < 2 ^ 60
-  pub columns_n : p.columns.n ≤ 2 ^ 32
+  pub columns_n : p.columns.n < 2 ^ 32
 
 -- each box of such a document is near, whatever its heights and the limits of its flows
 abbrev pub BoxesAreNear : Type 0

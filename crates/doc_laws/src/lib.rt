@@ -12,7 +12,7 @@ pub fn documents_are_sound()
     ensures { laws.DocumentsAreSound }
 {}
 
-/// The places and widths of each box of such a document are below 2^60, and it has at most 2^32 columns, whatever the
+/// The places and widths of each box of such a document are below 2^60, and it has fewer than 2^32 columns, whatever the
 /// heights of its items and the limits of its flows.
 pub fn boxes_are_near()
     ensures { laws.BoxesAreNear }
