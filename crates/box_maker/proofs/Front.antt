@@ -1,5 +1,6 @@
 -- The inline content of nodes side by side, by what stands first.
-use Rattle.std.proofs.Common.{◌≡◌, ℕ, suc, ◌+◌, ◌<◌, ◌++◌, true, false, List, [], Some, refl, sym, ◌∙◌, subst, arith, append_assoc}
+use Rattle.std.proofs.Common.{◌≡◌, ℕ, suc, ◌+◌, ◌<◌, ◌++◌, true, false, List, [], Some, refl, sym, ◌∙◌, subst, arith}
+use Rattle.std.proofs.Common.{append_assoc}
 use Rattle.std.specs.Prelude.{slice_get}
 use Rattle.std.proofs.lemmas.Bool.{false≢true}
 use Rattle.std.proofs.lemmas.Option.{same_Some}
@@ -43,17 +44,21 @@ module _ (nodes : List DomNode) (ends : List ℕ) (styles : List BoxStyle) where
       let b : is_block (style_of styles k) ≡ true = rw e at (block (omega arith)) in
       rw b
 
-  pub front-words : (parent k last end : ℕ) (f : Forest) (text : List ℕ) (before : List Piece) → IsWordsFirst nodes ends (Some parent) k last end f text →
+  pub front-words : (parent k last end : ℕ) (f : Forest) (text : List ℕ) (before : List Piece) →
+      IsWordsFirst nodes ends (Some parent) k last end f text →
       (rest : Forest) × Stands nodes ends (Some parent) end last rest
-      × ((before ++ text_pieces parent text) ++ front styles parent end (with_characters rest) ≡ before ++ front styles parent k (with_characters f))
+      × ((before ++ text_pieces parent text) ++ front styles parent end (with_characters rest) ≡ before
+      ++ front styles parent k (with_characters f))
   front-words parent k last end f text before w =
       (w.next, w.behind, rw (w.is, w.end_is, append_assoc))
 
-  pub front-element : (parent k last end : ℕ) (f : Forest) (at : ℕ) (name : List ℕ) (attributes : List Attribute) (before : List Piece) →
+  pub front-element : (parent k last end : ℕ) (f : Forest) (at : ℕ) (name : List ℕ) (attributes : List Attribute) (before : List
+      Piece) →
       Stands nodes ends (Some parent) k last f →
       (w : IsElementFirst nodes ends (Some parent) k last end f at name attributes) → starts_block nodes styles k ≡ false →
       (rest : Forest) × Stands nodes ends (Some parent) end last rest
-      × ((before ++ inline_pieces (style_of styles k) k name attributes (front styles k (suc k) (with_characters w.kids))) ++ front styles parent end (with_characters rest)
+      × ((before ++ inline_pieces (style_of styles k) k name attributes (front styles k (suc k) (with_characters w.kids)))
+      ++ front styles parent end (with_characters rest)
       ≡ before ++ front styles parent k (with_characters f))
   front-element parent k last end f at name attributes before h w free =
       let first = subst (Stands nodes ends (Some parent) k last) w.is h in
@@ -67,7 +72,8 @@ module _ (nodes : List DomNode) (ends : List ℕ) (styles : List BoxStyle) where
       × (has_blocks styles k (with_characters f) ≡ has_blocks styles end (with_characters rest))
 
   -- what isn't block-level is passed over
-  pub skip : (parent k last end : ℕ) (f : Forest) → Stands nodes ends (Some parent) k last f → k < last → slice_get ends k ≡ Some end →
+  pub skip : (parent k last end : ℕ) (f : Forest) → Stands nodes ends (Some parent) k last f → k < last →
+      slice_get ends k ≡ Some end →
       starts_block nodes styles k ≡ false →
       IsSkipped parent k last end f
   skip parent k last end Nil h lt e free = absurd (omega (arith, h))

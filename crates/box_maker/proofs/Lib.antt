@@ -3,6 +3,5 @@ mod Front
 mod BoxLists
 mod Blocks
 mod Sweep
-mod Sizes
 mod Whole
 mod Walks

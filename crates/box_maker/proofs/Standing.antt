@@ -41,7 +41,8 @@ module _ (nodes : List DomNode) (ends : List ℕ) where
       let r = stands-count parent (suc k + node_count kids) last next h.3 in absurd (omega arith)
 
   -- an element that stands first, with what is in it and after it
-  pub record IsElementFirst (parent : Option ℕ) (k last end : ℕ) (f : Forest) (at : ℕ) (name : List ℕ) (attributes : List Attribute) : Type 0 where
+  pub record IsElementFirst (parent : Option ℕ) (k last end : ℕ)
+      (f : Forest) (at : ℕ) (name : List ℕ) (attributes : List Attribute) : Type 0 where
     pub kids : Forest
     pub next : Forest
     pub is : f ≡ Element at name attributes kids next
@@ -49,7 +50,8 @@ module _ (nodes : List DomNode) (ends : List ℕ) where
     pub inside : Stands nodes ends (Some k) (suc k) end kids
     pub behind : Stands nodes ends parent end last next
 
-  pub element-first : (parent : Option ℕ) (k last end : ℕ) (f : Forest) (x : DomNode) (name : List ℕ) (attributes : List Attribute) →
+  pub element-first : (parent : Option ℕ) (k last end : ℕ) (f : Forest) (x : DomNode) (name : List ℕ) (attributes : List
+      Attribute) →
       Stands nodes ends parent k last f → k < last → slice_get nodes k ≡ Some x → x.kind ≡ kinds.Element name attributes →
       slice_get ends k ≡ Some end → IsElementFirst parent k last end f x.offset name attributes
   element-first parent k last end Nil x name attributes h lt is kind e = absurd (omega (arith, h))
@@ -105,7 +107,8 @@ module _ (nodes : List DomNode) (ends : List ℕ) where
       cc
 
   -- something stands at each number that isn't over
-  pub none-over : (parent : Option ℕ) (k last : ℕ) (f : Forest) → Stands nodes ends parent k last f → k < last → slice_get nodes k ≡ None → ⊥
+  pub none-over : (parent : Option ℕ) (k last : ℕ) (f : Forest) → Stands nodes ends parent k last f → k < last →
+      slice_get nodes k ≡ None → ⊥
   none-over parent k last Nil h lt is = omega (arith, h)
   none-over parent k last (Words at t next) h lt is = none-some (words_node parent at t) (sym is ∙ h.0)
   none-over parent k last (Element at m attrs kids next) h lt is = none-some (element_node parent at m attrs) (sym is ∙ h.0)

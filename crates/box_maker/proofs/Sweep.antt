@@ -1,5 +1,6 @@
 -- The numbers after nodes, gathered from the last node to the first.
-use Rattle.std.proofs.Common.{◌≡◌, ℕ, suc, ◌+◌, ◌<◌, ◌≤◌, ◌≢◌, ◌++◌, max, List, [], ◌∷◌, length, set, get_or, Option, Some, None, refl, sym, ap, ◌∙◌, subst, arith}
+use Rattle.std.proofs.Common.{◌≡◌, ℕ, suc, ◌+◌, ◌<◌, ◌≤◌, ◌≢◌, ◌++◌, max, List, [], ◌∷◌, length, set, get_or, Option, Some}
+use Rattle.std.proofs.Common.{None, refl, sym, ap, ◌∙◌, subst, arith}
 use Rattle.std.proofs.Common.{length-append, get_or-set_other, get_or-set_same, length-set, ◌⊎◌, inl, inr}
 use Rattle.std.specs.Prelude.{slice_index}
 use Rattle.std.proofs.lemmas.Option.{slice_get-get_or, none-some, same_Some}
@@ -26,7 +27,8 @@ length-nodes_from parent k (Element at name attributes kids next) =
     let b = length-nodes_from parent (suc k + length inside) next in
     omega (arith, length-append inside (nodes_from parent (suc k + length inside) next), a, b)
 
-swept-append : (k : ℕ) (xs ys : List DomNode) (ends : List ℕ) → swept k (xs ++ ys) ends ≡ swept k xs (swept (k + length xs) ys ends)
+swept-append : (k : ℕ) (xs ys : List DomNode) (ends : List ℕ) →
+    swept k (xs ++ ys) ends ≡ swept k xs (swept (k + length xs) ys ends)
 swept-append k [] ys ends = let z : k + 0 ≡ k = omega arith in rw z
 swept-append k (x ∷ xs) ys ends =
     let e : k + suc (length xs) ≡ suc k + length xs = omega arith in
@@ -42,7 +44,8 @@ EndsBy g k (Words o text next) = (g k ≡ suc k) × EndsBy g (suc k) next
 EndsBy g k (Element o name attributes kids next) =
     (g k ≡ suc k + node_count kids) × EndsBy g (suc k) kids × EndsBy g (suc k + node_count kids) next
 
-EndsBy-same : (g h : ℕ → ℕ) (k : ℕ) (f : Forest) → EndsBy g k f → ((j : ℕ) → k ≤ j → j < k + node_count f → h j ≡ g j) → EndsBy h k f
+EndsBy-same : (g h : ℕ → ℕ) (k : ℕ) (f : Forest) → EndsBy g k f → ((j : ℕ) → k ≤ j → j < k + node_count f → h j ≡ g j) →
+    EndsBy h k f
 EndsBy-same g h k Nil e same = tt
 EndsBy-same g h k (Words o text next) e same =
     (same k (omega arith) (omega arith) ∙ e.0, EndsBy-same g h (suc k) next e.1 (λ j le lt. same j (omega arith) (omega arith)))
@@ -70,7 +73,8 @@ length-raised : (parent : Option ℕ) (least : ℕ) (ends : List ℕ) → length
 length-raised None least ends = refl
 length-raised (Some p) least ends = length-set ends p (max (slice_index ends p) least)
 
-raised-other : (parent : Option ℕ) (least : ℕ) (ends : List ℕ) (j : ℕ) → (parent ≡ Some j → ⊥) → at (raised parent least ends) j ≡ at ends j
+raised-other : (parent : Option ℕ) (least : ℕ) (ends : List ℕ) (j : ℕ) → (parent ≡ Some j → ⊥) →
+    at (raised parent least ends) j ≡ at ends j
 raised-other None least ends j other = refl
 raised-other (Some p) least ends j other = let ne : j ≢ p = λ e. other (ap Some (sym e)) in rw get_or-set_other
 
@@ -96,7 +100,8 @@ swept-nil parent k s = record {
   top = λ q is. let z : k + 0 ≡ k = omega arith in rw z;
 }
 
-swept-element : (parent : Option ℕ) (k : ℕ) (o : ℕ) (name : List ℕ) (attributes : List Attribute) (kids next : Forest) (s s1 s2 : List ℕ) →
+swept-element : (parent : Option ℕ) (k : ℕ) (o : ℕ) (name : List ℕ) (attributes : List Attribute) (kids next : Forest) (s s1 s2
+    : List ℕ) →
     IsBefore parent k → suc k + node_count kids + node_count next ≤ length s →
     ((j : ℕ) → k ≤ j → j < suc k + node_count kids + node_count next → at s j ≡ 0) →
     IsSwept parent (suc k + node_count kids) next s s1 → IsSwept (Some k) (suc k) kids s1 s2 →
@@ -121,7 +126,8 @@ swept-element parent k o name attributes kids next s s1 s2 before le zeros first
         self ∙ end_is,
         EndsBy-same (at s2) (at r) (suc k) kids inner.ends (λ j le2 lt. from_s2 j (λ e. omega arith) (past j (omega arith))),
         EndsBy-same (at s1) (at r) (suc k + node_count kids) next first.ends
-            (λ j le2 lt. from_s2 j (λ e. omega arith) (past j (omega arith)) ∙ inner.others j (inr le2) (λ e. let e1 = same_Some k j e in omega arith)),
+            (λ j le2 lt. from_s2 j (λ e. omega arith) (past j (omega arith))
+            ∙ inner.others j (inr le2) (λ e. let e1 = same_Some k j e in omega arith)),
       );
       others = λ j far no. elim far [
         | inl lt ↦
@@ -165,7 +171,8 @@ pub swept-forest : (parent : Option ℕ) (k : ℕ) (f : Forest) (s : List ℕ) �
 swept-forest parent k Nil s before le zeros = swept-nil parent k s
 swept-forest parent k (Words o text next) s before le zeros =
     let s1 = swept (suc k) (nodes_from parent (suc k) next) s in
-    let first = swept-forest parent (suc k) next s (λ q e. let b = before q e in omega arith) (omega arith) (λ j a b. zeros j (omega arith) (omega arith)) in
+    let first = swept-forest parent (suc k) next s (λ q e. let b =
+    before q e in omega arith) (omega arith) (λ j a b. zeros j (omega arith) (omega arith)) in
     swept-words parent k o text next s s1 before (omega arith) (λ j a b. zeros j a (omega arith)) first
 swept-forest parent k (Element o name attributes kids next) s before le zeros =
     let inside = nodes_from (Some k) (suc k) kids in
@@ -175,17 +182,21 @@ swept-forest parent k (Element o name attributes kids next) s before le zeros =
     let s1 = swept start behind s in
     let s2 = swept (suc k) inside s1 in
     let start_is : start ≡ suc k + node_count kids = ap (λ n. suc k + n) size in
-    let first0 = swept-forest parent start next s (λ q e. let b = before q e in omega arith) (omega arith) (λ j a b. zeros j (omega arith) (omega arith)) in
+    let first0 = swept-forest parent start next s (λ q e. let b =
+    before q e in omega arith) (omega arith) (λ j a b. zeros j (omega arith) (omega arith)) in
     let first : IsSwept parent (suc k + node_count kids) next s s1 = subst (λ n. IsSwept parent n next s s1) start_is first0 in
     let no_k : (j : ℕ) → k < j → parent ≡ Some j → ⊥ = λ j lt e. let b = before j e in omega arith in
     let inner = swept-forest (Some k) (suc k) kids s1 (λ q e. let e1 = same_Some k q e in omega arith) (omega (arith, first.same))
     (λ j a b. first.others j (inl (omega arith)) (no_k j (omega arith)) ∙ zeros j (omega arith) (omega arith)) in
-    let whole = swept-element parent k o name attributes kids next s s1 s2 before (omega arith) (λ j a b. zeros j a (omega arith)) first inner in
-    subst (λ later. let end = max (at later k) (suc k) in IsSwept parent k (Element o name attributes kids next) s (raised parent end (set later k end)))
+    let whole = swept-element parent k o name attributes kids next s s1 s2 before (omega arith) (λ j a b. zeros j a (omega
+    arith)) first inner in
+    subst (λ later. let end = max (at later k) (suc k) in IsSwept parent k (Element o name attributes kids next) s (raised
+    parent end (set later k end)))
     (sym (swept-append (suc k) inside behind s)) whole
 
 -- of a whole document's nodes, from zeros on
-pub HasEnds-swept : (nodes : List DomNode) (tree : Forest) (s : List ℕ) → nodes ≡ nodes_from None 0 tree → length s ≡ length nodes →
+pub HasEnds-swept : (nodes : List DomNode) (tree : Forest) (s : List ℕ) → nodes ≡ nodes_from None 0 tree →
+    length s ≡ length nodes →
     ((j : ℕ) → at s j ≡ 0) → HasEnds (swept 0 nodes s) 0 tree
 HasEnds-swept nodes tree s is size zeros =
     let count : length nodes ≡ node_count tree = ap length is ∙ length-nodes_from None 0 tree in

@@ -1,5 +1,6 @@
 -- What is left of nodes side by side after the first: constructs, shown elements and blocks.
-use Rattle.std.proofs.Common.{◌≡◌, ℕ, suc, ◌+◌, ◌<◌, ◌++◌, Bool, true, false, nat_lt, List, Option, Some, None, Result, Ok, Err, OnOk, refl, sym, ◌∙◌, subst, arith}
+use Rattle.std.proofs.Common.{◌≡◌, ℕ, suc, ◌+◌, ◌<◌, ◌++◌, Bool, true, false, nat_lt, List, Option, Some, None, Result, Ok, Err}
+use Rattle.std.proofs.Common.{OnOk, refl, sym, ◌∙◌, subst, arith}
 use Rattle.std.specs.Prelude.{slice_get}
 use Rattle.std.proofs.lemmas.Bool.{false≢true}
 use Rattle.std.proofs.lemmas.Bool.Decides.{nat_tests}
@@ -10,7 +11,8 @@ use Rattle.html_grammar.specs.Tree.{Forest, Nil, Element, Words}
 use Rattle.html_grammar.specs.NodeOrder.{is_element_at}
 use Rattle.box_data.specs.declared.style.BoxStyle.{BoxStyle}
 use Rattle.box_data.specs.Styles.{style_of}
-use Rattle.box_data.specs.BoxTree.{node_count, with_characters, is_block, is_shown, has_blocks, or_else, found_at, construct_of, construct_from, first_construct, shown_from}
+use Rattle.box_data.specs.BoxTree.{node_count, with_characters, is_block, is_shown, has_blocks, or_else, found_at, construct_of}
+use Rattle.box_data.specs.BoxTree.{construct_from, first_construct, shown_from}
 use Rattle.box_maker.specs.Standing.{Stands, starts_block}
 use Rattle.box_maker.specs.Parts.{construct_first, shown_first}
 use Rattle.box_maker.proofs.Standing.{stands-count, IsElementFirst}
@@ -25,7 +27,8 @@ module _ (nodes : List DomNode) (ends : List ℕ) (styles : List BoxStyle) where
       (rest : Forest) × Stands nodes ends parent end last rest
       × (construct_from styles around k f ≡ or_else (construct_first styles around k f) (construct_from styles around end rest))
 
-  pub construct-left : (around : Bool) (parent : Option ℕ) (k last end : ℕ) (f : Forest) → Stands nodes ends parent k last f → k < last →
+  pub construct-left : (around : Bool) (parent : Option ℕ) (k last end : ℕ) (f : Forest) → Stands nodes ends parent k last f →
+      k < last →
       slice_get ends k ≡ Some end → ConstructLeft around parent k last end f
   construct-left around parent k last end Nil h lt e = absurd (omega (arith, h))
   construct-left around parent k last end (Words at text next) h lt e =
@@ -65,13 +68,6 @@ module _ (nodes : List DomNode) (ends : List ℕ) (styles : List BoxStyle) where
       let lt : k < last = omega arith in
       let less : nat_lt k last ≡ true = grind (arith, nat_tests) in
       rw (b, less)
-
-  pub construct-of-first : (around : Bool) (parent : Option ℕ) (k last end : ℕ) (f : Forest) (at : ℕ) (name : List ℕ) (attributes : List Attribute) →
-      (w : IsElementFirst nodes ends parent k last end f at name attributes) → is_shown (style_of styles k) ≡ true →
-      construct_first styles around k f
-      ≡ or_else (found_at at (construct_of (style_of styles k) (is_block (style_of styles k)) around name attributes))
-      (construct_from styles (is_block (style_of styles k)) (suc k) w.kids)
-  construct-of-first around parent k last end f at name attributes w shown = rw (w.is, shown)
 
   pub first-of-element : (last end : ℕ) (f : Forest) (at : ℕ) (name : List ℕ) (attributes : List Attribute) →
       (w : IsElementFirst nodes ends None 0 last end f at name attributes) → is_shown (style_of styles 0) ≡ true →

@@ -1,5 +1,6 @@
 -- The tree of a document stands in its list of nodes.
-use Rattle.std.proofs.Common.{◌≡◌, ℕ, zero, suc, ◌+◌, ◌++◌, List, [], ◌∷◌, length, drop, Option, Some, None, refl, sym, ap, ◌∙◌, subst, arith, append_assoc, append-nil}
+use Rattle.std.proofs.Common.{◌≡◌, ℕ, zero, suc, ◌+◌, ◌++◌, List, [], ◌∷◌, length, drop, Option, Some, None, refl, sym, ap, ◌∙◌}
+use Rattle.std.proofs.Common.{subst, arith, append_assoc, append-nil}
 use Rattle.std.specs.Prelude.{slice_get}
 use Rattle.std.specs.List.{AllByRecursion}
 use Rattle.std.proofs.lemmas.Option.{same_Some, none-some}
@@ -25,7 +26,8 @@ holds-at P (y ∷ ys) zero x all is = subst P (same_Some y x is) all.0
 holds-at P (y ∷ ys) (suc k) x all is = holds-at P ys k x all.1 is
 
 module _ (nodes : List DomNode) (ends : List ℕ) (utf8 : AllByRecursion NodeIsUtf8 nodes) where
-  placed : (parent : Option ℕ) (k : ℕ) (f : Forest) (rest : List DomNode) → HasEnds ends k f → drop k nodes ≡ nodes_from parent k f ++ rest →
+  placed : (parent : Option ℕ) (k : ℕ) (f : Forest) (rest : List DomNode) → HasEnds ends k f →
+      drop k nodes ≡ nodes_from parent k f ++ rest →
       Stands nodes ends parent k (k + node_count f) f
   placed parent k Nil rest has is = omega arith
   placed parent k (Words at text next) rest has is =
@@ -46,10 +48,12 @@ module _ (nodes : List DomNode) (ends : List ℕ) (utf8 : AllByRecursion NodeIsU
       let whole : drop (suc k) nodes ≡ inside ++ (behind ++ rest) = h.1 ∙ append_assoc inside behind rest in
       let size : length inside ≡ node_count kids = length-nodes_from (Some k) (suc k) kids in
       let later : drop start nodes ≡ behind ++ rest =
-      sym (drop-drop (length inside) (suc k) nodes) ∙ ap (λ xs. drop (length inside) xs) whole ∙ drop_at inside (behind ++ rest) (length inside) refl in
+      sym (drop-drop (length inside) (suc k) nodes) ∙ ap (λ xs. drop (length inside) xs) whole
+      ∙ drop_at inside (behind ++ rest) (length inside) refl in
       let start_is : start ≡ suc k + node_count kids = ap (λ n. suc k + n) size in
       let ends_next : HasEnds ends start next = subst (λ n. HasEnds ends n next) (sym start_is) has.2 in
-      let standing : Stands nodes ends parent start (start + node_count next) next = placed parent start next rest ends_next later in
+      let standing : Stands nodes ends parent start (start + node_count next) next =
+      placed parent start next rest ends_next later in
       let e : suc k + node_count kids + node_count next ≡ k + suc (node_count kids + node_count next) = omega arith in (
         h.0,
         has.0,
@@ -58,7 +62,8 @@ module _ (nodes : List DomNode) (ends : List ℕ) (utf8 : AllByRecursion NodeIsU
             (subst (λ n. Stands nodes ends parent n (n + node_count next) next) start_is standing),
       )
 
-  pub stands-whole : (tree : Forest) → nodes ≡ nodes_from None 0 tree → HasEnds ends 0 tree → Stands nodes ends None 0 (length nodes) tree
+  pub stands-whole : (tree : Forest) → nodes ≡ nodes_from None 0 tree → HasEnds ends 0 tree →
+      Stands nodes ends None 0 (length nodes) tree
   stands-whole tree is has =
       let count : length nodes ≡ node_count tree = ap length is ∙ length-nodes_from None 0 tree in
       let e : 0 + node_count tree ≡ length nodes = omega arith in

@@ -74,7 +74,8 @@ fn construct_of_element(
     requires { k < end }
     ensures { (kids : Forest) → Stands source.now.nodes.now source.now.ends.now (Some k) (suc k) end kids →
         result ≡ boxes.or_else
-        (boxes.found_at offset (boxes.construct_of (style_of source.now.styles.now k) is_block around_is_block name.now attributes.now))
+        (boxes.found_at offset
+        (boxes.construct_of (style_of source.now.styles.now k) is_block around_is_block name.now attributes.now))
         (boxes.construct_from source.now.styles.now is_block (suc k) kids) }
 {
     match construct_of(

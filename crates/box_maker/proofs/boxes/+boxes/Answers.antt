@@ -15,9 +15,12 @@ push_block-returns-in-Element t c = λ parent last forest s lt e starts.
     let attributes = c.as_slice-in-Element.result.now in
     let node = c.in-Some.node.now in
     let is : slice_get d.nodes.now c.args.k ≡ Some node = sym c.in-Some.ensures in
-    let kind : node.kind ≡ kinds.Element name attributes = rw (c.as_slice.ensures, c.as_slice-in-Element.ensures) c.in-Element.is in
-    let w = element-first d.nodes.now d.ends.now (Some parent) c.args.k last c.args.end forest node name attributes s lt is kind e in
-    on-ok c.push_element.result _ _ (λ made. block-first d.nodes.now d.ends.now d.styles.now parent c.args.k last c.args.end forest node.offset name attributes
+    let kind : node.kind ≡ kinds.Element name attributes = rw (c.as_slice.ensures, c.as_slice-in-Element.ensures)
+    c.in-Element.is in
+    let w = element-first d.nodes.now d.ends.now (Some parent) c.args.k last c.args.end forest node name attributes s lt is kind
+    e in
+    on-ok c.push_element.result _ _ (λ made. block-first d.nodes.now d.ends.now d.styles.now parent c.args.k last c.args.end
+    forest node.offset name attributes
     c.args.number c.args.out.now c.push_element.new.out s w starts made) (c.push_element.ensures w.kids w.inside)
 
 pub push_boxes-loop-at-preserved : goal.push_boxes-loop-at-preserved
@@ -29,7 +32,8 @@ push_boxes-loop-at-preserved t c = record {
       let d = c.args.source.now in
       let w = c.loop-at.invariant.made forest s in
       let lt : c.loop-at.at < c.args.end = c.loop-at-test.true in
-      let e = ends-here d.nodes.now d.ends.now (Some c.args.parent) c.loop-at.at c.args.end w.0 c.after-next.result w.1 lt c.after-next.ensures.exact in
+      let e = ends-here d.nodes.now d.ends.now (Some c.args.parent) c.loop-at.at c.args.end w.0 c.after-next.result w.1 lt
+      c.after-next.ensures.exact in
       let p = c.in_ok-push_block.ensures c.args.parent c.args.end w.0 w.1 lt e (c.loop-at.invariant.block lt) in
       let q = c.in_ok-at-2.ensures.boxes p.0 p.1 in
       (q.0, q.1, q.2 ∙ p.2 ∙ w.2);
@@ -41,4 +45,5 @@ push_boxes-returns t c = λ forest s.
     let w = c.loop-at.invariant.made forest s in
     let over = stands-over d.nodes.now d.ends.now (Some c.args.parent) c.loop-at.at c.args.end w.0 w.1 c.loop-at-test.false in
     sym (append-nil c.loop-at.out)
-    ∙ ap (λ f. followed_by c.args.number c.loop-at.out (boxes_behind d.styles.now c.args.parent c.loop-at.at (with_characters f))) (sym over) ∙ w.2
+    ∙ ap (λ f. followed_by c.args.number c.loop-at.out (boxes_behind d.styles.now c.args.parent c.loop-at.at (with_characters
+    f))) (sym over) ∙ w.2

@@ -26,10 +26,13 @@ returns-in-Element c = λ forest s.
     let lt : 0 < c.args.count = omega arith in
     let e = ends-here d.nodes.now d.ends.now None 0 c.args.count forest c.after-end.result s lt c.after-end.ensures.exact in
     let is : slice_get d.nodes.now 0 ≡ Some node = sym c.in-Some.ensures in
-    let kind : node.kind ≡ kinds.Element name attributes = rw (c.as_slice.ensures, c.as_slice-in-Element.ensures) c.in-Element.is in
+    let kind : node.kind ≡ kinds.Element name attributes = rw (c.as_slice.ensures, c.as_slice-in-Element.ensures)
+    c.in-Element.is in
     let shown : is_shown (style_of d.styles.now 0) ≡ true = sym c.if-not-is_shown_at.ensures in
-    let w = element-first d.nodes.now d.ends.now None 0 c.args.count c.after-end.result forest node name attributes s lt is kind e in
-    let whole = root-first d.nodes.now d.ends.now d.styles.now c.args.count c.after-end.result forest node.offset name attributes w shown in
+    let w = element-first d.nodes.now d.ends.now None 0 c.args.count c.after-end.result forest node name attributes s lt is kind
+    e in
+    let whole = root-first d.nodes.now d.ends.now d.styles.now c.args.count c.after-end.result forest node.offset name
+    attributes w shown in
     on-ok c.push_element.result _ _ (λ made. made ∙ ap (λ (b : Boxes Node). out ++ box_nodes None (length out) b) (sym whole))
     (c.push_element.ensures w.kids w.inside)
 

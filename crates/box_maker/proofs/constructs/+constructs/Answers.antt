@@ -9,9 +9,11 @@ construct_in-returns-in-Some t c = λ parent forest s.
     let d = c.args.source.now in
     let w = c.loop-at.invariant.left parent forest s in
     let lt : c.loop-at.at < c.args.end = c.loop-at-test.true in
-    let e = ends-here d.nodes.now d.ends.now parent c.loop-at.at c.args.end w.0 c.after-next.result w.1 lt c.after-next.ensures.exact in
+    let e = ends-here d.nodes.now d.ends.now parent c.loop-at.at c.args.end w.0 c.after-next.result w.1 lt
+    c.after-next.ensures.exact in
     let p = c.in-Some.ensures parent c.args.end w.0 w.1 lt e in
-    let v = construct-left d.nodes.now d.ends.now d.styles.now c.args.around_is_block parent c.loop-at.at c.args.end c.after-next.result w.0 w.1 lt e in
+    let v = construct-left d.nodes.now d.ends.now d.styles.now c.args.around_is_block parent c.loop-at.at c.args.end
+    c.after-next.result w.0 w.1 lt e in
     sym (w.2 ∙ v.2 ∙ ap (λ o. or_else o (construct_from d.styles.now c.args.around_is_block c.after-next.result v.0)) (sym p))
 
 pub construct_in-loop-at-preserved : goal.construct_in-loop-at-preserved
@@ -21,10 +23,16 @@ construct_in-loop-at-preserved t c = record {
       let d = c.args.source.now in
       let w = c.loop-at.invariant.left parent forest s in
       let lt : c.loop-at.at < c.args.end = c.loop-at-test.true in
-      let e = ends-here d.nodes.now d.ends.now parent c.loop-at.at c.args.end w.0 c.after-next.result w.1 lt c.after-next.ensures.exact in
+      let e = ends-here d.nodes.now d.ends.now parent c.loop-at.at c.args.end w.0 c.after-next.result w.1 lt
+      c.after-next.ensures.exact in
       let p = c.in-None.ensures parent c.args.end w.0 w.1 lt e in
-      let v = construct-left d.nodes.now d.ends.now d.styles.now c.args.around_is_block parent c.loop-at.at c.args.end c.after-next.result w.0 w.1 lt e in
-      (v.0, v.1, w.2 ∙ v.2 ∙ ap (λ o. or_else o (construct_from d.styles.now c.args.around_is_block c.after-next.result v.0)) (sym p));
+      let v = construct-left d.nodes.now d.ends.now d.styles.now c.args.around_is_block parent c.loop-at.at c.args.end
+      c.after-next.result w.0 w.1 lt e in (
+        v.0,
+        v.1,
+        w.2 ∙ v.2 ∙ ap (λ o. or_else o (construct_from d.styles.now c.args.around_is_block c.after-next.result v.0))
+            (sym p),
+      );
 }
 
 pub construct_in-returns : goal.construct_in-returns

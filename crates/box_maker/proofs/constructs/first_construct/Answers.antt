@@ -26,5 +26,6 @@ returns-else-not-is_shown_at c = λ forest s.
     let w = element-first d.nodes.now d.ends.now None 0 c.args.count c.after-end.result forest c.in_ok-node.node.now
     c.as_slice.result.now c.as_slice-in-Element.result.now s lt is kind e in
     c.construct_of_element.ensures w.kids w.inside
-    ∙ sym (first-of-element d.nodes.now d.ends.now d.styles.now c.args.count c.after-end.result forest c.in_ok-node.node.now.offset
+    ∙ sym (first-of-element d.nodes.now d.ends.now d.styles.now c.args.count c.after-end.result forest
+    c.in_ok-node.node.now.offset
     c.as_slice.result.now c.as_slice-in-Element.result.now w shown)

@@ -15,7 +15,8 @@ push_front-loop-at-preserved t c = record {
       let d = c.args.source.now in
       let w = c.loop-at.invariant.made forest s in
       let lt : c.loop-at.at < c.args.end = c.loop-at-test.true in
-      let e = ends-here d.nodes.now d.ends.now (Some c.args.parent) c.loop-at.at c.args.end w.0 c.after-next.result w.1 lt c.after-next.ensures.exact in
+      let e = ends-here d.nodes.now d.ends.now (Some c.args.parent) c.loop-at.at c.args.end w.0 c.after-next.result w.1 lt
+      c.after-next.ensures.exact in
       let free : starts_block d.nodes.now d.styles.now c.loop-at.at ≡ false = sym c.if-not-starts_block.ensures in
       let p = c.in_ok-push_node.ensures c.args.end w.0 w.1 lt e free in
       (p.0, p.1, p.2 ∙ w.2);
@@ -33,7 +34,8 @@ pub push_front-returns-after-loop-at : goal.push_front-returns-after-loop-at
 push_front-returns-after-loop-at t c = λ forest s.
     let d = c.args.source.now in
     let w = c.loop-at.invariant.made forest s in
-    let over = front-over d.nodes.now d.ends.now d.styles.now c.args.parent c.loop-at.at c.args.end w.0 w.1 (λ lt. absurd (omega arith)) in
+    let over = front-over d.nodes.now d.ends.now d.styles.now c.args.parent c.loop-at.at c.args.end w.0 w.1 (λ lt. absurd (omega
+    arith)) in
     sym (append-nil c.loop-at.pieces.items) ∙ ap (λ xs. c.loop-at.pieces.items ++ xs) (sym over) ∙ w.2
 
 pub push_node-returns-in-Element : goal.push_node-returns-in-Element
@@ -44,9 +46,12 @@ push_node-returns-in-Element t c = λ last forest s lt e free.
     let node = c.in-Some.node.now in
     let old = c.args.pieces.now.items in
     let is : slice_get d.nodes.now c.args.k ≡ Some node = sym c.in-Some.ensures in
-    let kind : node.kind ≡ kinds.Element name attributes = rw (c.as_slice.ensures, c.as_slice-in-Element.ensures) c.in-Element.is in
-    let w = element-first d.nodes.now d.ends.now (Some c.args.parent) c.args.k last c.args.end forest node name attributes s lt is kind e in
-    let v = front-element d.nodes.now d.ends.now d.styles.now c.args.parent c.args.k last c.args.end forest node.offset name attributes old s w free in
+    let kind : node.kind ≡ kinds.Element name attributes = rw (c.as_slice.ensures, c.as_slice-in-Element.ensures)
+    c.in-Element.is in
+    let w = element-first d.nodes.now d.ends.now (Some c.args.parent) c.args.k last c.args.end forest node name attributes s lt
+    is kind e in
+    let v = front-element d.nodes.now d.ends.now d.styles.now c.args.parent c.args.k last c.args.end forest node.offset name
+    attributes old s w free in
     on-ok c.push_element.result _ _ (λ made. (
       v.0,
       v.1,

@@ -12,7 +12,8 @@ push_shown-loop-at-preserved t c = record {
       let d = c.args.source.now in
       let w = c.loop-at.invariant.made parent forest s in
       let lt : c.loop-at.at < c.args.end = c.loop-at-test.true in
-      let e = ends-here d.nodes.now d.ends.now parent c.loop-at.at c.args.end w.0 c.after-next.result w.1 lt c.after-next.ensures.exact in
+      let e = ends-here d.nodes.now d.ends.now parent c.loop-at.at c.args.end w.0 c.after-next.result w.1 lt
+      c.after-next.ensures.exact in
       let p = c.in_ok-push_node.ensures parent c.args.end w.0 w.1 lt e in
       let v = shown-left d.nodes.now d.ends.now d.styles.now parent c.loop-at.at c.args.end c.after-next.result w.0 w.1 lt e in
       let after = shown_from d.styles.now c.after-next.result v.0 in
