@@ -1,5 +1,5 @@
 -- Fills that are kept are found by their keys, and stay kept while the book and the kept nodes grow.
-use Rattle.std.proofs.Common.{◌≡◌, Bool, true, false, cond, List, [], ◌∷◌, Option, Some, None, Bor, refl, sym, subst, ℕ}
+use Rattle.std.proofs.Common.{◌≡◌, Bool, true, false, cond, List, [], ◌∷◌, Option, Some, None, Bor, refl, sym, subst, ap, ℕ}
 use Rattle.std.specs.Prelude.{◌&&◌, IfSome, ◌==◌, if◌then◌else◌, nat_eq}
 use Rattle.std.specs.Cmp.Lexicographic.{pointwise, bytes_decides}
 use Rattle.std.specs.Cmp.{unsigned_Decides}
@@ -37,6 +37,16 @@ key-is a k same =
     let height_is : k.height ≡ a.height = (unsigned_Decides k.height a.height).0 inner.1 in
     let from_is : k.from ≡ a.from = (bytes_decides k.from a.from).0 outer.1 in
     λ i. record { row = row_is i; height = height_is i; from = from_is i }
+
+-- a key of another row, place or height is another
+pub other-key : (a k : FillKey) → ¬ ((k.row ≡ a.row) × (k.from ≡ a.from) × (k.height ≡ a.height)) → same_key a k ≡ false
+other-key a k other = go (same_key a k) refl
+  where
+    go : (b : Bool) → same_key a k ≡ b → same_key a k ≡ false
+    go true same =
+        let e : k ≡ a = sym (key-is k a same) in
+        absurd (other (ap (λ (x : FillKey). x.row) e, ap (λ (x : FillKey). x.from) e, ap (λ (x : FillKey). x.height) e))
+    go false same = same
 
 module _ (d : FlowsData) (book : List SizeEntry) (p : Nodes) where
   abbrev KeptOf : FillKey → Filled → Type 0

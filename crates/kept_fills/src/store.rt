@@ -1,8 +1,9 @@
 //! Kept fills by their keys.
 
-ghost use Rattle.std.specs.Prelude.{◌≡◌, ◌<◌, IfSome, List, OnOk, Some, length, nat_le};
+ghost use Rattle.std.specs.Prelude.{◌≡◌, ℕ, ◌<◌, ◌≤◌, IfSome, List, OnOk, Some, length, nat_le};
 ghost use Rattle.std.specs.Option.{option_copied};
 ghost use Rattle.flow_data.specs.declared.data.FlowsData.{FlowsData};
+ghost use Rattle.flow_list.specs.Tokens.{Token as Place};
 ghost use Rattle.flow_list.specs.declared.book.SizeEntry.{SizeEntry};
 ghost use Rattle.frag_pool.specs.Nodes.{Nodes};
 ghost use Rattle.inner_rows.specs.Keeping.{IsKeptFill};
@@ -47,7 +48,7 @@ impl KeptFills {
         self.fills.get(&key)
     }
 
-    /// Keeps a fill, unless as many are kept as may be. When out of memory, none is added.
+    /// Keeps a fill, unless as many are kept as may be. All others stay. When out of memory, none is added.
     pub fn keep(
         &mut self,
         row: u32,
@@ -56,6 +57,9 @@ impl KeptFills {
         fill: Filled,
     ) -> Result<(), NoMemory>
         ensures added { OnOk result (length self.old.fills.entries < 1024 → kept_at self.new row from.now height ≡ Some fill) }
+        ensures others { (r : ℕ) (q : Place) (h : ℕ) → ¬ ((r ≡ row) × (q ≡ from.now) × (h ≡ height)) →
+            kept_at self.new r q h ≡ kept_at self.old r q h }
+        ensures full { 1024 ≤ length self.old.fills.entries → self.new ≡ self.old }
         ensures kept { (d : FlowsData) (b : List SizeEntry) (p : Nodes) → AreKept d b p self.old →
             IsKeptFill d b p row from.now height fill → AreKept d b p self.new }
     {
@@ -79,6 +83,8 @@ impl KeptFills {
 
     fn put(&mut self, key: FillKey, fill: Filled) -> Result<(), NoMemory>
         ensures added { OnOk result (kept_at self.new key.row key.from key.height ≡ Some fill) }
+        ensures others { (r : ℕ) (q : Place) (h : ℕ) → ¬ ((r ≡ key.row) × (q ≡ key.from) × (h ≡ key.height)) →
+            kept_at self.new r q h ≡ kept_at self.old r q h }
         ensures kept { (d : FlowsData) (b : List SizeEntry) (p : Nodes) → AreKept d b p self.old →
             IsKeptFill d b p key.row key.from key.height fill → AreKept d b p self.new }
     {
