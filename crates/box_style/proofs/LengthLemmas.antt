@@ -1,10 +1,12 @@
 -- The first length above a limit, in lists that stand one after the other.
-use Rattle.std.proofs.Common.{◌≡◌, ℕ, suc, zero, ◌+◌, ◌<◌, List, [], ◌∷◌, ◌++◌, Bool, true, false, cond, drop, length, get_or, refl, sym, ◌∙◌}
+use Rattle.std.proofs.Common.{◌≡◌, ℕ, suc, zero, ◌+◌, ◌<◌, List, [], ◌∷◌, ◌++◌, Bool, true, false, cond, drop, length, get_or}
+use Rattle.std.proofs.Common.{refl, sym, ◌∙◌}
 use Rattle.std.specs.Prelude.{Some, None, IfSome, nat_lt, flat_map, slice_get}
 use Rattle.std.proofs.lemmas.List.{at_drop_more}
 use Rattle.box_data.specs.Limits.{first_above}
 
-pub above_after_none : (limit : ℕ) (xs ys : List ℕ) → first_above limit xs ≡ None → first_above limit (xs ++ ys) ≡ first_above limit ys
+pub above_after_none : (limit : ℕ) (xs ys : List ℕ) → first_above limit xs ≡ None
+    → first_above limit (xs ++ ys) ≡ first_above limit ys
 above_after_none limit [] ys e = refl
 above_after_none limit (x ∷ xs) ys e = by (nat_lt limit x) e (above_after_none limit xs ys)
   where
@@ -14,7 +16,8 @@ above_after_none limit (x ∷ xs) ys e = by (nat_lt limit x) e (above_after_none
     by true e more = cc
     by false e more = more e
 
-pub above_before_some : (limit : ℕ) (xs ys : List ℕ) (u : ℕ) → first_above limit xs ≡ Some u → first_above limit (xs ++ ys) ≡ Some u
+pub above_before_some : (limit : ℕ) (xs ys : List ℕ) (u : ℕ) → first_above limit xs ≡ Some u
+    → first_above limit (xs ++ ys) ≡ Some u
 above_before_some limit [] ys u e = cc
 above_before_some limit (x ∷ xs) ys u e = by (nat_lt limit x) e (above_before_some limit xs ys u)
   where
