@@ -1,0 +1,3 @@
+mod SizeSteps
+mod SmallImages
+mod TreeLines

@@ -1,0 +1,6 @@
+mod Products
+mod LongLengths
+mod OneBox
+mod Trees
+mod Parented
+mod Steps
