@@ -66,7 +66,7 @@ fn all_places(
     width: Units,
 ) -> Result<List<Placed>, Refusal>
     requires wide { width < 2 ^ 60 }
-    requires few { length nodes.now ≤ 2 ^ 29 }
+    requires few { length nodes.now ≤ 2 ^ 30 }
     requires short { All (IsShortNode styles.now) nodes.now }
     ensures value { IfOk result (λ places. places ≡ passes.all_placed styles.now width nodes.now) }
     ensures lengths { IfOk result (λ places. long (all_used_lengths places) ≡ None) }
@@ -88,7 +88,7 @@ fn all_places(
 /// The boxes of a document that is `width` units wide, each with its used widths in its place and still without lines, in
 /// document order (CSS 2.1, sections 8, 10.3 and 10.4; CSS Multi-column 1, sections 3.4 and 6).
 ///
-/// The width is below 2^60 units, the boxes are at most 2^29, and no length of their styles is above 2^24 units. Refused: the
+/// The width is below 2^60 units, the boxes are at most 2^30, and no length of their styles is above 2^24 units. Refused: the
 /// first used length in document order that is above 2^24 units, or out of memory.
 pub fn places(
     alloc: Global,
@@ -97,7 +97,7 @@ pub fn places(
     width: Units,
 ) -> Result<List<Placed>, Refusal>
     requires wide { width < 2 ^ 60 }
-    requires few { length boxes.now.nodes ≤ 2 ^ 29 }
+    requires few { length boxes.now.nodes ≤ 2 ^ 30 }
     requires short { All (IsShortNode styles.now) boxes.now.nodes }
     ensures places { (tree : Boxes Node) → boxes.now.nodes ≡ box_nodes None 0 tree →
         IfOk result (λ places. (places ≡ in_order (widths.placed styles.now [] width tree))
