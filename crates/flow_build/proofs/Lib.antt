@@ -1,0 +1,4 @@
+mod Shapes
+mod Early
+mod Small
+mod Near
