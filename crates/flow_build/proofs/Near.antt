@@ -1,5 +1,6 @@
 -- What the limits of lengths give of the boxes in their places, and what the limits of flows give of their data.
-use Rattle.std.proofs.Common.{◌≡◌, ℕ, suc, ◌+◌, ◌<◌, ◌^◌, List, [], ◌∷◌, ◌++◌, length, flat_map, refl, sym, ap, subst, ◌∙◌, ◌⊎◌, inl, inr, Option, Some, None}
+use Rattle.std.proofs.Common.{◌≡◌, ℕ, suc, ◌+◌, ◌<◌, ◌^◌, List, [], ◌∷◌, ◌++◌, length, flat_map, refl, sym, ap, subst, ◌∙◌, ◌⊎◌}
+use Rattle.std.proofs.Common.{inl, inr, Option, Some, None}
 use Rattle.std.specs.List.{All}
 use Rattle.mc_base.specs.declared.refusal.Refusal.{Refusal}
 use Rattle.mc_base.specs.declared.refusal.LimitName.TheVariants.{Length}
@@ -13,7 +14,8 @@ use Rattle.flow_data.specs.Soundness.{IsSound}
 use Rattle.box_data.specs.declared.placed.Placed.{Placed}
 use Rattle.box_data.specs.declared.style.BoxStyle.{BoxStyle}
 use Rattle.box_data.specs.declared.tree.BoxTree.{BoxTree}
-use Rattle.box_data.specs.BoxTree.{Boxes, none, box, box_count, Node, in_order, box_nodes, boxes_of, with_characters, shown_from, or_else}
+use Rattle.box_data.specs.BoxTree.{Boxes, none, box, box_count, Node, in_order, box_nodes, boxes_of, with_characters}
+use Rattle.box_data.specs.BoxTree.{shown_from, or_else}
 use Rattle.box_data.specs.Bounds.{IsShortNode}
 use Rattle.box_data.specs.Widths.{Place, placed, placed_from, placed_one, place_in, outermost}
 use Rattle.box_data.specs.Limits.{first_above, greatest_length, passed, long, used_lengths, all_used_lengths}
@@ -22,7 +24,8 @@ use Rattle.box_style.specs.Lengths.{shown_lengths}
 use Rattle.box_style.specs.Laws.{StylesAreShort}
 use Rattle.box_laws.specs.Laws.{BoxesNameShown}
 use Rattle.doc_laws.specs.Laws.{IsNear, BoxesAreNear, DocumentsAreSound, AreNarrow}
-use Rattle.flow_build.specs.Build.{AreBoxesOf, AreDocumentLines, document_boxes, document_places, document_data, early_limit, limit_after, HasFlows, PassesLimit, late}
+use Rattle.flow_build.specs.Build.{AreBoxesOf, AreDocumentLines, document_boxes, document_places, document_data, early_limit}
+use Rattle.flow_build.specs.Build.{limit_after, HasFlows, PassesLimit, late}
 use Rattle.flow_build.proofs.Shapes.{short-document}
 
 -- ---- used lengths don't depend on lines

@@ -1,5 +1,6 @@
 -- What the boxes of a document have where no computed length is above the limit: short styles, and styles that are there.
-use Rattle.std.proofs.Common.{◌≡◌, ℕ, suc, ◌+◌, ◌<◌, ◌≤◌, ◌^◌, ◌-◌, Bool, true, false, List, [], ◌∷◌, ◌++◌, length, map, flat_map, refl, sym, ap, subst, ◌∙◌, ◌⊎◌, inl, inr, Option, Some, None, length-append, arith}
+use Rattle.std.proofs.Common.{◌≡◌, ℕ, suc, ◌+◌, ◌<◌, ◌≤◌, ◌^◌, ◌-◌, Bool, true, false, List, [], ◌∷◌, ◌++◌, length, map}
+use Rattle.std.proofs.Common.{flat_map, refl, sym, ap, subst, ◌∙◌, ◌⊎◌, inl, inr, Option, Some, None, length-append, arith}
 use Rattle.std.specs.Prelude.{nat_lt, if◌then◌else◌, IfSome, ◌||◌}
 use Rattle.std.specs.List.{All, AllByRecursion, list_any}
 use Rattle.std.proofs.lemmas.List.Elements.{All-from_recursion, recursion_from_All}
@@ -15,7 +16,8 @@ use Rattle.box_data.specs.declared.style.BoxStyle.{BoxStyle}
 use Rattle.box_data.specs.declared.tree.BoxNode.{BoxNode}
 use Rattle.box_data.specs.declared.tree.BoxTree.{BoxTree}
 use Rattle.box_data.specs.Styles.{style_of}
-use Rattle.box_data.specs.BoxTree.{Boxes, none, box, box_count, Node, box_nodes, boxes_of, with_characters, shown_from, node_count, is_shown}
+use Rattle.box_data.specs.BoxTree.{Boxes, none, box, box_count, Node, box_nodes, boxes_of, with_characters, shown_from}
+use Rattle.box_data.specs.BoxTree.{node_count, is_shown}
 use Rattle.box_data.specs.Bounds.{IsShort, IsShortPiece, IsShortNode}
 use Rattle.box_data.specs.Limits.{first_above}
 use Rattle.box_style.specs.Styles.{styles_in}
