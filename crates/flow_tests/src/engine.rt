@@ -15,7 +15,7 @@ use std::alloc::Global;
 use std::test::Fail;
 
 /// A piece of a text, and how often it stands there.
-type Piece = (&'static [u8], u32);
+pub type Piece = (&'static [u8], u32);
 
 fn add(text: &mut Vec<u8>, piece: Piece) -> Result<(), NoMemory> {
     let (bytes, times) = piece;
@@ -34,7 +34,7 @@ fn text_of(alloc: Global, pieces: &[Piece]) -> Result<Vec<u8>, NoMemory> {
 }
 
 /// The flows of a file made of these pieces, where it has this many rows.
-fn flows_of(alloc: Global, pieces: &[Piece], rows: u32) -> Result<Option<Flows>, Refusal>
+pub fn flows_of(alloc: Global, pieces: &[Piece], rows: u32) -> Result<Option<Flows>, Refusal>
     ensures { IfOk result (λ found. IfSome found (λ flows. length flows.rows ≡ rows)) }
 {
     let text = text_of(alloc, pieces)?;
@@ -49,7 +49,7 @@ fn flows_of(alloc: Global, pieces: &[Piece], rows: u32) -> Result<Option<Flows>,
     }
 }
 
-fn no_counts() -> Counts {
+pub fn no_counts() -> Counts {
     Counts {
         reads: 0,
         below: 0,

@@ -15,6 +15,8 @@ mod data;
 #[cfg(test)]
 mod engine;
 #[cfg(test)]
+mod far;
+#[cfg(test)]
 mod memory;
 #[cfg(test)]
 mod places;
