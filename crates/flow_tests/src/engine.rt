@@ -134,7 +134,7 @@ fn has_size(alloc: Global, flows: &Flows, height: Units, times: u32) -> Result<b
 }
 
 /// A row inside a row of two columns, a tall item and 200 low ones.
-const MANY_RANGES: [Piece; 5] = [
+pub const MANY_RANGES: [Piece; 5] = [
     (b"flow 1\nrow 2 100 110 - balance\nrow 2 45 55 0\na 1\n", 1),
     (b"| 0\na 1\n", 999),
     (b"end\n| 0\na 600\n", 1),

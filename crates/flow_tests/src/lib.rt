@@ -20,3 +20,5 @@ mod far;
 mod memory;
 #[cfg(test)]
 mod places;
+#[cfg(test)]
+mod shared;
