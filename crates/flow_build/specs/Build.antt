@@ -1,13 +1,16 @@
 -- The flows of a document's boxes with their styles, by the faces of a table of metrics, and the first limit that they pass. The
 -- limits and their order are this project's own.
-use Rattle.std.specs.Prelude.{◌≡◌, ℕ, ◌^◌, ◌<◌, ◌≤◌, List, [], length, Option, None, Some}
+use Rattle.std.specs.Prelude.{◌≡◌, ℕ, ◌^◌, ◌<◌, ◌≤◌, List, [], length, Option, None, Some, IfSome}
+use Rattle.std.specs.List.{AllByRecursion}
 use Rattle.mc_base.specs.declared.refusal.Refusal.{Refusal}
 use Rattle.html_grammar.specs.Tree.{Forest, nodes_from}
 use Rattle.html_grammar.specs.Grammar.{depth_of}
 use Rattle.font_table.specs.declared.fonts.Face.{Face}
+use Rattle.inline_text.specs.declared.content.Runs.{Runs}
 use Rattle.line_breaker.specs.declared.line.Line.{Line}
 use Rattle.css_cascade.specs.declared.styles.NodeStyle.{NodeStyle}
 use Rattle.flow_data.specs.declared.data.FlowsData.{FlowsData}
+use Rattle.box_data.specs.declared.tree.BoxNode.{BoxNode}
 use Rattle.box_data.specs.declared.tree.BoxTree.{BoxTree}
 use Rattle.box_data.specs.BoxTree.{Boxes, Node, in_order, boxes_of, with_characters, shown_from, tree_of, or_else}
 use Rattle.box_data.specs.declared.placed.Placed.{Placed}
@@ -21,12 +24,13 @@ use Rattle.box_style.specs.Texts.{run_texts}
 use Rattle.box_style.specs.Lengths.{shown_lengths}
 
 -- These are the boxes of a document with this tree and these styles, one entry for each node. At most 64 elements stand one inside
--- another, and there are at most 2^28 nodes.
+-- another, there are at most 2^28 nodes, and fewer than 2^32 pieces in a run.
 pub record AreBoxesOf (entries : List (Option NodeStyle)) (tree : Forest) (boxes : BoxTree) : Type 0 where
   pub depth : depth_of tree ≤ 64
   pub count : length (nodes_from None 0 tree) ≤ 2 ^ 28
   pub each : length entries ≡ length (nodes_from None 0 tree)
   pub same : boxes ≡ tree_of (styles_in entries) tree
+  pub few : AllByRecursion (λ (node : BoxNode). IfSome node.runs (λ (runs : Runs). length runs.pieces < 2 ^ 32)) boxes.nodes
 
 -- the boxes of the document
 abbrev pub document_boxes : List (Option NodeStyle) → Forest → Boxes Node

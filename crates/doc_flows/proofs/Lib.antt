@@ -1,0 +1,6 @@
+mod Few
+mod Read
+mod Laid
+mod OneLines
+mod Known
+mod OneAnswer

@@ -1,0 +1,4 @@
+pub mod Reading
+pub mod Documents
+pub mod Laws
+pub mod Parts
