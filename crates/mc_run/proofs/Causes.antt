@@ -1,6 +1,7 @@
 -- What follows of the cause for which a command stopped.
 use Rattle.std.proofs.Common.{◌≡◌, ◌≢◌, ◌⊎◌, inl, inr, ℕ, ◌≤◌, List, [], ◌∷◌, Option, refl, ap, subst, arith}
 use Rattle.std.proofs.Common.{lit≤}
+use Rattle.doc_flows.specs.Laws.{OneAnswer}
 use Rattle.mc_base.specs.Outside.{HasRisen}
 use Rattle.mc_base.specs.declared.refusal.ConstructName.{ConstructName}
 use Rattle.mc_base.specs.declared.refusal.Input.{Input}
@@ -93,28 +94,28 @@ no_fault before now (i ∷ inputs) input (inl here) read = let rose = here.1 in 
 no_fault before now (i ∷ inputs) input (inr later) read = no_fault before now inputs input later read.1
 
 -- nothing but out of memory stops a command whose inputs are accepted, where no count rose
-pub complete : (command : Option Command) (held : List ℕ → Option (List ℕ)) (before now : List ℕ → ℕ) (ob on : ℕ) (stop : Stop) →
-    IsCause command held before now ob on stop → Accepts command held → AreRead before now (inputs_of command)
+pub complete : OneAnswer → (command : Option Command) (held : List ℕ → Option (List ℕ)) (before now : List ℕ → ℕ) (ob on : ℕ)
+    (stop : Stop) → IsCause command held before now ob on stop → Accepts command held → AreRead before now (inputs_of command)
     → (HasRisen ob on → ⊥) → status_of stop ≢ 7 → ⊥
-complete command held before now ob on Usage cause accepts read calm memory = subst (λ c. Accepts c held) cause accepts
-complete command held before now ob on (Read input) cause accepts read calm memory =
+complete law command held before now ob on Usage cause accepts read calm memory = subst (λ c. Accepts c held) cause accepts
+complete law command held before now ob on (Read input) cause accepts read calm memory =
     no_fault before now (inputs_of command) input cause read
-complete command held before now ob on Write cause accepts read calm memory = calm cause
-complete command held before now ob on (Refused refusal) cause accepts read calm memory =
-    not_refused command held refusal accepts
+complete law command held before now ob on Write cause accepts read calm memory = calm cause
+complete law command held before now ob on (Refused refusal) cause accepts read calm memory =
+    not_refused law command held refusal accepts
     (full command held refusal (λ none. memory (ap refusal_status none)) cause.1)
 
 -- a command that is refused and whose inputs were read stops for that reason
-pub stops_for : (command : Option Command) (held : List ℕ → Option (List ℕ)) (before now : List ℕ → ℕ) (ob on : ℕ) (stop : Stop)
-    (b : Refusal)
+pub stops_for : OneAnswer → (command : Option Command) (held : List ℕ → Option (List ℕ)) (before now : List ℕ → ℕ) (ob on : ℕ)
+    (stop : Stop) (b : Refusal)
     → IsCause command held before now ob on stop → (stop ≡ Write → (text : List ℕ) × Gives command held text)
     → RefusesTold command held b → AreRead before now (inputs_of command) → status_of stop ≢ 7 → stop ≡ Refused b
-stops_for command held before now ob on Usage b cause gives told read memory =
+stops_for law command held before now ob on Usage b cause gives told read memory =
     absurd (subst (λ c. RefusesTold c held b) cause told)
-stops_for command held before now ob on (Read input) b cause gives told read memory =
+stops_for law command held before now ob on (Read input) b cause gives told read memory =
     absurd (no_fault before now (inputs_of command) input cause read)
-stops_for command held before now ob on Write b cause gives told read memory = let given = gives refl
-    in absurd (no_result command held given.0 b given.1 told)
-stops_for command held before now ob on (Refused a) b cause gives told read memory =
+stops_for law command held before now ob on Write b cause gives told read memory = let given = gives refl
+    in absurd (no_result law command held given.0 b given.1 told)
+stops_for law command held before now ob on (Refused a) b cause gives told read memory =
     ap (λ (r : Refusal). Refused r)
-    (reason_is command held a b (full command held a (λ none. memory (ap refusal_status none)) cause.1) told)
+    (reason_is law command held a b (full command held a (λ none. memory (ap refusal_status none)) cause.1) told)

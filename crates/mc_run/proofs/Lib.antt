@@ -1,7 +1,11 @@
 pub mod Agree
 pub mod Causes
+pub mod Lengths
 pub mod Numbers
+pub mod OneDocument
 pub mod OneFlow
 pub mod OneReason
 pub mod Pieces
+pub mod Reading
+pub mod Results
 pub mod Stopping

@@ -1,6 +1,6 @@
 -- Bytes are one flow file at most. They are refused for one reason at most, and then they have no result.
-use Rattle.std.proofs.Common.{◌≡◌, ◌⊎◌, inl, inr, ℕ, ◌<◌, ◌≤◌, List, length, None, Some, Result, Ok, Err}
-use Rattle.std.proofs.Common.{refl, sym, ◌∙◌, ap, subst, arith}
+use Rattle.std.proofs.Common.{◌≡◌, ◌⊎◌, inl, inr, ℕ, List, None, Some, Result, Ok, Err}
+use Rattle.std.proofs.Common.{refl, sym, ◌∙◌, ap, subst}
 use Rattle.std.specs.Prelude.{IfErr, MatchResult}
 use Rattle.mc_base.specs.declared.refusal.Input.{Input}
 use Rattle.mc_base.specs.declared.refusal.LimitName.{LimitName}
@@ -19,8 +19,8 @@ use Rattle.flow_text.proofs.TextLaws.{text_again}
 use Rattle.flow_text.proofs.Unique.{one_file}
 use Rattle.flow_list.specs.Data.{FlowsData}
 use Rattle.flow_list.specs.FileFlows.{IsFile, RefusesText, flows_of, limit_of}
-use Rattle.mc_run.specs.FlowResult.{result_limit, FlowSays, IsNoFlowFile, IsFlowResult, HasLongResult, RefusesBytes}
-use Rattle.mc_run.specs.Printed.{result_text}
+use Rattle.mc_run.specs.FlowResult.{FlowSays, IsNoFlowFile, IsFlowResult, HasLongResult, RefusesBytes}
+use Rattle.mc_run.proofs.Results.{short_or_long}
 
 abbrev read_as : List Line → Result (List Line) Fault
 read_as lines = Ok lines
@@ -76,6 +76,20 @@ reader_result text (Err e) refusal is only refused =
     let same : e ≡ refusal = cc in
     subst (λ r. (r ≡ NoMemory) ⊎ RefusesBytes text r) same (reader_refuses text e only refused)
 
+-- ---- what is refused since its result is too long
+
+long_refused : (bytes : List ℕ) (refusal : Refusal) → HasLongResult (FlowSays bytes) refusal → RefusesBytes bytes refusal
+long_refused bytes (Grammar input offset rule) long = let limit = long.1 in absurd cc
+long_refused bytes (Construct input offset name) long = let limit = long.1 in absurd cc
+long_refused bytes (Limit name reached limit) long = inr long
+long_refused bytes NoMemory long = let limit = long.1 in absurd cc
+
+pub bytes_err : (bytes : List ℕ) (r : Result (List ℕ) Refusal)
+    → IfErr r (λ e. (e ≡ NoMemory) ⊎ HasLongResult (FlowSays bytes) e) → IfErr r (λ e. (e ≡ NoMemory) ⊎ RefusesBytes bytes e)
+bytes_err bytes (Ok text) is = tt
+bytes_err bytes (Err e) (inl none) = inl none
+bytes_err bytes (Err e) (inr long) = inr (long_refused bytes e long)
+
 -- ---- one reason
 
 same_limit : (a b : Refusal) (file : FlowFile) → limit_of file ≡ Some a → limit_of file ≡ Some b → a ≡ b
@@ -83,8 +97,8 @@ same_limit a b file h k = let same : Some a ≡ Some b = sym h ∙ k in cc
 
 -- a flow file that has flows within its limits is refused by no limit but that of its result
 both_limits : (bytes : List ℕ) (name other : LimitName) (reached limit more most : ℕ)
-    → RefusesText bytes (Limit name reached limit) ⊎ HasLongResult bytes (Limit name reached limit)
-    → RefusesText bytes (Limit other more most) ⊎ HasLongResult bytes (Limit other more most)
+    → RefusesText bytes (Limit name reached limit) ⊎ HasLongResult (FlowSays bytes) (Limit name reached limit)
+    → RefusesText bytes (Limit other more most) ⊎ HasLongResult (FlowSays bytes) (Limit other more most)
     → Limit name reached limit ≡ Limit other more most
 both_limits bytes name other reached limit more most (inl a) (inl b) =
     same_limit (Limit name reached limit) (Limit other more most) a.0 a.2
@@ -96,7 +110,7 @@ both_limits bytes name other reached limit more most (inr a) (inl b) = let none 
 both_limits bytes name other reached limit more most (inr a) (inr b) = a.1 ∙ sym b.1
 
 limit_or_fault : (bytes : List ℕ) (name : LimitName) (reached limit : ℕ) → IsNoFlowFile bytes
-    → RefusesText bytes (Limit name reached limit) ⊎ HasLongResult bytes (Limit name reached limit) → ⊥
+    → RefusesText bytes (Limit name reached limit) ⊎ HasLongResult (FlowSays bytes) (Limit name reached limit) → ⊥
 limit_or_fault bytes name reached limit none (inl b) = none b.0 b.1
 limit_or_fault bytes name reached limit none (inr b) = none b.0.1.0 b.0.1.1
 
@@ -122,9 +136,6 @@ result_or_refusal bytes text (Grammar input offset rule) (d, says, is, short) re
 result_or_refusal bytes text (Construct input offset name) (d, says, is, short) refused = refused
 result_or_refusal bytes text (Limit name reached limit) (d, says, is, short) (inl refused) =
     let none = no_limit bytes d refused.0 says refused.1 in let some = refused.2 in absurd cc
-result_or_refusal bytes text (Limit name reached limit) (d, says, is, short) (inr (long, limit_is)) =
-    let same = flow_same bytes d long.0 says long.1 in
-    let over : result_limit < length (result_text d) = subst (λ e. result_limit < length (result_text e)) (sym same) long.2 in
-    let within : length (result_text d) ≤ result_limit = subst (λ t. length t ≤ result_limit) is short in
-    omega (arith, over, within)
+result_or_refusal bytes text (Limit name reached limit) (d, says, is, short) (inr long) =
+    short_or_long (FlowSays bytes) text (Limit name reached limit) (flow_same bytes) (d, says, is, short) long
 result_or_refusal bytes text NoMemory (d, says, is, short) refused = refused

@@ -1,12 +1,14 @@
 -- A command is refused for one reason at most, and one that is refused has no result.
 use Rattle.std.proofs.Common.{◌≡◌, inl, inr, ℕ, List, [], ◌∷◌, Option, None, Some, sym, ◌∙◌}
 use Rattle.std.proofs.Common.{arith}
-use Rattle.mc_base.specs.declared.refusal.Input.TheVariants.{Flow}
+use Rattle.doc_flows.specs.Laws.{OneAnswer}
+use Rattle.mc_base.specs.declared.refusal.Input.TheVariants.{Document, Sheet, Metrics, Flow}
 use Rattle.mc_base.specs.declared.refusal.Refusal.{Refusal}
 use Rattle.mc_run.specs.Inputs.{NamedInput, Contents, reads, AreShort, IsTooLong}
 use Rattle.mc_run.specs.Outcome.{Yields, Denies, HasResult, IsRefused, Gives, Refuses, RefusesTold, Accepts}
-use Rattle.mc_run.specs.Words.{Command, rows, gen}
+use Rattle.mc_run.specs.Words.{Command, rows, gen, layout}
 use Rattle.mc_run.proofs.Agree.{held_told, result_along, refused_along}
+use Rattle.mc_run.proofs.OneDocument.{one_of_texts, texts_or_refusal}
 use Rattle.mc_run.proofs.OneFlow.{one_of_bytes, result_or_refusal}
 
 -- ---- too long an input
@@ -30,48 +32,52 @@ one_too_long contents (i ∷ inputs) a b (inr h) (inr k) = one_too_long contents
 
 -- ---- each command
 
-denied_once : (command : Command) (contents : Contents) (a b : Refusal) → Denies command contents a → Denies command contents b
-    → a ≡ b
-denied_once (rows flow) contents a b h k = one_of_bytes (contents Flow) a b h k
-denied_once (gen start count) contents a b h k = h.1 ∙ sym k.1
+denied_once : OneAnswer → (command : Command) (contents : Contents) (a b : Refusal) → Denies command contents a
+    → Denies command contents b → a ≡ b
+denied_once law (rows flow) contents a b h k = one_of_bytes (contents Flow) a b h k
+denied_once law (gen start count) contents a b h k = h.1 ∙ sym k.1
+denied_once law (layout document sheet metrics width height) contents a b h k =
+    one_of_texts law (contents Document) (contents Sheet) (contents Metrics) width height a b h k
 
-yields_or_denies : (command : Command) (contents : Contents) (text : List ℕ) (refusal : Refusal) → Yields command contents text
-    → Denies command contents refusal → ⊥
-yields_or_denies (rows flow) contents text refusal h k = result_or_refusal (contents Flow) text refusal h k
-yields_or_denies (gen start count) contents text refusal h k = let few = h.0 in let many = k.0 in omega (arith, few, many)
+yields_or_denies : OneAnswer → (command : Command) (contents : Contents) (text : List ℕ) (refusal : Refusal)
+    → Yields command contents text → Denies command contents refusal → ⊥
+yields_or_denies law (rows flow) contents text refusal h k = result_or_refusal (contents Flow) text refusal h k
+yields_or_denies law (gen start count) contents text refusal h k = let few = h.0 in let many = k.0 in omega (arith, few, many)
+yields_or_denies law (layout document sheet metrics width height) contents text refusal h k =
+    texts_or_refusal law (contents Document) (contents Sheet) (contents Metrics) width height text refusal h k
 
 -- ---- all commands
 
-one_reason : (command : Command) (contents : Contents) (a b : Refusal) → IsRefused command contents a
+one_reason : OneAnswer → (command : Command) (contents : Contents) (a b : Refusal) → IsRefused command contents a
     → IsRefused command contents b → a ≡ b
-one_reason command contents a b (inl h) (inl k) = one_too_long contents (reads command) a b h k
-one_reason command contents a b (inl h) (inr k) = absurd (long_or_short contents (reads command) a h k.0)
-one_reason command contents a b (inr h) (inl k) = absurd (long_or_short contents (reads command) b k h.0)
-one_reason command contents a b (inr h) (inr k) = denied_once command contents a b h.1 k.1
+one_reason law command contents a b (inl h) (inl k) = one_too_long contents (reads command) a b h k
+one_reason law command contents a b (inl h) (inr k) = absurd (long_or_short contents (reads command) a h k.0)
+one_reason law command contents a b (inr h) (inl k) = absurd (long_or_short contents (reads command) b k h.0)
+one_reason law command contents a b (inr h) (inr k) = denied_once law command contents a b h.1 k.1
 
-result_or_reason : (command : Command) (contents : Contents) (text : List ℕ) (refusal : Refusal)
+result_or_reason : OneAnswer → (command : Command) (contents : Contents) (text : List ℕ) (refusal : Refusal)
     → HasResult command contents text → IsRefused command contents refusal → ⊥
-result_or_reason command contents text refusal h (inl k) = long_or_short contents (reads command) refusal k h.0
-result_or_reason command contents text refusal h (inr k) = yields_or_denies command contents text refusal h.1 k.1
+result_or_reason law command contents text refusal h (inl k) = long_or_short contents (reads command) refusal k h.0
+result_or_reason law command contents text refusal h (inr k) = yields_or_denies law command contents text refusal h.1 k.1
 
 -- the reason for which a command stops is the one that it is refused for
-pub reason_is : (command : Option Command) (held : List ℕ → Option (List ℕ)) (a b : Refusal) → Refuses command held a
-    → RefusesTold command held b → a ≡ b
-reason_is None held a b h k = absurd h
-reason_is (Some command) held a b (c, is, h) (e, told, k) =
-    one_reason command e a b (refused_along command c e a (held_told held c e (reads command) is told) h) k
+pub reason_is : OneAnswer → (command : Option Command) (held : List ℕ → Option (List ℕ)) (a b : Refusal)
+    → Refuses command held a → RefusesTold command held b → a ≡ b
+reason_is law None held a b h k = absurd h
+reason_is law (Some command) held a b (c, is, h) (e, told, k) =
+    one_reason law command e a b (refused_along command c e a (held_told held c e (reads command) is told) h) k
 
 -- a command that is refused has no result
-pub no_result : (command : Option Command) (held : List ℕ → Option (List ℕ)) (text : List ℕ) (refusal : Refusal)
+pub no_result : OneAnswer → (command : Option Command) (held : List ℕ → Option (List ℕ)) (text : List ℕ) (refusal : Refusal)
     → Gives command held text → RefusesTold command held refusal → ⊥
-no_result None held text refusal h k = h
-no_result (Some command) held text refusal (c, is, h) (e, told, k) =
-    result_or_reason command e text refusal (result_along command c e text (held_told held c e (reads command) is told) h) k
+no_result law None held text refusal h k = h
+no_result law (Some command) held text refusal (c, is, h) (e, told, k) =
+    result_or_reason law command e text refusal (result_along command c e text (held_told held c e (reads command) is told) h) k
 
 -- a command that is accepted isn't refused
-pub not_refused : (command : Option Command) (held : List ℕ → Option (List ℕ)) (refusal : Refusal) → Accepts command held
-    → Refuses command held refusal → ⊥
-not_refused None held refusal h k = h
-not_refused (Some command) held refusal (c, told, h) (e, is, k) =
-    result_or_reason command c h.0 refusal h.1
+pub not_refused : OneAnswer → (command : Option Command) (held : List ℕ → Option (List ℕ)) (refusal : Refusal)
+    → Accepts command held → Refuses command held refusal → ⊥
+not_refused law None held refusal h k = h
+not_refused law (Some command) held refusal (c, told, h) (e, is, k) =
+    result_or_reason law command c h.0 refusal h.1
     (refused_along command e c refusal (held_told held e c (reads command) is told) k)

@@ -1,28 +1,18 @@
 -- What a command comes to, by what was read and what came of it.
-use Rattle.std.proofs.Common.{◌≡◌, ◌≢◌, ◌⊎◌, inl, inr, ℕ, ◌+◌, ◌<◌, ◌≤◌, List, [], length, Option, None, Some, refl, sym, arith}
-use Rattle.std.specs.Prelude.{IfSome, replicate}
+use Rattle.std.proofs.Common.{◌≡◌, ◌≢◌, ◌⊎◌, inl, inr, ℕ, ◌<◌, ◌≤◌, List, [], Option, Some, sym}
 use Rattle.std.proofs.lemmas.Bool.{cases_lt}
-use Rattle.std.proofs.lemmas.List.{length-replicate}
-use Rattle.mc_base.specs.declared.refusal.Input.TheVariants.{Flow}
+use Rattle.mc_base.specs.declared.refusal.Input.TheVariants.{Document, Sheet, Metrics, Flow}
 use Rattle.mc_base.specs.declared.refusal.Refusal.{Refusal}
 use Rattle.mc_base.specs.declared.refusal.LimitName.TheVariants.{Paragraphs}
 use Rattle.mc_base.specs.declared.refusal.Refusal.TheVariants.{Limit, NoMemory}
 use Rattle.mc_run.specs.declared.stop.Stop.{Stop}
 use Rattle.mc_run.specs.declared.stop.Stop.TheVariants.{Usage, Read, Write, Refused}
-use Rattle.mc_run.specs.FlowResult.{IsFlowResult, RefusesBytes}
-use Rattle.mc_run.specs.Inputs.{OnlyThese, reads, byte_limit}
+use Rattle.mc_run.specs.FlowResult.{IsFlowResult, RefusesBytes, IsDocumentResult, RefusesTexts}
+use Rattle.mc_run.specs.Inputs.{OnlyThese, reads, byte_limit, named_texts}
 use Rattle.mc_run.specs.Outcome.{Gives, IsCause, Denies, Yields}
-use Rattle.mc_run.specs.Reading.{IsReadCause}
-use Rattle.mc_run.specs.Words.{rows, gen}
-
-some_long : (n : ℕ) → (bytes : List ℕ) × (n < length bytes)
-some_long n = let size = length-replicate {A = ℕ} (n + 1) 0 in (replicate (n + 1) 0, omega (arith, size))
-
--- the bytes of an input that is too long, whether they are told or not
-long_bytes : (held : Option (List ℕ)) (n : ℕ) → IfSome held (λ bytes. n < length bytes)
-    → (bytes : List ℕ) × IfSome held (λ told. bytes ≡ told) × (n < length bytes)
-long_bytes None n over = let long = some_long n in (long.0, tt, long.1)
-long_bytes (Some bytes) n over = (bytes, refl, over)
+use Rattle.mc_run.specs.Reading.{IsReadCause, IsReadingCause, IsContent}
+use Rattle.mc_run.specs.Words.{rows, gen, layout}
+use Rattle.mc_run.proofs.Reading.{long_bytes, texts}
 
 -- ---- a flow file
 
@@ -38,20 +28,60 @@ flow_unread flow held before now (Refused refusal) (inr (is, over)) =
     (λ e. cc, inr (λ _. long.0, (long.1, tt), inl (inl (long.2, is))))
 
 pub flow_result : (flow : List ℕ) (held : List ℕ → Option (List ℕ)) (bytes text : List ℕ)
-    → IfSome (held flow) (λ told. bytes ≡ told) → length bytes ≤ byte_limit Flow → IsFlowResult bytes text
-    → Gives (Some (rows flow)) held text
-flow_result flow held bytes text told few is = (λ _. bytes, (told, tt), ((few, tt), is))
+    → IsContent (record { input = Flow; name = flow }) held bytes → IsFlowResult bytes text → Gives (Some (rows flow)) held text
+flow_result flow held bytes text content is = (λ _. bytes, (content.1, tt), ((content.0, tt), is))
 
 pub flow_refused : (flow : List ℕ) (held : List ℕ → Option (List ℕ)) (before now : List ℕ → ℕ) (bytes : List ℕ)
-    (refusal : Refusal) → IfSome (held flow) (λ told. bytes ≡ told) → length bytes ≤ byte_limit Flow
+    (refusal : Refusal) → IsContent (record { input = Flow; name = flow }) held bytes
     → (refusal ≡ NoMemory) ⊎ RefusesBytes bytes refusal → IsCause (Some (rows flow)) held before now 0 0 (Refused refusal)
-flow_refused flow held before now bytes refusal told few (inl none) = (λ e. cc, inl none)
-flow_refused flow held before now bytes refusal told few (inr refused) =
-    (λ e. cc, inr (λ _. bytes, (told, tt), inr ((few, tt), refused)))
+flow_refused flow held before now bytes refusal content (inl none) = (λ e. cc, inl none)
+flow_refused flow held before now bytes refusal content (inr refused) =
+    (λ e. cc, inr (λ _. bytes, (content.1, tt), inr ((content.0, tt), refused)))
 
 pub flow_alone : (flow : List ℕ) (before now : List ℕ → ℕ) → ((name : List ℕ) → name ≢ flow → now name ≡ before name)
     → OnlyThese before now (reads (rows flow))
 flow_alone flow before now others name apart = others name (λ same. apart.0 (sym same))
+
+-- ---- a document
+
+-- these are what a document, a style sheet and a table of metrics hold
+pub record AreContents (document sheet metrics : List ℕ) (held : List ℕ → Option (List ℕ)) (d s m : List ℕ) : Type 0 where
+  pub document_is : IsContent (record { input = Document; name = document }) held d
+  pub sheet_is : IsContent (record { input = Sheet; name = sheet }) held s
+  pub metrics_is : IsContent (record { input = Metrics; name = metrics }) held m
+
+pub page_unread : (document sheet metrics : List ℕ) (width : ℕ) (height : Option ℕ) (held : List ℕ → Option (List ℕ))
+    (before now : List ℕ → ℕ) (stop : Stop) → IsReadingCause (named_texts document sheet metrics) held before now stop
+    → IsCause (Some (layout document sheet metrics width height)) held before now 0 0 stop
+page_unread document sheet metrics width height held before now Usage cause = absurd cause
+page_unread document sheet metrics width height held before now (Read input) cause = cause
+page_unread document sheet metrics width height held before now Write cause = absurd cause
+page_unread document sheet metrics width height held before now (Refused refusal) (inl none) = (λ e. cc, inl none)
+page_unread document sheet metrics width height held before now (Refused refusal) (inr (contents, are, long)) =
+    (λ e. cc, inr (contents, are, inl long))
+
+pub page_text : (document sheet metrics : List ℕ) (width : ℕ) (height : Option ℕ) (held : List ℕ → Option (List ℕ))
+    (d s m text : List ℕ) → AreContents document sheet metrics held d s m → IsDocumentResult d s m width height text
+    → Gives (Some (layout document sheet metrics width height)) held text
+page_text document sheet metrics width height held d s m text are is = (
+  texts d s m,
+  (are.document_is.1, (are.sheet_is.1, (are.metrics_is.1, tt))),
+  ((are.document_is.0, (are.sheet_is.0, (are.metrics_is.0, tt))), is),
+)
+
+pub page_refused : (document sheet metrics : List ℕ) (width : ℕ) (height : Option ℕ) (held : List ℕ → Option (List ℕ))
+    (before now : List ℕ → ℕ) (d s m : List ℕ) (refusal : Refusal) → AreContents document sheet metrics held d s m
+    → (refusal ≡ NoMemory) ⊎ RefusesTexts d s m width height refusal
+    → IsCause (Some (layout document sheet metrics width height)) held before now 0 0 (Refused refusal)
+page_refused document sheet metrics width height held before now d s m refusal are (inl none) = (λ e. cc, inl none)
+page_refused document sheet metrics width height held before now d s m refusal are (inr refused) = (
+  λ e. cc,
+  inr (
+    texts d s m,
+    (are.document_is.1, (are.sheet_is.1, (are.metrics_is.1, tt))),
+    inr ((are.document_is.0, (are.sheet_is.0, (are.metrics_is.0, tt))), refused),
+  ),
+)
 
 -- ---- a generated document
 

@@ -9,17 +9,24 @@ use Rattle.mc_base.specs.declared.refusal.LimitName.TheVariants.{Sheet as SheetB
 use Rattle.mc_base.specs.declared.refusal.LimitName.TheVariants.{Script as ScriptBytes, Result as ResultBytes}
 use Rattle.mc_base.specs.declared.refusal.Refusal.{Refusal}
 use Rattle.mc_base.specs.declared.refusal.Refusal.TheVariants.{Limit}
-use Rattle.mc_run.specs.Words.{Command, rows, gen}
+use Rattle.mc_run.specs.Words.{Command, rows, gen, layout}
 
 -- an input, and the name that the words give for it
 pub record NamedInput : Type 0 where
   pub input : Input
   pub name : List ℕ
 
+-- a document, a style sheet and a table of metrics, by their names
+abbrev pub named_texts : List ℕ → List ℕ → List ℕ → List NamedInput
+named_texts document sheet metrics =
+    record { input = Document; name = document } ∷ record { input = Sheet; name = sheet }
+    ∷ record { input = Metrics; name = metrics } ∷ []
+
 -- the inputs that a command reads, in the order of its words
 abbrev pub reads : Command → List NamedInput
 reads (rows flow) = record { input = Flow; name = flow } ∷ []
 reads (gen start count) = []
+reads (layout document sheet metrics width height) = named_texts document sheet metrics
 
 -- the inputs that are read, if the words are taken
 abbrev pub inputs_of : Option Command → List NamedInput

@@ -4,15 +4,15 @@ use Rattle.std.specs.Prelude.{◌≡◌, ◌≢◌, ℕ, ◌<◌, ◌≤◌, ◌
 use Rattle.std.specs.Io.KnownBytes.{Appends}
 use Rattle.doc_gen.specs.Document.{document}
 use Rattle.mc_base.specs.Outside.{HasRisen, AppendsPart}
-use Rattle.mc_base.specs.declared.refusal.Input.TheVariants.{Flow}
+use Rattle.mc_base.specs.declared.refusal.Input.TheVariants.{Document, Sheet, Metrics, Flow}
 use Rattle.mc_base.specs.declared.refusal.LimitName.TheVariants.{Paragraphs}
 use Rattle.mc_base.specs.declared.refusal.Refusal.{Refusal}
 use Rattle.mc_base.specs.declared.refusal.Refusal.TheVariants.{Limit, NoMemory}
 use Rattle.mc_run.specs.declared.stop.Stop.{Stop}
 use Rattle.mc_run.specs.declared.stop.Stop.TheVariants.{Usage, Read, Write, Refused}
-use Rattle.mc_run.specs.FlowResult.{IsFlowResult, RefusesBytes}
+use Rattle.mc_run.specs.FlowResult.{IsFlowResult, RefusesBytes, IsDocumentResult, RefusesTexts}
 use Rattle.mc_run.specs.Inputs.{Contents, reads, inputs_of, AreHeld, AreTold, AreShort, IsTooLong, HasFault}
-use Rattle.mc_run.specs.Words.{Command, rows, gen}
+use Rattle.mc_run.specs.Words.{Command, rows, gen, layout}
 
 -- ---- each command
 
@@ -20,11 +20,15 @@ use Rattle.mc_run.specs.Words.{Command, rows, gen}
 abbrev pub Yields : Command → Contents → List ℕ → Type 0
 Yields (rows flow) contents text = IsFlowResult (contents Flow) text
 Yields (gen start count) contents text = (count ≤ 5000) × (text ≡ document start count)
+Yields (layout doc sheet metrics width height) contents text =
+    IsDocumentResult (contents Document) (contents Sheet) (contents Metrics) width height text
 
 -- a command whose inputs hold this, none of them too long, is refused for this reason
 abbrev pub Denies : Command → Contents → Refusal → Type 0
 Denies (rows flow) contents refusal = RefusesBytes (contents Flow) refusal
 Denies (gen start count) contents refusal = (5000 < count) × (refusal ≡ Limit Paragraphs 5001 5000)
+Denies (layout doc sheet metrics width height) contents refusal =
+    RefusesTexts (contents Document) (contents Sheet) (contents Metrics) width height refusal
 
 -- ---- all commands
 

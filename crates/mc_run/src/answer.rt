@@ -1,15 +1,16 @@
 //! What the words ask for, and its result.
 
-ghost use Rattle.std.specs.Prelude.{◌≡◌, ◌≢◌, ℕ, List, Option, map, Some, IfOk, IfErr, OnOk, string_bytes};
-ghost use Rattle.mc_run.specs.Asked.{asked};
+ghost use Rattle.std.specs.Prelude.{◌≡◌, ◌≢◌, ◌<◌, ◌^◌, ℕ, List, Option, map, Some, IfOk, IfErr, OnOk, string_bytes};
+ghost use Rattle.mc_run.specs.Asked.{asked, laid_out, IsNarrow};
 ghost use Rattle.mc_run.specs.Inputs.{reads, inputs_of, OnlyThese};
 ghost use Rattle.mc_run.specs.Words.{command_of, rows, gen};
 ghost use Rattle.mc_run.specs.Outcome.{Gives, IsCause, GetsResult, GetsPart};
 
-use crate::inputs::read_input;
+use crate::inputs::{read_input, read_texts};
+use crate::pages::page_result;
 use crate::rows::rows_result;
 use crate::stop::Stop;
-use crate::words::{Command, read_words};
+use crate::words::{Command, Page, read_words};
 use doc_gen::generate;
 use mc_base::{Files, Input, Sink, Text};
 use std::alloc::Global;
@@ -42,8 +43,25 @@ fn answer_gen(alloc: Global, start: u64, count: u32) -> Result<Text, Stop>
     }
 }
 
+/// The result of a document. Its inputs are all read before any is judged.
+fn answer_layout<F: Files>(alloc: Global, page: Page<'_>, files: &mut F) -> Result<Text, Stop>
+    requires { page.width < 2 ^ 60 }
+    ensures content { (other : List ℕ) → F.held files.new other ≡ F.held files.old other }
+    ensures others { OnlyThese (F.faults files.old) (F.faults files.new) (reads (laid_out page.entry)) }
+    ensures ok { IfOk result (Gives (Some (laid_out page.entry)) (F.held files.old)) }
+    ensures err { IfErr result (IsCause (Some (laid_out page.entry)) (F.held files.old)
+        (F.faults files.old) (F.faults files.new) 0 0) }
+{
+    let texts = read_texts(alloc, files, page)?;
+    match page_result(alloc, &texts, page.width, page.height) {
+        Ok(text) => Ok(text),
+        Err(refusal) => Err(Stop::Refused { refusal }),
+    }
+}
+
 /// The result of a command.
 fn result_of<F: Files>(alloc: Global, command: Command<'_>, files: &mut F) -> Result<Text, Stop>
+    requires { IsNarrow command }
     ensures content { (other : List ℕ) → F.held files.new other ≡ F.held files.old other }
     ensures others { OnlyThese (F.faults files.old) (F.faults files.new) (reads (asked command.entry)) }
     ensures ok { IfOk result (Gives (Some (asked command.entry)) (F.held files.old)) }
@@ -53,6 +71,7 @@ fn result_of<F: Files>(alloc: Global, command: Command<'_>, files: &mut F) -> Re
     match command {
         Command::Rows { flow } => answer_rows(alloc, flow, files),
         Command::Gen { start, count } => answer_gen(alloc, start, count),
+        Command::Layout { page } => answer_layout(alloc, page, files),
     }
 }
 

@@ -1,11 +1,14 @@
 //! Reading the inputs of a command.
 
 ghost use Rattle.std.specs.Prelude.{◌≡◌, ◌≢◌, ℕ, ◌≤◌, List, length, IfOk, IfErr, IfSome};
+ghost use Rattle.mc_base.specs.declared.refusal.Input.TheVariants as inputs;
 ghost use Rattle.mc_run.specs.Inputs as stated;
+ghost use Rattle.mc_run.specs.Inputs.{OnlyThese, named_texts};
 ghost use Rattle.mc_run.specs.Reading as reading;
-ghost use Rattle.mc_run.specs.Reading.{IsReadCause};
+ghost use Rattle.mc_run.specs.Reading.{IsReadCause, IsReadingCause, IsContent};
 
 use crate::stop::Stop;
+use crate::words::Page;
 use mc_base::{FileFault, Files, Input, LimitName, Refusal};
 use std::alloc::Global;
 
@@ -64,8 +67,8 @@ pub fn read_input<F: Files>(
 ) -> Result<Vec<u8>, Stop>
     ensures content { (other : List ℕ) → F.held files.new other ≡ F.held files.old other }
     ensures others { (other : List ℕ) → other ≢ name.now → F.faults files.new other ≡ F.faults files.old other }
-    ensures limit { IfOk result (λ bytes. length bytes.items ≤ stated.byte_limit input) }
-    ensures told { IfOk result (λ bytes. IfSome (F.held files.old name.now) (λ held. bytes.items ≡ held)) }
+    ensures later { (other : List ℕ) → F.faults files.old other ≤ F.faults files.new other }
+    ensures ok { IfOk result (λ bytes. IsContent (record { input = input; name = name.now }) (F.held files.old) bytes.items) }
     ensures err { IfErr result (IsReadCause (record { input = input; name = name.now }) (F.held files.old)
         (F.faults files.old) (F.faults files.new)) }
 {
@@ -74,4 +77,36 @@ pub fn read_input<F: Files>(
         Ok(()) => Ok(bytes),
         Err(fault) => Err(stop_for(input, fault)),
     }
+}
+
+/// The bytes of a document, a style sheet and a table of metrics.
+#[derive(Drop)]
+pub struct Texts {
+    pub document: Vec<u8>,
+    pub sheet: Vec<u8>,
+    pub metrics: Vec<u8>,
+}
+
+/// Reads a document, a style sheet and a table of metrics, in this order.
+pub fn read_texts<F: Files>(alloc: Global, files: &mut F, page: Page<'_>) -> Result<Texts, Stop>
+    ensures content { (other : List ℕ) → F.held files.new other ≡ F.held files.old other }
+    ensures others { OnlyThese (F.faults files.old) (F.faults files.new)
+        (named_texts page.entry.document.now page.entry.sheet.now page.entry.metrics.now) }
+    ensures document { IfOk result (λ texts. IsContent (record { input = inputs.Document; name = page.entry.document.now })
+        (F.held files.old) texts.document.items) }
+    ensures sheet { IfOk result (λ texts. IsContent (record { input = inputs.Sheet; name = page.entry.sheet.now })
+        (F.held files.old) texts.sheet.items) }
+    ensures metrics { IfOk result (λ texts. IsContent (record { input = inputs.Metrics; name = page.entry.metrics.now })
+        (F.held files.old) texts.metrics.items) }
+    ensures err { IfErr result (IsReadingCause (named_texts page.entry.document.now page.entry.sheet.now page.entry.metrics.now)
+        (F.held files.old) (F.faults files.old) (F.faults files.new)) }
+{
+    let document = read_input(alloc, files, Input::Document, page.document)?;
+    let sheet = read_input(alloc, files, Input::Sheet, page.sheet)?;
+    let metrics = read_input(alloc, files, Input::Metrics, page.metrics)?;
+    Ok(Texts {
+        document,
+        sheet,
+        metrics,
+    })
 }

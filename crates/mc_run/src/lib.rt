@@ -1,9 +1,9 @@
 //! The commands of mcol, from their words to the bytes of the result.
 //!
-//! It stands on the reader of flow files, the layout, the text of its tree and the generated document. Its one call, `run`,
-//! promises which status comes when, that the sink gets exactly the result of the command, and that the line of a refusal
-//! tells its cause. All that it promises is said of any command; a command adds which inputs it reads, what its result is,
-//! and what it refuses.
+//! It stands on the readers of flow files and of documents, the layout, the text of its tree and the generated document.
+//! Its one call, `run`, promises which status comes when, that the sink gets exactly the result of the command, and that the
+//! line of a refusal tells its cause. All that it promises is said of any command; a command adds which inputs it reads, what
+//! its result is, and what it refuses.
 #![tactic(auto)]
 
 ghost use Rattle.std.specs.Prelude.{◌≡◌, ◌≢◌, ◌↔◌, ℕ, ◌≤◌, List, map, None, string_bytes};
@@ -23,16 +23,19 @@ ghost use Rattle.mc_run.specs.Outcome.{Refuses, RefusesTold, Accepts, IsCause, G
 
 mod answer;
 mod inputs;
+mod pages;
+mod printing;
 mod rows;
 mod stop;
 mod words;
 
+use doc_flows::documents_have_one_answer;
 use mc_base::{Files, Sink};
 use std::alloc::Global;
 pub use stop::Stop;
 use stop::{status, tell};
 
-/// Runs the command that the words after the program's name ask for, and answers the exit status.
+/// Runs the command that the words after the program's name ask for, `layout`, `rows` or `gen`, and answers the exit status.
 ///
 /// `files` are read by name; the result is put to `out` in one call after it is whole, and the line of a refusal to
 /// `err`, whose faults change nothing. The status is 0 where the result was put, 1 where the words aren't taken, 2 after a
@@ -92,6 +95,7 @@ pub fn run<F: Files, K: Sink, E: Sink>(
         AreRead (F.faults files.old) (F.faults files.new) (inputs_of (command_of (map string_bytes words.now))) →
         (HasRisen (K.faults out.old) (K.faults out.new) → ⊥) → result ≢ 7 → result ≡ 0 }
 {
+    documents_have_one_answer();
     let Err(stop) = answer::answer(alloc, words, files, out) else {
         return 0;
     };

@@ -26,18 +26,21 @@ returns-clause-statuses g c = subst (λ n. n ≤ 7) (sym c.status.ensures) (stat
 
 pub returns-clause-complete : goal.returns-clause-complete
 returns-clause-complete g c = λ accepts read calm memory.
-    absurd (complete _ _ _ _ _ _ _ c.in-Err.ensures.err accepts read calm (subst (λ n. n ≢ 7) c.status.ensures memory))
+    absurd (complete c.documents_have_one_answer.ensures _ _ _ _ _ _ _ c.in-Err.ensures.err accepts read calm
+    (subst (λ n. n ≢ 7) c.status.ensures memory))
 
 pub returns-in_default-clause-refused : goal.returns-in_default-clause-refused
 returns-in_default-clause-refused g c = λ refusal told read memory.
     let got = c.in_default.ensures.ok in
-    absurd (no_result (command_of (map string_bytes c.args.words.now)) (g.F.Files.held c.args.files.now) got.0 refusal got.1 told)
+    absurd (no_result c.documents_have_one_answer.ensures (command_of (map string_bytes c.args.words.now))
+    (g.F.Files.held c.args.files.now) got.0 refusal got.1 told)
 
 pub returns-clause-refused : goal.returns-clause-refused
 returns-clause-refused g c = λ refusal told read memory.
     let part = c.in-Err.ensures.part in
     let is : c.in-Err.stop ≡ Refused refusal =
-    stops_for (command_of (map string_bytes c.args.words.now)) (g.F.Files.held c.args.files.now)
+    stops_for c.documents_have_one_answer.ensures (command_of (map string_bytes c.args.words.now))
+    (g.F.Files.held c.args.files.now)
     (g.F.Files.faults c.args.files.now) (g.F.Files.faults c.answer.new.files)
     (g.K.Sink.faults c.args.out.now) (g.K.Sink.faults c.answer.new.out) c.in-Err.stop refusal c.in-Err.ensures.err
     (λ same. let p = part same in (p.0, p.1)) told read (subst (λ n. n ≢ 7) c.status.ensures memory) in (

@@ -1,5 +1,5 @@
 -- The stacks that were laid out are those of the flows.
-use Rattle.mc_run.proofs.rows.rows_of.Goals as goal
+use Rattle.mc_run.proofs.printing.rows_of.Goals as goal
 
 pub write_tree_within-requires-clause-layout : goal.write_tree_within-requires-clause-layout
 write_tree_within-requires-clause-layout c =
