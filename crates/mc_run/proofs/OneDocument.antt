@@ -1,6 +1,6 @@
 -- A document is refused for one reason at most, and then it has no result.
 use Rattle.std.proofs.Common.{◌≡◌, ◌⊎◌, inl, inr, ℕ, List, Option, Result, Ok, Err, IfErr, sym, ◌∙◌}
-use Rattle.doc_flows.specs.Documents.{DocumentSays}
+use Rattle.doc_flows.specs.Documents.{DocumentSays, RefusesDocument}
 use Rattle.doc_flows.specs.Laws.{OneAnswer}
 use Rattle.mc_base.specs.declared.refusal.Refusal.{Refusal}
 use Rattle.mc_base.specs.declared.refusal.Refusal.TheVariants.{NoMemory}
@@ -32,3 +32,9 @@ pub texts_err : (document sheet metrics : List ℕ) (width : ℕ) (height : Opti
 texts_err document sheet metrics width height (Ok text) is = tt
 texts_err document sheet metrics width height (Err e) (inl none) = inl none
 texts_err document sheet metrics width height (Err e) (inr long) = inr (inr long)
+
+pub refused_texts : (document sheet metrics : List ℕ) (width : ℕ) (height : Option ℕ) (e : Refusal)
+    → (e ≡ NoMemory) ⊎ RefusesDocument document sheet metrics width height e
+    → (e ≡ NoMemory) ⊎ RefusesTexts document sheet metrics width height e
+refused_texts document sheet metrics width height e (inl none) = inl none
+refused_texts document sheet metrics width height e (inr refused) = inr (inl refused)
