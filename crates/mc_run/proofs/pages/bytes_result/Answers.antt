@@ -2,7 +2,7 @@
 use Rattle.mc_run.proofs.OneDocument.{refused_texts}
 use Rattle.mc_run.proofs.pages.bytes_result.Goals as goal
 
-pub returns-clause-err : goal.returns-clause-err
-returns-clause-err c =
+pub returns-in-Err-clause-err : goal.returns-in-Err-clause-err
+returns-in-Err-clause-err c =
     refused_texts c.args.document.now c.args.sheet.now c.args.metrics.now c.args.width c.args.height c.in-Err.refusal
     c.in-Err.ensures.refused
