@@ -261,7 +261,7 @@ const LONG_FILES: [Case; 4] = [
 ];
 
 /// Documents, sheets and tables of metrics at each limit, and one past it.
-const PAGE_LIMITS: [Case; 20] = [
+const PAGE_LIMITS: [Case; 16] = [
     (
         PAGE,
         &[
@@ -361,26 +361,6 @@ const PAGE_LIMITS: [Case; 20] = [
     (
         PAGE,
         &[
-            (b"document.html", (b"", b"<div>", 62, b"a")),
-            (b"sheet.css", NONE),
-            (b"metrics.txt", FACE),
-        ],
-        CALM,
-        (0, None, b"mcol 1\n0 stack 0 0 0 6400 ", b""),
-    ),
-    (
-        PAGE,
-        &[
-            (b"document.html", (b"", b"<div>", 63, b"a")),
-            (b"sheet.css", NONE),
-            (b"metrics.txt", FACE),
-        ],
-        CALM,
-        (6, Some(0), b"", b"limit: depth 65 64\n"),
-    ),
-    (
-        PAGE,
-        &[
             (b"document.html", PARAGRAPH),
             (b"sheet.css", (b"", b"p{}", 4_000, b"")),
             (b"metrics.txt", FACE),
@@ -459,26 +439,6 @@ const PAGE_LIMITS: [Case; 20] = [
         ],
         CALM,
         (6, Some(0), b"", b"limit: columns 33 32\n"),
-    ),
-    (
-        PAGE,
-        &[
-            (b"document.html", (b"", b"<div style=columns:1>", 3, b"a")),
-            (b"sheet.css", NONE),
-            (b"metrics.txt", FACE),
-        ],
-        CALM,
-        (0, None, b"mcol 1\n0 stack 0 0 0 6400 ", b""),
-    ),
-    (
-        PAGE,
-        &[
-            (b"document.html", (b"", b"<div style=columns:1>", 4, b"a")),
-            (b"sheet.css", NONE),
-            (b"metrics.txt", FACE),
-        ],
-        CALM,
-        (6, Some(0), b"", b"limit: nest 4 3\n"),
     ),
     (
         PAGE,
