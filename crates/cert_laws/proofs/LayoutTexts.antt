@@ -163,6 +163,12 @@ sizes-same d book (e ∷ es) a =
 abbrev row_parts : Bool → ℕ → Option ℕ → ℕ → Bool → List Range → CertEntry
 row_parts auto row available height fits ranges = cond auto (Auto row available height) (Row row available height fits ranges)
 
+-- whether a row with `column-fill: auto` fits is no part of its entry
+parts-fit : (auto : Bool) (row height : ℕ) (available : Option ℕ) (a b : Bool) (ranges : List Range) → (auto ≡ false → a ≡ b)
+    → row_parts auto row available height a ranges ≡ row_parts auto row available height b ranges
+parts-fit true row height available a b ranges same = refl
+parts-fit false row height available a b ranges same = ap (λ (fits : Bool). Row row available height fits ranges) (same refl)
+
 parts-same : (d : FlowsData) (r : LaidRow) (s : StackRow) → IsLaidRow d r s
     → entry_of_row r
     ≡ row_parts (row_of d s.row).auto s.row s.available (row_height d s.row s.available)
@@ -172,7 +178,8 @@ parts-same d r s is =
     ∙ ap (λ (n : ℕ). row_parts (row_of d s.row).auto n r.available r.height r.fits r.ranges) is.row
     ∙ ap (λ (a : Option ℕ). row_parts (row_of d s.row).auto s.row a r.height r.fits r.ranges) is.available
     ∙ ap (λ (h : ℕ). row_parts (row_of d s.row).auto s.row s.available h r.fits r.ranges) is.height
-    ∙ ap (λ (b : Bool). row_parts (row_of d s.row).auto s.row s.available (row_height d s.row s.available) b r.ranges) is.fits
+    ∙ parts-fit (row_of d s.row).auto s.row (row_height d s.row s.available) s.available r.fits
+    (balanced_fits s.available (size_of d s.row row_start)) r.ranges is.fits
     ∙ ap (λ (xs : List Range). row_parts (row_of d s.row).auto s.row s.available (row_height d s.row s.available)
     (balanced_fits s.available (size_of d s.row row_start)) xs) is.ranges
 

@@ -1,5 +1,5 @@
 -- When a book and rows are those of the layout, and what their certificate is then (this project's own).
-use Rattle.std.specs.Prelude.{◌≡◌, ◌≤◌, List, [], ◌∷◌, length, take, All}
+use Rattle.std.specs.Prelude.{◌≡◌, ◌≤◌, false, List, [], ◌∷◌, length, take, All}
 use Rattle.flow_list.specs.Data.{FlowsData}
 use Rattle.flow_data.specs.Flows.{row_of}
 use Rattle.flow_list.specs.Certificate.{Use, StackRow, rows_in_stacks, row_book, book_of, size_ranges, row_ranges}
@@ -16,13 +16,13 @@ use Rattle.cert_laws.specs.Made.{cert_made}
 abbrev pub IsSizeEntry : FlowsData → SizeEntry → Type 0
 IsSizeEntry d e = (e.height ≡ size_of d e.row e.from) × (e.ranges ≡ size_ranges d e.row e.from)
 
--- the row was laid out as it is
+-- the row was laid out as it is; of one with `column-fill: auto` the certificate doesn't say whether it fits
 pub record IsLaidRow (d : FlowsData) (r : LaidRow) (s : StackRow) : Type 0 where
   pub row : r.row ≡ s.row
   pub available : r.available ≡ s.available
   pub auto : r.auto ≡ (row_of d s.row).auto
   pub height : r.height ≡ row_height d s.row s.available
-  pub fits : r.fits ≡ balanced_fits s.available (size_of d s.row row_start)
+  pub fits : (row_of d s.row).auto ≡ false → r.fits ≡ balanced_fits s.available (size_of d s.row row_start)
   pub ranges : r.ranges ≡ row_ranges d s.row s.available
 
 -- these rows were laid out so, and before each stand the sizes of the book that the definitions have before it
