@@ -9,3 +9,4 @@ pub mod Pieces
 pub mod Reading
 pub mod Results
 pub mod Stopping
+mod Texts

@@ -1,41 +1,75 @@
-//! The result of flows: the text of their layout.
+//! The result of flows: the text of their layout and of its certificate.
 
-ghost use Rattle.std.specs.Prelude.{◌≡◌, ◌+◌, ◌++◌, ◌<◌, ◌≤◌, ◌⊎◌, length, None, IfOk, IfErr, IfSome};
+ghost use Rattle.std.specs.Prelude.{◌≡◌, ◌+◌, ◌++◌, ◌<◌, ◌≤◌, ◌⊎◌, length, codes, None, IfOk, IfErr, IfSome};
+ghost use Rattle.flow_list.specs.ResultText.{certificate_lines};
 ghost use Rattle.flow_list.specs.Tree.{tree_of};
 ghost use Rattle.flow_list.specs.TreeText.{tree_text};
+ghost use Rattle.layout_laws.specs.Certified.{IsCertified};
+ghost use Rattle.result_laws.specs.Given.{ended_lines};
 ghost use Rattle.mc_run.specs.Printed.{result_text};
 ghost use Rattle.mc_run.specs.FlowResult.{IsResult, HasLongResult};
 
+use cert_maker::cert_of;
 use container_layout::layout;
-use flow_list::{Book, Flows};
+use flow_list::{Book, Flows, Laid};
 use frag_pool::Pool;
 use frag_printer::write_tree_within;
+use height_cert::write_cert;
+use layout_laws::layouts_are_certified;
 use mc_base::{LimitName, NoMemory, Refusal, Text};
 use std::alloc::Global;
 
 /// How many bytes a result may have.
 const RESULT_LIMIT: u64 = 268_435_456;
 
-const FIRST_LINE: &[u8] = b"mcol 1\n";
+const FIRST_LINE: &[u8] = b"mcol 2\n";
 
-const LAST_LINE: &[u8] = b"end\n";
+/// The text of the certificate of a layout.
+fn certificate(alloc: Global, flows: &Flows, book: &Book, laid: &Laid) -> Result<Text, NoMemory>
+    requires { IsCertified flows.now book.now laid.now.rows }
+    ensures { IfOk result (λ text. text ≡ ended_lines (certificate_lines flows.now)) }
+{
+    let cert = cert_of(alloc, flows, book, laid)?;
+    write_cert(alloc, &cert)
+}
 
-/// The flows, laid out, as the text of their tree after `front`, or None where both have more than `most` bytes.
-fn rows_of(alloc: Global, flows: &Flows, front: Text, most: u64) -> Result<Option<Text>, NoMemory>
+/// A text with another after it, or None where both have more than `most` bytes.
+fn joined(mut front: Text, back: &Text, most: u64) -> Result<Option<Text>, NoMemory>
     requires { length front ≤ most }
-    ensures text { IfOk result (λ found. IfSome found (λ text. text ≡ front ++ tree_text (tree_of flows.now))) }
+    ensures text { IfOk result (λ found. IfSome found (λ text. text ≡ front ++ back.now)) }
     ensures short { IfOk result (λ found. IfSome found (λ text. length text ≤ most)) }
-    ensures long { IfOk result (λ found. found ≡ None → most < length (front ++ tree_text (tree_of flows.now))) }
+    ensures long { IfOk result (λ found. found ≡ None → most < length (front ++ back.now)) }
+{
+    if back.len() as u64 > most - front.len() as u64 {
+        return Ok(None);
+    }
+    front.extend(back.as_slice())?;
+    Ok(Some(front))
+}
+
+/// The flows, laid out, as the text of their tree and their certificate after `front`, or None where all have more than `most`
+/// bytes.
+fn laid_out(alloc: Global, flows: &Flows, front: Text, most: u64) -> Result<Option<Text>, NoMemory>
+    requires { length front ≤ most }
+    ensures text { IfOk result (λ found. IfSome found (λ text.
+        text ≡ (front ++ tree_text (tree_of flows.now)) ++ ended_lines (certificate_lines flows.now))) }
+    ensures short { IfOk result (λ found. IfSome found (λ text. length text ≤ most)) }
+    ensures long { IfOk result (λ found. found ≡ None →
+        most < length ((front ++ tree_text (tree_of flows.now)) ++ ended_lines (certificate_lines flows.now))) }
 {
     let mut book = Book::new(alloc);
     let mut pool = Pool::new(alloc);
     let laid = layout(alloc, flows, &mut book, &mut pool)?;
-    write_tree_within(alloc, flows, &laid, &pool, front, most)
+    layouts_are_certified();
+    let Some(tree) = write_tree_within(alloc, flows, &laid, &pool, front, most)? else {
+        return Ok(None);
+    };
+    let cert = certificate(alloc, flows, &book, &laid)?;
+    joined(tree, &cert, most)
 }
 
-/// The result of flows, or None where it is too long: then no line is put after the first that doesn't
+/// The result of flows, or None where it is too long: then no line is put after the first of the tree that doesn't
 /// fit.
-#[tactic(auto, unfolding(crate::specs::Printed::result_text))]
 fn write_result(alloc: Global, flows: &Flows) -> Result<Option<Text>, NoMemory>
     ensures text { IfOk result (λ found. IfSome found (λ text. text ≡ result_text flows.now)) }
     ensures short { IfOk result (λ found. IfSome found (λ text. length text ≤ RESULT_LIMIT)) }
@@ -43,12 +77,7 @@ fn write_result(alloc: Global, flows: &Flows) -> Result<Option<Text>, NoMemory>
 {
     let mut first = Text::new(alloc);
     first.extend(FIRST_LINE)?;
-    let most = RESULT_LIMIT - LAST_LINE.len() as u64;
-    let Some(mut text) = rows_of(alloc, flows, first, most)? else {
-        return Ok(None);
-    };
-    text.extend(LAST_LINE)?;
-    Ok(Some(text))
+    laid_out(alloc, flows, first, RESULT_LIMIT)
 }
 
 /// The result of flows, refused where it is too long.
