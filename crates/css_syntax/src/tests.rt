@@ -97,7 +97,7 @@ fn constructs_stand_at_their_bytes(rt: HostRuntime) {
         (b"@import \"x\";", 0, 0, ConstructName::AtRule),
         (b"p{} @SUPPORTS (x){q{}}", 1, 4, ConstructName::AtRule),
         (b"@media tv{p{}}", 0, 0, ConstructName::Media),
-        (b"@media(x){p{}}", 0, 0, ConstructName::Media),
+        (b"@media (x){p{}}", 0, 0, ConstructName::Media),
         (b"p:foo{}", 1, 1, ConstructName::PseudoClass),
         (b"q,p:is(a,b) x{}", 1, 3, ConstructName::PseudoClass),
         (b"p::before{}", 1, 1, ConstructName::PseudoElement),
