@@ -140,11 +140,11 @@ const FAULTS: [Case; 7] = [
     (
         "rows flow.txt",
         EMPTY,
-        (0, (1, 50), NEVER),
+        (0, (1, 69), NEVER),
         (
             3,
-            Some(50),
-            b"mcol 1\n0 stack 0 0 0 210 0\n1 row 0 0 0 0 210 0\nend",
+            Some(69),
+            b"mcol 2\n0 stack 0 0 0 210 0\n1 row 0 0 0 0 210 0\ncert\nrow 0 - 0 yes\nend",
             b"write\n",
         ),
     ),
@@ -160,8 +160,8 @@ const FAULTS: [Case; 7] = [
         (0, NEVER, (1, 5)),
         (
             0,
-            Some(51),
-            b"mcol 1\n0 stack 0 0 0 210 0\n1 row 0 0 0 0 210 0\nend\n",
+            Some(70),
+            b"mcol 2\n0 stack 0 0 0 210 0\n1 row 0 0 0 0 210 0\ncert\nrow 0 - 0 yes\nend\n",
             b"",
         ),
     ),
@@ -218,7 +218,7 @@ const PAGE_FAULTS: [Case; 5] = [
         PAGE,
         ONE_PAGE,
         (0, (1, 6), NEVER),
-        (3, Some(6), b"mcol 1", b"write\n"),
+        (3, Some(6), b"mcol 2", b"write\n"),
     ),
 ];
 
@@ -248,7 +248,7 @@ const LONG_FILES: [Case; 4] = [
         (
             0,
             Some(2_816_707),
-            b"mcol 1\n0 stack 0 0 0 3510 3125\n1 row 0 0 0 0 3510 3125\n2 col 0 0 0 100 3125\n3 atom 0 0 0 100 1\n",
+            b"mcol 2\n0 stack 0 0 0 3510 3125\n1 row 0 0 0 0 3510 3125\n2 col 0 0 0 100 3125\n3 atom 0 0 0 100 1\n",
             b"",
         ),
     ),
@@ -270,7 +270,7 @@ const PAGE_LIMITS: [Case; 16] = [
             (b"metrics.txt", FACE),
         ],
         CALM,
-        (0, None, b"mcol 1\n0 stack 0 0 0 6400 ", b""),
+        (0, None, b"mcol 2\n0 stack 0 0 0 6400 ", b""),
     ),
     (
         PAGE,
@@ -290,7 +290,7 @@ const PAGE_LIMITS: [Case; 16] = [
             (b"metrics.txt", FACE),
         ],
         CALM,
-        (0, None, b"mcol 1\n0 stack 0 0 0 6400 ", b""),
+        (0, None, b"mcol 2\n0 stack 0 0 0 6400 ", b""),
     ),
     (
         PAGE,
@@ -318,7 +318,7 @@ const PAGE_LIMITS: [Case; 16] = [
             ),
         ],
         CALM,
-        (0, None, b"mcol 1\n0 stack 0 0 0 6400 ", b""),
+        (0, None, b"mcol 2\n0 stack 0 0 0 6400 ", b""),
     ),
     (
         PAGE,
@@ -346,7 +346,7 @@ const PAGE_LIMITS: [Case; 16] = [
             (b"metrics.txt", FACE),
         ],
         CALM,
-        (0, None, b"mcol 1\n0 stack 0 0 0 6400 ", b""),
+        (0, None, b"mcol 2\n0 stack 0 0 0 6400 ", b""),
     ),
     (
         PAGE,
@@ -366,7 +366,7 @@ const PAGE_LIMITS: [Case; 16] = [
             (b"metrics.txt", FACE),
         ],
         CALM,
-        (0, None, b"mcol 1\n0 stack 0 0 0 6400 ", b""),
+        (0, None, b"mcol 2\n0 stack 0 0 0 6400 ", b""),
     ),
     (
         PAGE,
@@ -394,7 +394,7 @@ const PAGE_LIMITS: [Case; 16] = [
             (b"metrics.txt", FACE),
         ],
         CALM,
-        (0, None, b"mcol 1\n0 stack 0 0 0 6400 ", b""),
+        (0, None, b"mcol 2\n0 stack 0 0 0 6400 ", b""),
     ),
     (
         PAGE,
@@ -425,7 +425,7 @@ const PAGE_LIMITS: [Case; 16] = [
             (b"metrics.txt", FACE),
         ],
         CALM,
-        (0, None, b"mcol 1\n0 stack 0 0 0 6400 ", b""),
+        (0, None, b"mcol 2\n0 stack 0 0 0 6400 ", b""),
     ),
     (
         PAGE,
@@ -451,7 +451,7 @@ const PAGE_LIMITS: [Case; 16] = [
             (b"metrics.txt", FACE),
         ],
         CALM,
-        (0, None, b"mcol 1\n0 stack 0 0 0 6400 ", b""),
+        (0, None, b"mcol 2\n0 stack 0 0 0 6400 ", b""),
     ),
     (
         PAGE,
