@@ -247,7 +247,7 @@ const LONG_FILES: [Case; 4] = [
         CALM,
         (
             0,
-            Some(2_816_707),
+            Some(2_816_764),
             b"mcol 2\n0 stack 0 0 0 3510 3125\n1 row 0 0 0 0 3510 3125\n2 col 0 0 0 100 3125\n3 atom 0 0 0 100 1\n",
             b"",
         ),
