@@ -8,7 +8,7 @@ use Rattle.css_tokens.specs.declared.lexeme.Fault.{Fault}
 use Rattle.css_tokens.specs.declared.lexeme.Lexeme.{Lexeme}
 use Rattle.css_tokens.specs.declared.lexeme.Symbol.{Symbol}
 use Rattle.css_tokens.specs.Facts.{delim_in, is_this, is_space, is_space_in, is_delim, closer_in, closer_of, ident_in}
-use Rattle.css_tokens.specs.Facts.{function_in, broken_in}
+use Rattle.css_tokens.specs.Facts.{broken_in}
 use Rattle.css_laws.specs.Values.{Values, Nil, One, Closed, Open, written, IsWhole, closes_around, AreValues, fault_of, faults_in}
 use Rattle.css_syntax.specs.declared.at_rules.AtRule.{AtRule}
 use Rattle.css_syntax.specs.declared.at_rules.AtRule.TheVariants as kinds
@@ -36,8 +36,7 @@ use Rattle.css_syntax.proofs.SheetFaults.{in_prelude, quiet_prelude, enter, gap_
 
 pub signed_first : (c : ℕ) (y : Lexeme) (ys : List Lexeme) → is_delim c y ≡ true → rules.first_name (y ∷ ys) ≡ None
 signed_first c y ys h =
-    let e = is_symbol y c h in
-    ap (λ (o : Option (List ℕ)). rules.or_function o y) (ap ident_in e) ∙ ap function_in e
+    ap ident_in (is_symbol y c h)
 
 pub other_sign : (c d : ℕ) (y : Lexeme) → is_delim c y ≡ true → (c == d) ≡ false → is_delim d y ≡ false
 other_sign c d y h n = ap (λ (s : Symbol). is_this d (delim_in s)) (is_symbol y c h) ∙ n

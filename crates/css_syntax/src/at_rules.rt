@@ -4,7 +4,7 @@ ghost use Rattle.std.specs.Prelude.{◌≡◌};
 ghost use Rattle.std.specs.Option.{option_copied};
 ghost use Rattle.css_syntax.specs.AtRules as rules;
 
-use css_tokens::{Lexeme, function_of, ident_of, is_delim, is_in, is_word};
+use css_tokens::{Lexeme, ident_of, is_delim, is_in, is_word};
 
 /// What is done with an at-rule: it is skipped, it is `@media`, or it isn't laid out.
 #[derive(Clone, Copy)]
@@ -76,15 +76,12 @@ fn kind_of(name: &[u8]) -> AtRule
     AtRule::Other
 }
 
-/// The identifier in front, also that of a function.
+/// The identifier in front. A name directly before `(` is a function, and no identifier.
 fn first_name(lexemes: &[Lexeme]) -> Option<&[u8]>
     ensures { option_copied result ≡ rules.first_name lexemes.now }
 {
     let (first, _) = lexemes.split_first()?;
-    if let Some(name) = ident_of(first) {
-        return Some(name);
-    }
-    function_of(first)
+    ident_of(first)
 }
 
 /// The at-rule that a lexeme begins, by what stands after it.

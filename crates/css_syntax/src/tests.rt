@@ -95,9 +95,9 @@ fn faults_stand_at_their_bytes(rt: HostRuntime) {
 fn constructs_stand_at_their_bytes(rt: HostRuntime) {
     let cases: [(&[u8], usize, u64, ConstructName); 12] = [
         (b"@import \"x\";", 0, 0, ConstructName::AtRule),
-        (b"p{} @SUPPORTS(x){q{}}", 1, 4, ConstructName::AtRule),
+        (b"p{} @SUPPORTS (x){q{}}", 1, 4, ConstructName::AtRule),
         (b"@media tv{p{}}", 0, 0, ConstructName::Media),
-        (b"@media(x){p{}}", 0, 0, ConstructName::Media),
+        (b"@media (x){p{}}", 0, 0, ConstructName::Media),
         (b"p:foo{}", 1, 1, ConstructName::PseudoClass),
         (b"q,p:is(a,b) x{}", 1, 3, ConstructName::PseudoClass),
         (b"p::before{}", 1, 1, ConstructName::PseudoElement),
@@ -118,7 +118,7 @@ fn constructs_stand_at_their_bytes(rt: HostRuntime) {
 
 #[test]
 fn rules_are_kept_or_dropped(rt: HostRuntime) {
-    let cases: [(&[u8], usize); 34] = [
+    let cases: [(&[u8], usize); 35] = [
         (b"", 0),
         (b"p{}", 1),
         (b"p{}q{}", 2),
@@ -146,6 +146,7 @@ fn rules_are_kept_or_dropped(rt: HostRuntime) {
         (b"li:nth-child(){}", 0),
         (b"li:nth-child{}", 0),
         (b"@ p{}", 0),
+        (b"@supports(x){q{}}p{}", 1),
         (b"@media screen , PRINT{p{}}", 1),
         (b"@media{@media print{p{}}q{}}", 1),
         (b"@media print{@media all{p{}}}q{}", 1),
