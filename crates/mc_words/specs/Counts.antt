@@ -1,0 +1,49 @@
+-- How many words each command takes after its name.
+use Rattle.std.specs.Prelude.{ℕ, ◌==◌, Bool, true, false, if◌then◌else◌, List, [], ◌∷◌, length, Some, codes}
+use Rattle.std.specs.Str.{bytes_eq}
+use Rattle.clap.specs.Walk.{Rule, Text}
+use Rattle.clap.specs.Simple.{App, Shape, new_app, new_rule, new_shape, with_rule, with_subcommand}
+
+-- a subcommand of this name with one argument, which takes exactly this many words
+abbrev pub counted_rule : ℕ → Rule
+counted_rule count = record (new_rule (codes "words")) {
+  range = Some (record { start_inclusive = count; end_inclusive = count });
+  required = true;
+}
+
+abbrev pub counted : Text → ℕ → Shape
+counted name count = (with_rule (new_app name) (counted_rule count)).top
+
+-- the program with no subcommand yet: it wants one, the words begin with its name, and nothing answers with help
+abbrev pub program : App
+program = record {
+  top = record (new_shape (codes "mcol")) {
+    no_binary_name = true;
+    disable_help_flag = true;
+    disable_help_subcommand = true;
+    disable_version_flag = true;
+    subcommand_required = true;
+  };
+  subs = [];
+}
+
+-- the program with its commands
+abbrev pub grammar : App
+grammar =
+    with_subcommand (with_subcommand (with_subcommand (with_subcommand (with_subcommand (with_subcommand program
+    (counted (codes "rows") 1)) (counted (codes "gen") 2)) (counted (codes "trial") 2)) (counted (codes "layout") 5))
+    (counted (codes "hit") 7)) (counted (codes "draw") 6)
+
+-- the count of words is that of the command of this name
+abbrev pub is_count : Text → ℕ → Bool
+is_count name n =
+    if bytes_eq name (codes "rows") then n == 1
+    else (if bytes_eq name (codes "gen") then n == 2
+    else (if bytes_eq name (codes "trial") then n == 2
+    else (if bytes_eq name (codes "layout") then n == 5
+    else (if bytes_eq name (codes "hit") then n == 7
+    else (if bytes_eq name (codes "draw") then n == 6 else false)))))
+
+abbrev pub are_counted : List Text → Bool
+are_counted [] = false
+are_counted (name ∷ words) = is_count name (length words)
