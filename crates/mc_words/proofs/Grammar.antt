@@ -1,63 +1,83 @@
--- What clap makes of plain words.
-use Rattle.std.proofs.Common.{◌≡◌, ◌≢◌, ◌∙◌, ℕ, zero, suc, Bool, true, false, not, ◌==◌, ◌&&◌, ◌||◌, List, [], ◌∷◌, ◌++◌, length, Option, Some, None}
-use Rattle.std.proofs.Common.{refl, sym, ap, ap₂, subst, arith, codes, is_some}
-use Rattle.std.specs.Prelude.{fold, nat_lt}
+-- Which plain words clap takes, and what it makes of them.
+use Rattle.std.proofs.Common.{◌≡◌, ◌≢◌, ◌∙◌, ◌⊎◌, inl, inr, ℕ, Bool, true, false, ◌==◌, ◌||◌, List, [], ◌∷◌, ◌++◌, length, Option, Some, None}
+use Rattle.std.proofs.Common.{refl, sym, ap, subst, arith, codes, is_some, true≢false}
+use Rattle.std.proofs.lemmas.Slice.Eq.{bytes_eq-Decides}
+use Rattle.std.specs.Prelude.{find, fold, option_map, if◌then◌else◌}
 use Rattle.std.specs.List.{list_all}
+use Rattle.std.specs.Option.{option_map_or}
 use Rattle.std.specs.Str.{bytes_eq}
-use Rattle.clap.specs.Faults.{fault_of, level_fault, walk_fault, turn_fault}
-use Rattle.clap.specs.Walk.{Held, Rule, Row, Text, Walk, Waiting, idle, positional, nothing_held, walked, walk, walk_from, takes_several, is_multiple, word_met, value, rows_after}
-use Rattle.clap.specs.Simple.{App, Shape, built, built_leaf, with_index, filled, subcommand_of, rows_at}
+use Rattle.clap.specs.Faults.{fault_of, level_fault, walk_fault, turn_fault, entered_fault, settle_fault, defaults_fault, check_fault, is_simple_and_free}
+use Rattle.clap.specs.Kinds.{Kinds, or_else}
+use Rattle.clap.specs.Walk.{Names, Row, Text, Walk, nothing_held, walked, walk, walk_from, all_of, answers_to, finished, settled, rows_after}
+use Rattle.clap.specs.Simple.{App, Shape, built, entered, is_simple, label_of, names_of, subcommand_of, rows_at}
+use Rattle.clap.specs.declared.error.kind.ErrorKind.TheVariants as kind
+use Rattle.clap.proofs.FaultLemmas.{past, stopped_fault}
+use Rattle.clap.proofs.WalkLemmas.{walk_stopped}
 use Rattle.clap.proofs.OnLiterals.{clap_on_literals}
-use Rattle.clap.specs.declared.builder.action.ArgAction.TheVariants.{Set}
-use Rattle.clap.specs.declared.builder.value_parser.ValueParser.TheVariants as vp
-use Rattle.mc_words.specs.Counts.{counted, counted_rule, grammar, program, is_count, are_counted}
-use Rattle.mc_words.specs.Words.{is_plain}
+use Rattle.mc_words.specs.Counts.{grammar, program}
+use Rattle.mc_words.specs.Words.{is_plain, plain_command}
+use Rattle.mc_words.proofs.Leaves.{Judges, Holds, judges_one, judges_several, leaf}
 
--- a plain word is no option, whatever waits
-pub plain_met : (rules : List Rule) (c : ℕ) (cs : Text) (at : ℕ) (h : Held) → (c == 45) ≡ false →
-    word_met rules [] false idle at (c ∷ cs) h ≡ (h, value)
-plain_met rules c cs at h no = rw no refl
-
-pub later_met : (rules : List Rule) (c : ℕ) (cs : Text) (at : ℕ) (h : Held) → (c == 45) ≡ false →
-    word_met rules [] false positional at (c ∷ cs) h ≡ (h, value)
-later_met rules c cs at h no = rw no refl
-
--- the argument as it is built
-abbrev built_rule : ℕ → Rule
-built_rule n = record (counted_rule n) { action = Some Set; index = Some 1; parser = Some vp.String }
-
-abbrev leaf : Text → ℕ → Shape
-leaf name n = record (counted name n) {
-  rules = built_rule n ∷ [];
-  no_binary_name = true;
-  disable_help_flag = true;
-  disable_help_subcommand = true;
-  disable_version_flag = true;
-  is_built = true;
+-- the program as it is built
+abbrev made : App
+made = record {
+  top = record program.top { is_leaf = false; is_built = true };
+  subs = leaf (codes "rows") 1 ∷ leaf (codes "gen") 2 ∷ leaf (codes "trial") 2 ∷ leaf (codes "layout") 5
+      ∷ leaf (codes "hit") 7 ∷ leaf (codes "draw") 6 ∷ [];
 }
 
-leaf_is : (built grammar).subs ≡ leaf (codes "rows") 1 ∷ leaf (codes "gen") 2 ∷ leaf (codes "trial") 2 ∷ leaf (codes "layout") 5 ∷ leaf (codes "hit") 7 ∷ leaf (codes "draw") 6 ∷ []
-unfolding clap_on_literals
-leaf_is = refl
+built_is : built grammar ≡ made
+built_is = refl
 
--- where the walk stands after these words
-abbrev state : List Text → Walk
-state [] = walk_from nothing_held
-state (x ∷ xs) = record {
-  held = record { rows = []; pending = Some (codes "words", x ∷ xs); skip = 0 };
-  waiting = positional;
-  position = 1;
-  is_trailing = false;
-  stopped = None;
-}
+pub grammar_simple : is_simple grammar ≡ true
+grammar_simple = refl
 
-step_is : (n : ℕ) (seen : List Text) (c : ℕ) (cs : Text) → takes_several (built_rule n) ≡ true → (c == 45) ≡ false
-    → walked (built_rule n ∷ []) [] (state seen) (c ∷ cs) ≡ state (seen ++ (c ∷ cs) ∷ [])
-unfolding walked
-step_is n [] c cs several no = rw (no, several) refl
-step_is n (x ∷ xs) c cs several no = rw (no, several) refl
+pub grammar_free : is_simple_and_free grammar ≡ true
+grammar_free = refl
 
-turn_passes : (name : Text) (n : ℕ) (seen : List Text) (c : ℕ) (cs : Text) → takes_several (built_rule n) ≡ true → (c == 45) ≡ false
-    → turn_fault (leaf name n) [] (state seen) (c ∷ cs) ≡ []
-turn_passes name n [] c cs several no = rw (no, several) refl
-turn_passes name n (x ∷ xs) c cs several no = rw (no, several) refl
+abbrev begun : Walk
+begun = walk_from nothing_held
+
+-- the level of the program, by where the walk stands after the words
+abbrev level : List Text → Walk → Kinds
+level words w = or_else (walk_fault made.top (names_of made) begun words)
+    (or_else (entered_fault made w.stopped) (or_else (settle_fault [] false w.held)
+    (or_else (defaults_fault (settled [] w.held).rows [])
+    (check_fault made.top (finished [] w.held) (is_some (entered made w.stopped))))))
+
+fault_level : (words : List Text) → fault_of grammar words ≡ level words (walk [] (names_of made) nothing_held words)
+fault_level words = refl
+
+-- ---- the words after the name of a command
+
+abbrev stopped_at : Text → List Text → Walk
+stopped_at name words = record begun { stopped = Some (name, words) }
+
+module _ (name : Text) (n : ℕ) (step : walked [] (names_of made) begun name ≡ stopped_at name [])
+  (turn : turn_fault made.top (names_of made) begun name ≡ [])
+  (here : find (λ s. answers_to name (label_of s)) made.subs ≡ Some (leaf name n)) where
+  walk_is : (words : List Text) → walk [] (names_of made) nothing_held (name ∷ words) ≡ stopped_at name words
+  walk_is words =
+      ap (λ w. fold (walked [] (names_of made)) w words) step ∙ sym (walk_stopped [] (names_of made) begun name [] words)
+
+  walk_passes : (words : List Text) → walk_fault made.top (names_of made) begun (name ∷ words) ≡ []
+  unfolding walk_fault
+  walk_passes words =
+      past _ _ turn ∙ ap (λ w. walk_fault made.top (names_of made) w words) step
+      ∙ stopped_fault made.top (names_of made) begun (name, []) words
+
+  entered_is : (words : List Text) → entered made (Some (name, words)) ≡ Some (rows_at (leaf name n) words)
+  entered_is words = ap (λ o. option_map (λ s. rows_at s words) o) here
+
+  below_is : (words : List Text) → entered_fault made (Some (name, words)) ≡ level_fault (leaf name n) [] nothing_held words false []
+  below_is words = ap (λ o. option_map_or (λ s. level_fault s [] nothing_held words false []) o []) here
+
+  pub fault_is : (words : List Text)
+      → fault_of grammar (name ∷ words) ≡ or_else (level_fault (leaf name n) [] nothing_held words false []) []
+  unfolding defaults_fault
+  fault_is words =
+      fault_level (name ∷ words) ∙ ap (level (name ∷ words)) (walk_is words) ∙ past _ _ (walk_passes words)
+      ∙ (λ i. or_else (below_is words i) (check_fault made.top [] (is_some (entered_is words i))))
+
+  pub given_is : (words : List Text) → subcommand_of grammar (name ∷ words) ≡ Some (rows_at (leaf name n) words)
+  given_is words = ap (λ (w : Walk). entered made w.stopped) (walk_is words) ∙ entered_is words

@@ -1,3 +1,4 @@
 pub mod Grammar
+pub mod Leaves
 pub mod Lengths
 pub mod Numerals
