@@ -6,20 +6,20 @@ use Rattle.std.specs.Prelude.{find, fold, option_map, if◌then◌else◌}
 use Rattle.std.specs.List.{list_all}
 use Rattle.std.specs.Option.{option_map_or}
 use Rattle.std.specs.Str.{bytes_eq}
-use Rattle.clap.specs.Faults.{fault_of, level_fault, walk_fault, turn_fault, entered_fault, settle_fault, defaults_fault, check_fault, is_simple_and_free}
+use Rattle.clap.specs.Faults.{fault_of, other_fault, level_fault, walk_fault, turn_fault, entered_fault, settle_fault, defaults_fault, check_fault, is_simple_and_free}
 use Rattle.clap.specs.Kinds.{Kinds, or_else}
-use Rattle.clap.specs.Walk.{Names, Row, Text, Walk, nothing_held, walked, walk, walk_from, all_of, answers_to, finished, settled, rows_after}
+use Rattle.clap.specs.Walk.{Names, idle, value, subcommand_or_other, Row, Text, Walk, nothing_held, walked, walk, walk_from, all_of, answers_to, finished, settled, rows_after}
 use Rattle.clap.specs.Simple.{App, Shape, built, entered, is_simple, label_of, names_of, subcommand_of, rows_at}
 use Rattle.clap.specs.declared.error.kind.ErrorKind.TheVariants as kind
-use Rattle.clap.proofs.FaultLemmas.{past, stopped_fault}
+use Rattle.clap.proofs.FaultLemmas.{past, stopped_fault, turn_is}
 use Rattle.clap.proofs.WalkLemmas.{walk_stopped}
 use Rattle.clap.proofs.OnLiterals.{clap_on_literals}
-use Rattle.mc_words.specs.Counts.{grammar, program}
+use Rattle.mc_words.specs.Grammar.{grammar, program}
 use Rattle.mc_words.specs.Words.{is_plain, plain_command}
-use Rattle.mc_words.proofs.Leaves.{Judges, Holds, judges_one, judges_several, leaf}
+use Rattle.mc_words.proofs.Leaves.{fault_other, leaf, met_other}
 
 -- the program as it is built
-abbrev made : App
+abbrev pub made : App
 made = record {
   top = record program.top { is_leaf = false; is_built = true };
   subs = leaf (codes "rows") 1 ∷ leaf (codes "gen") 2 ∷ leaf (codes "trial") 2 ∷ leaf (codes "layout") 5
@@ -81,3 +81,29 @@ module _ (name : Text) (n : ℕ) (step : walked [] (names_of made) begun name �
 
   pub given_is : (words : List Text) → subcommand_of grammar (name ∷ words) ≡ Some (rows_at (leaf name n) words)
   given_is words = ap (λ (w : Walk). entered made w.stopped) (walk_is words) ∙ entered_is words
+
+-- ---- a first word that names no command
+
+module _ (c : ℕ) (cs : Text) (plain : (c == 45) ≡ false) (unnamed : find (answers_to (c ∷ cs)) (names_of made) ≡ None) where
+  stray : turn_fault made.top (names_of made) begun (c ∷ cs) ≡ kind.UnknownArgument ∷ kind.InvalidSubcommand ∷ []
+  stray =
+      let met = ap (λ o. subcommand_or_other [] (option_map (λ s. s.0) o) idle 1 (c ∷ cs) nothing_held) unnamed
+      ∙ met_other c cs plain [] idle 1 nothing_held in
+      let passed = ap (λ o. other_fault made.top (option_map (λ s. s.0) o) (c ∷ cs) nothing_held) unnamed
+      ∙ fault_other c cs plain made.top nothing_held in
+      sym (turn_is made.top (names_of made) begun (c ∷ cs) nothing_held value (sym met) passed)
+
+  pub stray_fault : (words : List Text) → fault_of grammar ((c ∷ cs) ∷ words) ≡ kind.UnknownArgument ∷ kind.InvalidSubcommand ∷ []
+  unfolding walk_fault
+  stray_fault words =
+      let all = (c ∷ cs) ∷ words in
+      let w = walk [] (names_of made) nothing_held all in
+      fault_level all
+      ∙ ap (λ ks. or_else (or_else ks (walk_fault made.top (names_of made) (walked [] (names_of made) begun (c ∷ cs)) words))
+      (or_else (entered_fault made w.stopped) (or_else (settle_fault [] false w.held)
+      (or_else (defaults_fault (settled [] w.held).rows [])
+      (check_fault made.top (finished [] w.held) (is_some (entered made w.stopped))))))) stray
+
+pub nothing_fault : fault_of grammar [] ≡ kind.MissingSubcommand ∷ []
+unfolding clap_on_literals
+nothing_fault = refl

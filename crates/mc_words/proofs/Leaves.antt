@@ -21,7 +21,7 @@ use Rattle.clap.specs.declared.error.kind.ErrorKind.TheVariants as kind
 use Rattle.clap.proofs.FaultLemmas.{past, turn_is}
 use Rattle.clap.proofs.SimpleLemmas.{is_false}
 use Rattle.clap.proofs.WalkLemmas.{both}
-use Rattle.mc_words.specs.Counts.{counted, counted_rule}
+use Rattle.mc_words.specs.Grammar.{counted, counted_rule}
 use Rattle.mc_words.specs.Words.{is_plain}
 
 -- ---- a command as it is built
@@ -51,7 +51,7 @@ module _ (c : ℕ) (cs : Text) (other : (c == 45) ≡ false) where
   not_short : short_of (c ∷ cs) ≡ None
   not_short = ap (λ b. option_and_then short_of_rest (if b then Some cs else None)) other
 
-  met_other : (rules : List Rule) (waiting : Waiting) (at : ℕ) (h : Held) →
+  pub met_other : (rules : List Rule) (waiting : Waiting) (at : ℕ) (h : Held) →
       (if bytes_eq (c ∷ cs) (45 ∷ 45 ∷ []) then (h, trailing at) else long_or_other rules waiting (c ∷ cs) (long_of (c ∷ cs)) h)
       ≡ short_or_plain rules waiting (c ∷ cs) None h
   met_other rules waiting at h =
@@ -65,7 +65,7 @@ module _ (c : ℕ) (cs : Text) (other : (c == 45) ≡ false) where
   pub later_met : (rules : List Rule) (at : ℕ) (h : Held) → word_met rules [] false positional at (c ∷ cs) h ≡ (h, value)
   later_met rules at h = met_other rules positional at h
 
-  fault_other : (s : Shape) (h : Held) →
+  pub fault_other : (s : Shape) (h : Held) →
       (if bytes_eq (c ∷ cs) (45 ∷ 45 ∷ []) then [] else flag_word_fault s.rules s.args_override_self (long_of (c ∷ cs)) (c ∷ cs) h) ≡ []
   fault_other s h =
       ap (λ b. if b then [] else flag_word_fault s.rules s.args_override_self (long_of (c ∷ cs)) (c ∷ cs) h) not_dashes

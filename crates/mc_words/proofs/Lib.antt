@@ -2,3 +2,4 @@ pub mod Grammar
 pub mod Leaves
 pub mod Lengths
 pub mod Numerals
+pub mod Taken

@@ -1,3 +1,4 @@
 pub mod Asked
-pub mod Counts
+pub mod Grammar
+pub mod Given
 pub mod Words

@@ -1,6 +1,5 @@
--- How many words each command takes after its name.
-use Rattle.std.specs.Prelude.{ℕ, ◌==◌, Bool, true, false, if◌then◌else◌, List, [], ◌∷◌, length, Some, codes}
-use Rattle.std.specs.Str.{bytes_eq}
+-- The command line as clap is told it: each command, and how many words it takes after its name.
+use Rattle.std.specs.Prelude.{ℕ, true, [], ◌∷◌, Some, codes}
 use Rattle.clap.specs.Walk.{Rule, Text}
 use Rattle.clap.specs.Simple.{App, Shape, new_app, new_rule, new_shape, with_rule, with_subcommand}
 
@@ -33,17 +32,3 @@ grammar =
     with_subcommand (with_subcommand (with_subcommand (with_subcommand (with_subcommand (with_subcommand program
     (counted (codes "rows") 1)) (counted (codes "gen") 2)) (counted (codes "trial") 2)) (counted (codes "layout") 5))
     (counted (codes "hit") 7)) (counted (codes "draw") 6)
-
--- the count of words is that of the command of this name
-abbrev pub is_count : Text → ℕ → Bool
-is_count name n =
-    if bytes_eq name (codes "rows") then n == 1
-    else (if bytes_eq name (codes "gen") then n == 2
-    else (if bytes_eq name (codes "trial") then n == 2
-    else (if bytes_eq name (codes "layout") then n == 5
-    else (if bytes_eq name (codes "hit") then n == 7
-    else (if bytes_eq name (codes "draw") then n == 6 else false)))))
-
-abbrev pub are_counted : List Text → Bool
-are_counted [] = false
-are_counted (name ∷ words) = is_count name (length words)
