@@ -1,21 +1,17 @@
 -- Which plain words clap takes, and what it makes of them.
-use Rattle.std.proofs.Common.{◌≡◌, ◌≢◌, ◌∙◌, ◌⊎◌, inl, inr, ℕ, Bool, true, false, ◌==◌, ◌||◌, List, [], ◌∷◌, ◌++◌, length, Option, Some, None}
-use Rattle.std.proofs.Common.{refl, sym, ap, subst, arith, codes, is_some, true≢false}
-use Rattle.std.proofs.lemmas.Slice.Eq.{bytes_eq-Decides}
-use Rattle.std.specs.Prelude.{find, fold, option_map, if◌then◌else◌}
-use Rattle.std.specs.List.{list_all}
+use Rattle.std.proofs.Common.{◌≡◌, ◌∙◌, ℕ, true, false, ◌==◌, List, [], ◌∷◌, Some, None}
+use Rattle.std.proofs.Common.{refl, sym, ap, codes, is_some}
+use Rattle.std.specs.Prelude.{find, fold, option_map}
 use Rattle.std.specs.Option.{option_map_or}
-use Rattle.std.specs.Str.{bytes_eq}
 use Rattle.clap.specs.Faults.{fault_of, other_fault, level_fault, walk_fault, turn_fault, entered_fault, settle_fault, defaults_fault, check_fault, is_simple_and_free}
 use Rattle.clap.specs.Kinds.{Kinds, or_else}
-use Rattle.clap.specs.Walk.{Names, idle, value, subcommand_or_other, Row, Text, Walk, nothing_held, walked, walk, walk_from, all_of, answers_to, finished, settled, rows_after}
-use Rattle.clap.specs.Simple.{App, Shape, built, entered, is_simple, label_of, names_of, subcommand_of, rows_at}
+use Rattle.clap.specs.Walk.{idle, value, subcommand_or_other, Text, Walk, nothing_held, walked, walk, walk_from, answers_to, finished, settled}
+use Rattle.clap.specs.Simple.{App, built, entered, is_simple, label_of, names_of, subcommand_of, rows_at}
 use Rattle.clap.specs.declared.error.kind.ErrorKind.TheVariants as kind
 use Rattle.clap.proofs.FaultLemmas.{past, stopped_fault, turn_is}
 use Rattle.clap.proofs.WalkLemmas.{walk_stopped}
 use Rattle.clap.proofs.OnLiterals.{clap_on_literals}
 use Rattle.mc_words.specs.Grammar.{grammar, program}
-use Rattle.mc_words.specs.Words.{is_plain, plain_command}
 use Rattle.mc_words.proofs.Leaves.{fault_other, leaf, met_other}
 
 -- the program as it is built
@@ -54,8 +50,8 @@ abbrev stopped_at : Text → List Text → Walk
 stopped_at name words = record begun { stopped = Some (name, words) }
 
 module _ (name : Text) (n : ℕ) (step : walked [] (names_of made) begun name ≡ stopped_at name [])
-  (turn : turn_fault made.top (names_of made) begun name ≡ [])
-  (here : find (λ s. answers_to name (label_of s)) made.subs ≡ Some (leaf name n)) where
+    (turn : turn_fault made.top (names_of made) begun name ≡ [])
+    (here : find (λ s. answers_to name (label_of s)) made.subs ≡ Some (leaf name n)) where
   walk_is : (words : List Text) → walk [] (names_of made) nothing_held (name ∷ words) ≡ stopped_at name words
   walk_is words =
       ap (λ w. fold (walked [] (names_of made)) w words) step ∙ sym (walk_stopped [] (names_of made) begun name [] words)

@@ -1,5 +1,5 @@
 -- What clap makes of the words after the name of a command, all of them plain.
-use Rattle.std.proofs.Common.{◌≡◌, ◌≢◌, ◌∙◌, ℕ, Bool, true, false, not, ◌==◌, ◌&&◌, ◌||◌, List, [], ◌∷◌, ◌++◌, length, min, Option, Some, None}
+use Rattle.std.proofs.Common.{◌≡◌, ◌≢◌, ◌∙◌, ℕ, Bool, true, false, not, ◌==◌, ◌&&◌, ◌||◌, List, [], ◌∷◌, ◌++◌, length, min, Some, None}
 use Rattle.std.proofs.Common.{refl, sym, ap, ap₂, subst, arith, codes, true≢false, append_assoc}
 use Rattle.std.proofs.lemmas.List.{append-nil}
 use Rattle.std.proofs.lemmas.Bool.{ne_eqb}
@@ -7,8 +7,8 @@ use Rattle.std.specs.Prelude.{fold, nat_lt, if◌then◌else◌, option_and_then
 use Rattle.std.specs.List.{list_all}
 use Rattle.std.specs.Option.{option_map_or}
 use Rattle.std.specs.Str.{bytes_eq}
-use Rattle.clap.specs.Faults.{level_fault, walk_fault, turn_fault, word_fault, step_fault, flag_word_fault, bundle_fault, settle_fault}
-use Rattle.clap.specs.Faults.{defaults_fault, check_fault, use_fault, positional_fault}
+use Rattle.clap.specs.Faults.{level_fault, walk_fault, turn_fault, word_fault, flag_word_fault, bundle_fault, settle_fault}
+use Rattle.clap.specs.Faults.{defaults_fault, check_fault, use_fault}
 use Rattle.clap.specs.Kinds.{Kinds, or_else, range_kinds, values_kinds}
 use Rattle.clap.specs.Lexer.{long_of, long_of_rest, short_of, short_of_rest, strip_byte, usize_max}
 use Rattle.clap.specs.Walk.{Held, Rule, Step, Text, Walk, Waiting, idle, positional, nothing_held, trailing, value, walked, walk, walk_from}
@@ -212,7 +212,7 @@ pub record Judges (name : Text) (n : ℕ) (words : List Text) : Type 0 where
 
 -- a count of two or more
 module _ (name : Text) (n : ℕ) (several : takes_several (built_rule n) ≡ true) (same : (n == n) ≡ true)
-  (whole : or_else (range_kinds n n n) [] ≡ []) (some : n ≢ 0) where
+    (whole : or_else (range_kinds n n n) [] ≡ []) (some : n ≢ 0) where
   several_right : (words : List Text) → list_all is_plain words ≡ true → length words ≡ n
       → (level_fault (leaf name n) [] nothing_held words false [] ≡ []) × Holds name n words
   several_right [] plain is = absurd (some (sym is))

@@ -3,17 +3,25 @@ use Rattle.std.proofs.Common.{◌≡◌, ◌≢◌, ◌∙◌, ◌⊎◌, inl, i
 use Rattle.std.proofs.Common.{refl, sym, ap, subst, arith, codes, true≢false}
 use Rattle.std.proofs.lemmas.Bool.Decides.{eqb_tells}
 use Rattle.std.proofs.lemmas.Slice.Eq.{bytes_eq-Decides}
-use Rattle.std.specs.Prelude.{find, if◌then◌else◌}
+use Rattle.std.proofs.Common.{Global}
+use Rattle.std.specs.Box.{box_value}
+use Rattle.std.specs.Prelude.{Box, String, find, if◌then◌else◌, map, option_map, string_bytes, ◌&&◌}
 use Rattle.std.specs.List.{list_all}
 use Rattle.std.specs.Str.{bytes_eq}
 use Rattle.clap.specs.Faults.{fault_of, level_fault}
 use Rattle.clap.specs.Kinds.{Kinds, or_else}
-use Rattle.clap.specs.Walk.{Row, Text, all_of, answers_to, nothing_held, rows_after}
-use Rattle.clap.specs.Simple.{names_of, rows_at, subcommand_of}
+use Rattle.clap.specs.Matches.{found_of, matched_of, raw_values, subcommand_name_of}
+use Rattle.clap.specs.Walk.{Row, Text, all_of, answers_to, nothing_held, rows_after, rows_of}
+use Rattle.clap.specs.Simple.{names_of, rows_at, subcommand_of, subcommand_rows, subcommand_rows_of}
+use Rattle.clap.specs.declared.parser.matches.ArgMatches.{ArgMatches}
+use Rattle.clap.specs.declared.parser.matches.ArgMatches.TheViews.{out-ArgMatches, out-SubCommand}
+use Rattle.clap.specs.declared.parser.matches.Found.{Found}
+use Rattle.clap.specs.declared.parser.matches.SubCommand.{SubCommand}
+use Rattle.clap.proofs.WalkLemmas.{raw_values-rows}
 use Rattle.clap.specs.declared.error.kind.ErrorKind.TheVariants as kind
 use Rattle.clap.proofs.OnLiterals.{clap_on_literals}
 use Rattle.mc_words.specs.Grammar.{grammar}
-use Rattle.mc_words.specs.Words.{Command, is_plain, command_named, draw_of, gen_of, hit_of, layout_of, plain_command, rows_of, trial_of}
+use Rattle.mc_words.specs.Words.{Command, is_plain, command_named, command_of, draw_of, gen_of, hit_of, layout_of, plain_command, trial_of, rows_of as flow_of}
 use Rattle.mc_words.specs.Given.{Gives}
 use Rattle.mc_words.proofs.Grammar.{fault_is, given_is, made, nothing_fault, stray_fault}
 use Rattle.mc_words.proofs.Leaves.{Judges, judges_one, judges_several, leaf, plain_head}
@@ -29,7 +37,7 @@ IsJudged name words = ((fault_of grammar (name ∷ words) ≡ []) × Gives (subc
 abbrev Wants : (List Text → Option Command) → ℕ → Type 0
 Wants command n = (words : List Text) → length words ≢ n → command words ≡ None
 
-rows_wants : Wants rows_of 1
+rows_wants : Wants flow_of 1
 rows_wants [] apart = refl
 rows_wants (a ∷ []) apart = absurd (apart refl)
 rows_wants (a ∷ b ∷ words) apart = refl
@@ -149,7 +157,7 @@ by_name name words own here plain next = go (bytes_eq name own) refl
 
 abbrev picked : (a b c d e f : Bool) (words : List Text) → Option Command
 picked a b c d e f words =
-    if a then rows_of words else (if b then gen_of words else (if c then trial_of words
+    if a then flow_of words else (if b then gen_of words else (if c then trial_of words
     else (if d then layout_of words else (if e then hit_of words else (if f then draw_of words else None)))))
 
 abbrev found : (a b c d e f : Bool) → Option (Text × List Text)
@@ -184,3 +192,82 @@ words_judged (c ∷ cs) words plain =
     by_name name words (codes "hit") hit_judged parts.1 (λ e5.
     by_name name words (codes "draw") draw_judged parts.1 (λ e6.
     unnamed c cs words parts.0 e1 e2 e3 e4 e5 e6))))))
+
+-- words with no fault are what their command says
+pub plain_ok : (words : List Text) → list_all is_plain words ≡ true → fault_of grammar words ≡ []
+    → (given : Option (Text × List Row)) → given ≡ subcommand_of grammar words → (o : Option Command)
+    → ((name : Text) → (rest : List Text) → Gives given name rest → o ≡ command_named name rest) → o ≡ plain_command words
+plain_ok [] plain none given same o says =
+    let bad : kind.MissingSubcommand ∷ [] ≡ [] = sym nothing_fault ∙ none in cc
+plain_ok (name ∷ words) plain none given same o says = go (words_judged name words plain)
+  where
+    go : IsJudged name words → o ≡ command_named name words
+    go (inl taken) = says name words (subst (λ g. Gives g name words) (sym same) taken.1)
+    go (inr other) = absurd (other.0 none)
+
+-- and words with a fault are no command
+pub plain_err : (words : List Text) → list_all is_plain words ≡ true → fault_of grammar words ≢ []
+    → plain_command words ≡ None
+plain_err [] plain some = refl
+plain_err (name ∷ words) plain some = go (words_judged name words plain)
+  where
+    go : IsJudged name words → command_named name words ≡ None
+    go (inl taken) = absurd (some taken.0)
+    go (inr other) = other.1
+
+-- ---- what a parse found
+
+module _ {Z : Type 0} where
+  name_given : (sub : Option (Box SubCommand Z)) (name : Text) (rows : List Row) → subcommand_rows sub ≡ Some (name, rows)
+      → option_map (λ b. (out-SubCommand (box_value b)).name.now) sub ≡ Some name
+  name_given None name rows e = absurd cc
+  name_given (Some b) name rows e =
+      let same : Some ((out-SubCommand (box_value b)).name.now, rows_of (found_of (out-SubCommand (box_value b)).matches)) ≡ Some (name, rows) = e in
+      ap (λ o. option_map (λ (p : Text × List Row). p.0) o) same
+
+some_same : {X : Type 0} (x y : X) → Some x ≡ Some y → x ≡ y
+some_same x y e = cc
+
+pub given_same : (m : ArgMatches) (name : Text) (words : List Text) (n : Text) (found : Found) (ws : List Text)
+    → Gives (subcommand_rows_of m) name words → Some n ≡ subcommand_name_of m
+    → Some (rows_of found) ≡ option_map (λ p. p.1) (subcommand_rows_of m)
+    → Some ws ≡ option_map raw_values (matched_of found (codes "words")) → (n ≡ name) × (ws ≡ words)
+given_same m name words n found ws gives named rows values =
+    let its_rows : rows_of found ≡ gives.0 =
+    some_same (rows_of found) gives.0 (rows ∙ ap (λ o. option_map (λ (p : Text × List Row). p.1) o) gives.1) in (
+      some_same n name (named ∙ name_given (out-ArgMatches m).subcommand name gives.0 gives.1),
+      some_same ws words
+          (values ∙ raw_values-rows found (codes "words") ∙ ap (λ r. all_of (codes "words") r) its_rows ∙ gives.2),
+    )
+
+pub given_some : (m : ArgMatches) (name : Text) (words : List Text) (found : Found) → Gives (subcommand_rows_of m) name words
+    → Some (rows_of found) ≡ option_map (λ p. p.1) (subcommand_rows_of m)
+    → None ≡ option_map raw_values (matched_of found (codes "words")) → ⊥
+given_some m name words found gives rows values =
+    let its_rows : rows_of found ≡ gives.0 =
+    some_same (rows_of found) gives.0 (rows ∙ ap (λ o. option_map (λ (p : Text × List Row). p.1) o) gives.1) in
+    let bad : None ≡ Some words =
+    values ∙ raw_values-rows found (codes "words") ∙ ap (λ r. all_of (codes "words") r) its_rows ∙ gives.2 in
+    cc
+
+-- ---- plain words
+
+each_plain : (words : List (String Global)) → list_all (λ word. is_plain (string_bytes word)) words ≡ list_all is_plain (map string_bytes words)
+each_plain [] = refl
+each_plain (word ∷ words) = ap (λ b. is_plain (string_bytes word) && b) (each_plain words)
+
+pub all_plain : (words : List (String Global)) → list_all (λ word. is_plain (string_bytes word)) words ≡ true
+    → list_all is_plain (map string_bytes words) ≡ true
+all_plain words plain = sym (each_plain words) ∙ plain
+
+pub not_taken : (words : List (String Global)) → list_all (λ word. is_plain (string_bytes word)) words ≡ false
+    → command_of (map string_bytes words) ≡ None
+not_taken words other =
+    ap (λ b. if b then plain_command (map string_bytes words) else None) (sym (each_plain words) ∙ other)
+
+pub is_plain_command : (words : List (String Global)) → list_all (λ word. is_plain (string_bytes word)) words ≡ true
+    → command_of (map string_bytes words) ≡ plain_command (map string_bytes words)
+is_plain_command words plain =
+    ap (λ b. if b then plain_command (map string_bytes words) else None) (sym (each_plain words) ∙ plain)
+
+pub ruleset word_lemmas = (all_plain, not_taken, is_plain_command)

@@ -1,5 +1,5 @@
 -- What a command of the program asks for.
-use Rattle.std.specs.Prelude.{ℕ, ◌^◌, ◌<◌, ⊤}
+use Rattle.std.specs.Prelude.{◌^◌, ◌<◌, ⊤}
 use Rattle.mc_words.specs.declared.command.Command.{Command as Held}
 use Rattle.mc_words.specs.declared.command.Command.TheVariants.{Rows, Gen, Trial, Layout, Hit, Draw}
 use Rattle.mc_words.specs.declared.command.Page.{Page as HeldPage}

@@ -1,5 +1,5 @@
 -- The command line as clap is told it: each command, and how many words it takes after its name.
-use Rattle.std.specs.Prelude.{ℕ, true, [], ◌∷◌, Some, codes}
+use Rattle.std.specs.Prelude.{ℕ, true, [], Some, codes}
 use Rattle.clap.specs.Walk.{Rule, Text}
 use Rattle.clap.specs.Simple.{App, Shape, new_app, new_rule, new_shape, with_rule, with_subcommand}
 

@@ -37,7 +37,7 @@ fn is_plain(word: &str) -> bool
 }
 
 fn are_plain(words: &[String]) -> bool
-    ensures { result ≡ list_all stated.is_plain (map string_bytes words.now) }
+    ensures { result ≡ list_all (λ word. stated.is_plain (string_bytes word)) words.now }
 {
     words.iter().all(|word| is_plain(word.as_str()))
 }
@@ -45,6 +45,7 @@ fn are_plain(words: &[String]) -> bool
 /// What the words after the program's name ask for.
 ///
 /// The command that `specs/Words.antt` says comes with `Ok`, and `Refused` only where there is none.
+#[tactic(auto, using(crate::proofs::Taken::word_lemmas))]
 pub fn read_words<'a>(alloc: Global, words: &'a [String]) -> Result<Command<'a>, WordsFault>
     ensures ok { IfOk result (λ command. command_of (map string_bytes words.now) ≡ Some (asked command)) }
     ensures narrow { IfOk result IsNarrow }

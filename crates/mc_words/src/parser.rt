@@ -99,13 +99,17 @@ fn given_command<'a>(matches: &ArgMatches<'a>) -> Option<Command<'a>>
 }
 
 /// What plain words ask for.
+#[tactic(auto, using(crate::proofs::Taken::plain_err))]
 pub fn read_plain<'a>(alloc: Global, words: &'a [String]) -> Result<Command<'a>, WordsFault>
     requires { list_all is_plain (map string_bytes words.now) ≡ true }
     ensures ok { IfOk result (λ command. plain_command (map string_bytes words.now) ≡ Some (asked command)) }
     ensures narrow { IfOk result IsNarrow }
     ensures err { IfErr result (λ fault. fault ≡ WordsFault.Refused → plain_command (map string_bytes words.now) ≡ None) }
 {
-    let matches = parse(alloc, words)?;
+    let matches = match parse(alloc, words) {
+        Ok(matches) => matches,
+        Err(fault) => return Err(fault),
+    };
     match given_command(&matches) {
         Some(command) => Ok(command),
         None => Err(WordsFault::Refused),
