@@ -13,7 +13,7 @@ counted_rule count = record (new_rule (codes "words")) {
 abbrev pub counted : Text → ℕ → Shape
 counted name count = (with_rule (new_app name) (counted_rule count)).top
 
--- the program with no subcommand yet: it wants one, the words begin with its name, and nothing answers with help
+-- the program with no subcommand yet: it wants one, its own name is none of the words, and nothing answers with help
 abbrev pub program : App
 program = record {
   top = record (new_shape (codes "mcol")) {
