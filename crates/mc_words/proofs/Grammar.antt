@@ -3,9 +3,11 @@ use Rattle.std.proofs.Common.{◌≡◌, ◌∙◌, ℕ, true, false, ◌==◌, 
 use Rattle.std.proofs.Common.{refl, sym, ap, codes, is_some}
 use Rattle.std.specs.Prelude.{find, fold, option_map}
 use Rattle.std.specs.Option.{option_map_or}
-use Rattle.clap.specs.Faults.{fault_of, other_fault, level_fault, walk_fault, turn_fault, entered_fault, settle_fault, defaults_fault, check_fault, is_simple_and_free}
+use Rattle.clap.specs.Faults.{fault_of, other_fault, level_fault, walk_fault, turn_fault, entered_fault, settle_fault}
+use Rattle.clap.specs.Faults.{defaults_fault, check_fault, is_simple_and_free}
 use Rattle.clap.specs.Kinds.{Kinds, or_else}
-use Rattle.clap.specs.Walk.{idle, value, subcommand_or_other, Text, Walk, nothing_held, walked, walk, walk_from, answers_to, finished, settled}
+use Rattle.clap.specs.Walk.{idle, value, subcommand_or_other, Text, Walk, nothing_held, walked, walk, walk_from, answers_to}
+use Rattle.clap.specs.Walk.{finished, settled}
 use Rattle.clap.specs.Simple.{App, built, entered, is_simple, label_of, names_of, subcommand_of, rows_at}
 use Rattle.clap.specs.declared.error.kind.ErrorKind.TheVariants as kind
 use Rattle.clap.proofs.FaultLemmas.{past, stopped_fault, turn_is}
@@ -65,7 +67,8 @@ module _ (name : Text) (n : ℕ) (step : walked [] (names_of made) begun name �
   entered_is : (words : List Text) → entered made (Some (name, words)) ≡ Some (rows_at (leaf name n) words)
   entered_is words = ap (λ o. option_map (λ s. rows_at s words) o) here
 
-  below_is : (words : List Text) → entered_fault made (Some (name, words)) ≡ level_fault (leaf name n) [] nothing_held words false []
+  below_is : (words : List Text)
+      → entered_fault made (Some (name, words)) ≡ level_fault (leaf name n) [] nothing_held words false []
   below_is words = ap (λ o. option_map_or (λ s. level_fault s [] nothing_held words false []) o []) here
 
   pub fault_is : (words : List Text)

@@ -1,5 +1,6 @@
 -- What clap makes of the words after the name of a command, all of them plain.
-use Rattle.std.proofs.Common.{◌≡◌, ◌≢◌, ◌∙◌, ℕ, Bool, true, false, not, ◌==◌, ◌&&◌, ◌||◌, List, [], ◌∷◌, ◌++◌, length, min, Some, None}
+use Rattle.std.proofs.Common.{◌≡◌, ◌≢◌, ◌∙◌, ℕ, Bool, true, false, not, ◌==◌, ◌&&◌, ◌||◌, List, [], ◌∷◌, ◌++◌, length, min}
+use Rattle.std.proofs.Common.{Some, None}
 use Rattle.std.proofs.Common.{refl, sym, ap, ap₂, subst, arith, codes, true≢false, append_assoc}
 use Rattle.std.proofs.lemmas.List.{append-nil}
 use Rattle.std.proofs.lemmas.Bool.{ne_eqb}
@@ -11,7 +12,8 @@ use Rattle.clap.specs.Faults.{level_fault, walk_fault, turn_fault, word_fault, f
 use Rattle.clap.specs.Faults.{defaults_fault, check_fault, use_fault}
 use Rattle.clap.specs.Kinds.{Kinds, or_else, range_kinds, values_kinds}
 use Rattle.clap.specs.Lexer.{long_of, long_of_rest, short_of, short_of_rest, strip_byte, usize_max}
-use Rattle.clap.specs.Walk.{Held, Rule, Step, Text, Walk, Waiting, idle, positional, nothing_held, trailing, value, walked, walk, walk_from}
+use Rattle.clap.specs.Walk.{Held, Rule, Step, Text, Walk, Waiting, idle, positional, nothing_held, trailing, value, walked}
+use Rattle.clap.specs.Walk.{walk, walk_from}
 use Rattle.clap.specs.Walk.{after_step, all_of, finished, is_pending, long_or_other, pushed, rows_after, settled, short_or_plain}
 use Rattle.clap.specs.Walk.{takes_several, word_met}
 use Rattle.clap.specs.Simple.{Shape}
@@ -66,7 +68,8 @@ module _ (c : ℕ) (cs : Text) (other : (c == 45) ≡ false) where
   later_met rules at h = met_other rules positional at h
 
   pub fault_other : (s : Shape) (h : Held) →
-      (if bytes_eq (c ∷ cs) (45 ∷ 45 ∷ []) then [] else flag_word_fault s.rules s.args_override_self (long_of (c ∷ cs)) (c ∷ cs) h) ≡ []
+      (if bytes_eq (c ∷ cs) (45 ∷ 45 ∷ []) then []
+      else flag_word_fault s.rules s.args_override_self (long_of (c ∷ cs)) (c ∷ cs) h) ≡ []
   fault_other s h =
       ap (λ b. if b then [] else flag_word_fault s.rules s.args_override_self (long_of (c ∷ cs)) (c ∷ cs) h) not_dashes
       ∙ ap (λ o. flag_word_fault s.rules s.args_override_self o (c ∷ cs) h) not_long
@@ -100,7 +103,8 @@ state (x ∷ xs) = record {
 -- the walk after one more word, by whether the command takes several
 abbrev went : ℕ → Held → Text → Bool → Walk
 went n h word several = record {
-  held = pushed (codes "words") word (if is_pending (built_rule n) h.pending && several then h else settled (built_rule n ∷ []) h);
+  held = pushed (codes "words") word
+      (if is_pending (built_rule n) h.pending && several then h else settled (built_rule n ∷ []) h);
   waiting = if several || false then positional else idle;
   position = if several || false then 1 else min 2 usize_max;
   is_trailing = false;
@@ -124,7 +128,8 @@ module _ (name : Text) (n : ℕ) (several : takes_several (built_rule n) ≡ tru
       → turn_fault (leaf name n) [] (state seen) (c ∷ cs) ≡ []
   turn_passes [] c cs other =
       sym
-      (turn_is (leaf name n) [] (state []) (c ∷ cs) nothing_held value (sym (idle_met c cs other (built_rule n ∷ []) 1 nothing_held))
+      (turn_is (leaf name n) [] (state []) (c ∷ cs) nothing_held value
+      (sym (idle_met c cs other (built_rule n ∷ []) 1 nothing_held))
       (idle_fault c cs other (leaf name n) nothing_held))
   turn_passes (x ∷ xs) c cs other =
       sym
@@ -314,7 +319,8 @@ one_wrong name ((c ∷ cs) ∷ (d ∷ ds) ∷ words) plain apart none =
     let here = plain_head c cs ((d ∷ ds) ∷ words) plain in
     let next = plain_head d ds words here.1 in
     let walk_is = first_word name c cs ((d ∷ ds) ∷ words) here.0 ∙ next_word name (c ∷ cs) d ds words next.0 in
-    let bad : kind.UnknownArgument ∷ [] ≡ [] = sym (ap (λ ks. or_else ks (end_after ((c ∷ cs) ∷ (d ∷ ds) ∷ words))) walk_is) ∙ none in
+    let bad : kind.UnknownArgument ∷ [] ≡ [] =
+    sym (ap (λ ks. or_else ks (end_after ((c ∷ cs) ∷ (d ∷ ds) ∷ words))) walk_is) ∙ none in
     cc
   where
     end_after : List Text → Kinds

@@ -1,5 +1,6 @@
 -- The words that clap takes are those that may be a command, and of others no command comes.
-use Rattle.std.proofs.Common.{◌≡◌, ◌≢◌, ◌∙◌, ◌⊎◌, inl, inr, ℕ, Bool, true, false, ◌==◌, ◌||◌, List, [], ◌∷◌, length, Option, Some, None}
+use Rattle.std.proofs.Common.{◌≡◌, ◌≢◌, ◌∙◌, ◌⊎◌, inl, inr, ℕ, Bool, true, false, ◌==◌, ◌||◌, List, [], ◌∷◌, length, Option}
+use Rattle.std.proofs.Common.{Some, None}
 use Rattle.std.proofs.Common.{refl, sym, ap, subst, arith, codes, true≢false}
 use Rattle.std.proofs.lemmas.Bool.Decides.{eqb_tells}
 use Rattle.std.proofs.lemmas.Slice.Eq.{bytes_eq-Decides}
@@ -21,7 +22,8 @@ use Rattle.clap.proofs.WalkLemmas.{raw_values-rows}
 use Rattle.clap.specs.declared.error.kind.ErrorKind.TheVariants as kind
 use Rattle.clap.proofs.OnLiterals.{clap_on_literals}
 use Rattle.mc_words.specs.Grammar.{grammar}
-use Rattle.mc_words.specs.Words.{Command, is_plain, command_named, command_of, draw_of, gen_of, hit_of, layout_of, plain_command, trial_of, rows_of as flow_of}
+use Rattle.mc_words.specs.Words.{Command, is_plain, command_named, command_of, draw_of, gen_of, hit_of, layout_of}
+use Rattle.mc_words.specs.Words.{plain_command, trial_of, rows_of as flow_of}
 use Rattle.mc_words.specs.Given.{Gives}
 use Rattle.mc_words.proofs.Grammar.{fault_is, given_is, made, nothing_fault, stray_fault}
 use Rattle.mc_words.proofs.Leaves.{Judges, judges_one, judges_several, leaf, plain_head}
@@ -95,7 +97,8 @@ judged name n words judges fault given wants = go (eqb_tells (length words) n)
     alone [] e = refl
     alone (k ∷ ks) e = e
 
-    go : (((length words == n) ≡ true) × (length words ≡ n)) ⊎ (((length words == n) ≡ false) × (length words ≢ n)) → IsJudged name words
+    go : (((length words == n) ≡ true) × (length words ≡ n)) ⊎ (((length words == n) ≡ false) × (length words ≢ n))
+        → IsJudged name words
     go (inl whole) =
         let right = judges.right whole.1 in
         inl (fault ∙ ap (λ ks. or_else ks []) right.0, (rows_after (leaf name n).rules [] words, given, right.1))
@@ -147,7 +150,8 @@ other_way a b apart = go (bytes_eq b a) refl
     go true e = absurd (true≢false (sym ((bytes_eq-Decides a b).1 (sym ((bytes_eq-Decides b a).0 e))) ∙ apart))
     go false e = e
 
-by_name : (name : Text) (words : List Text) (own : Text) → ((words : List Text) → list_all is_plain words ≡ true → IsJudged own words)
+by_name : (name : Text) (words : List Text) (own : Text)
+    → ((words : List Text) → list_all is_plain words ≡ true → IsJudged own words)
     → list_all is_plain words ≡ true → (bytes_eq name own ≡ false → IsJudged name words) → IsJudged name words
 by_name name words own here plain next = go (bytes_eq name own) refl
   where
@@ -176,7 +180,8 @@ unnamed c cs words plain e1 e2 e3 e4 e5 e6 =
     λ i. found (other_way name (codes "rows") e1 i) (other_way name (codes "gen") e2 i) (other_way name (codes "trial") e3 i)
     (other_way name (codes "layout") e4 i) (other_way name (codes "hit") e5 i) (other_way name (codes "draw") e6 i) in
     inr (
-      λ ok. let bad : kind.UnknownArgument ∷ kind.InvalidSubcommand ∷ [] ≡ [] = sym (stray_fault c cs plain none words) ∙ ok in cc,
+      λ ok. let bad : kind.UnknownArgument ∷ kind.InvalidSubcommand ∷ [] ≡ [] =
+          sym (stray_fault c cs plain none words) ∙ ok in cc,
       λ i. picked (e1 i) (e2 i) (e3 i) (e4 i) (e5 i) (e6 i) words,
     )
 
@@ -222,7 +227,8 @@ module _ {Z : Type 0} where
       → option_map (λ b. (out-SubCommand (box_value b)).name.now) sub ≡ Some name
   name_given None name rows e = absurd cc
   name_given (Some b) name rows e =
-      let same : Some ((out-SubCommand (box_value b)).name.now, rows_of (found_of (out-SubCommand (box_value b)).matches)) ≡ Some (name, rows) = e in
+      let sub = out-SubCommand (box_value b) in
+      let same : Some (sub.name.now, rows_of (found_of sub.matches)) ≡ Some (name, rows) = e in
       ap (λ o. option_map (λ (p : Text × List Row). p.0) o) same
 
 some_same : {X : Type 0} (x y : X) → Some x ≡ Some y → x ≡ y
@@ -252,7 +258,8 @@ given_some m name words found gives rows values =
 
 -- ---- plain words
 
-each_plain : (words : List (String Global)) → list_all (λ word. is_plain (string_bytes word)) words ≡ list_all is_plain (map string_bytes words)
+each_plain : (words : List (String Global))
+    → list_all (λ word. is_plain (string_bytes word)) words ≡ list_all is_plain (map string_bytes words)
 each_plain [] = refl
 each_plain (word ∷ words) = ap (λ b. is_plain (string_bytes word) && b) (each_plain words)
 

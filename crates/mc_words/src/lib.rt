@@ -13,6 +13,8 @@ ghost use Rattle.mc_words.specs.Words.{command_of};
 mod command;
 mod numbers;
 mod parser;
+#[cfg(test)]
+mod tests;
 
 pub use command::{Command, Page};
 use parser::read_plain;
