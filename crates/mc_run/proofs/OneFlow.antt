@@ -20,6 +20,7 @@ use Rattle.flow_text.proofs.Unique.{one_file}
 use Rattle.flow_list.specs.Data.{FlowsData}
 use Rattle.flow_list.specs.FileFlows.{IsFile, RefusesText, flows_of, limit_of}
 use Rattle.mc_run.specs.FlowResult.{FlowSays, IsNoFlowFile, IsFlowResult, HasLongResult, RefusesBytes}
+use Rattle.mc_run.specs.Printed.{result_text}
 use Rattle.mc_run.proofs.Results.{short_or_long}
 
 abbrev read_as : List Line → Result (List Line) Fault
@@ -137,5 +138,5 @@ result_or_refusal bytes text (Construct input offset name) (d, says, is, short) 
 result_or_refusal bytes text (Limit name reached limit) (d, says, is, short) (inl refused) =
     let none = no_limit bytes d refused.0 says refused.1 in let some = refused.2 in absurd cc
 result_or_refusal bytes text (Limit name reached limit) (d, says, is, short) (inr long) =
-    short_or_long (FlowSays bytes) text (Limit name reached limit) (flow_same bytes) (d, says, is, short) long
+    short_or_long result_text (FlowSays bytes) text (Limit name reached limit) (flow_same bytes) (d, says, is, short) long
 result_or_refusal bytes text NoMemory (d, says, is, short) refused = refused

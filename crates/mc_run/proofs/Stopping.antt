@@ -7,11 +7,14 @@ use Rattle.mc_base.specs.declared.refusal.LimitName.TheVariants.{Paragraphs}
 use Rattle.mc_base.specs.declared.refusal.Refusal.TheVariants.{Limit, NoMemory}
 use Rattle.mc_run.specs.declared.stop.Stop.{Stop}
 use Rattle.mc_run.specs.declared.stop.Stop.TheVariants.{Usage, Read, Write, Refused}
-use Rattle.mc_run.specs.FlowResult.{IsFlowResult, RefusesBytes}
+use Rattle.mc_run.specs.FlowResult.{IsFlowResult, RefusesBytes, IsPageView, RefusesPageView}
+use Rattle.mc_run.specs.Viewed.{view_text, page_command}
+use Rattle.mc_run.specs.declared.pages.View.{View}
+use Rattle.mc_run.specs.declared.pages.View.TheVariants.{Tree, Point, Drawing}
 use Rattle.mc_run.specs.Inputs.{AreHeld, AreShort, HasFault, IsTooLong, OnlyThese, byte_limit, page_texts, reads}
 use Rattle.mc_run.specs.Outcome.{Gives, IsCause, Denies, Yields}
 use Rattle.mc_run.specs.Reading.{IsReadCause, IsReadingCause, IsContent}
-use Rattle.mc_words.specs.Words.{Command, Page, rows, gen, layout}
+use Rattle.mc_words.specs.Words.{Command, Page, rows, gen}
 use Rattle.mc_run.proofs.Reading.{long_bytes, texts}
 
 -- ---- a flow file
@@ -94,9 +97,50 @@ module _ (command : Command) (page : Page) (same : page_texts page ≡ reads com
         ),
       )
 
-pub layout_unread : (page : Page) (held : List ℕ → Option (List ℕ)) (before now : List ℕ → ℕ) (stop : Stop)
-    → IsReadingCause (page_texts page) held before now stop → IsCause (Some (layout page)) held before now 0 0 stop
-layout_unread page held before now stop cause = page_unread (layout page) page refl held before now stop cause
+page_reads : (view : View) (page : Page) → page_texts page ≡ reads (page_command view page)
+page_reads Tree page = refl
+page_reads (Point x y) page = refl
+page_reads (Drawing rule) page = refl
+
+view_yields : (view : View) (page : Page) (d s m text : List ℕ)
+    → IsPageView (view_text view) d s m page.width page.height text → Yields (page_command view page) (texts d s m) text
+view_yields Tree page d s m text is = is
+view_yields (Point x y) page d s m text is = is
+view_yields (Drawing rule) page d s m text is = is
+
+view_denies : (view : View) (page : Page) (d s m : List ℕ) (refusal : Refusal)
+    → RefusesPageView (view_text view) d s m page.width page.height refusal
+    → Denies (page_command view page) (texts d s m) refusal
+view_denies Tree page d s m refusal is = is
+view_denies (Point x y) page d s m refusal is = is
+view_denies (Drawing rule) page d s m refusal is = is
+
+pub view_unread : (view : View) (page : Page) (held : List ℕ → Option (List ℕ)) (before now : List ℕ → ℕ) (stop : Stop)
+    → IsReadingCause (page_texts page) held before now stop → IsCause (Some (page_command view page)) held before now 0 0 stop
+view_unread view page held before now stop cause =
+    page_unread (page_command view page) page (page_reads view page) held before now stop cause
+
+pub view_alone : (view : View) (page : Page) (before now : List ℕ → ℕ) → OnlyThese before now (page_texts page)
+    → OnlyThese before now (reads (page_command view page))
+view_alone view page before now others = subst (λ inputs. OnlyThese before now inputs) (page_reads view page) others
+
+pub view_result : (view : View) (page : Page) (held : List ℕ → Option (List ℕ)) (d s m text : List ℕ)
+    → AreContents page.document page.sheet page.metrics held d s m
+    → IsPageView (view_text view) d s m page.width page.height text → Gives (Some (page_command view page)) held text
+view_result view page held d s m text are is =
+    page_text (page_command view page) page (page_reads view page) held d s m text are (view_yields view page d s m text is)
+
+pub view_refused : (view : View) (page : Page) (held : List ℕ → Option (List ℕ)) (before now : List ℕ → ℕ)
+    (d s m : List ℕ) (refusal : Refusal) → AreContents page.document page.sheet page.metrics held d s m
+    → (refusal ≡ NoMemory) ⊎ RefusesPageView (view_text view) d s m page.width page.height refusal
+    → IsCause (Some (page_command view page)) held before now 0 0 (Refused refusal)
+view_refused view page held before now d s m refusal are why =
+    page_refused (page_command view page) page (page_reads view page) held before now d s m refusal are (go why)
+  where
+    go : (refusal ≡ NoMemory) ⊎ RefusesPageView (view_text view) d s m page.width page.height refusal
+        → (refusal ≡ NoMemory) ⊎ Denies (page_command view page) (texts d s m) refusal
+    go (inl none) = inl none
+    go (inr is) = inr (view_denies view page d s m refusal is)
 
 -- ---- a generated document
 
@@ -122,4 +166,4 @@ pub gen_reason : (start count : ℕ) (refusal : Refusal) → (count ≤ 5000 →
     → (refusal ≡ NoMemory) ⊎ Denies (gen start count) (λ _. []) refusal
 gen_reason start count refusal memory limit = reason_by start count refusal memory limit (cases_lt 5000 count)
 
-pub ruleset flow_lemmas = (flow_unread, flow_alone, layout_unread)
+pub ruleset flow_lemmas = (flow_unread, flow_alone, view_unread, view_alone)

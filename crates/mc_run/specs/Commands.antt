@@ -8,8 +8,8 @@ built (rows flow) = Some (rows flow)
 built (gen start count) = Some (gen start count)
 built (trial start count) = None
 built (layout page) = Some (layout page)
-built (hit page x y) = None
-built (draw page rule) = None
+built (hit page x y) = Some (hit page x y)
+built (draw page rule) = Some (draw page rule)
 
 -- what the words after the program's name ask for
 abbrev pub command_of : List (List ℕ) → Option Command

@@ -4,26 +4,20 @@ use Rattle.doc_flows.specs.Documents.{DocumentSays, RefusesDocument}
 use Rattle.flow_text.specs.Grammar.{FlowFile}
 use Rattle.flow_list.specs.Data.{FlowsData}
 use Rattle.flow_list.specs.FileFlows.{IsFile, RefusesText, flows_of, limit_of}
-use Rattle.mc_base.specs.declared.refusal.LimitName.TheVariants.{Result as ResultBytes}
 use Rattle.mc_base.specs.declared.refusal.Refusal.{Refusal}
 use Rattle.mc_base.specs.declared.refusal.Refusal.TheVariants.{Grammar, Construct, Limit, NoMemory}
+use Rattle.page_views.specs.Shown.{IsView, HasLongView}
 use Rattle.mc_run.specs.Printed.{result_text}
-
--- how many bytes a result may have
-abbrev pub result_limit : ℕ
-result_limit = 268435456
 
 -- ---- flows that an input says
 
 -- this text is the result of flows that are said
 abbrev pub IsResult : (FlowsData → Type 0) → List ℕ → Type 0
-IsResult Says text = (d : FlowsData) × Says d × (text ≡ result_text d) × (length text ≤ result_limit)
+IsResult Says text = IsView result_text Says text
 
 -- what says flows is refused since the text that is their result has more bytes than a result may have
 abbrev pub HasLongResult : (FlowsData → Type 0) → Refusal → Type 0
-HasLongResult Says refusal =
-    ((d : FlowsData) × Says d × (result_limit < length (result_text d)))
-    × (refusal ≡ Limit ResultBytes (result_limit + 1) result_limit)
+HasLongResult Says refusal = HasLongView result_text Says refusal
 
 -- ---- a flow file
 
@@ -50,11 +44,15 @@ RefusesBytes bytes NoMemory = ⊥
 
 -- ---- a document
 
--- this text is the result of a document with this sheet and these metrics, laid out this wide and with this available height
-abbrev pub IsDocumentResult : (document sheet metrics : List ℕ) (width : ℕ) (height : Option ℕ) → List ℕ → Type 0
-IsDocumentResult document sheet metrics width height text = IsResult (DocumentSays document sheet metrics width height) text
+-- this text is what a view shows of a document with this sheet and these metrics, laid out this wide and with this available
+-- height
+abbrev pub IsPageView : (view : FlowsData → List ℕ) (document sheet metrics : List ℕ) (width : ℕ) (height : Option ℕ)
+    → List ℕ → Type 0
+IsPageView view document sheet metrics width height text = IsView view (DocumentSays document sheet metrics width height) text
 
--- it is refused for this reason: the first by the order of the rules, or its result is too long
-abbrev pub RefusesTexts : (document sheet metrics : List ℕ) (width : ℕ) (height : Option ℕ) → Refusal → Type 0
-RefusesTexts document sheet metrics width height refusal = RefusesDocument document sheet metrics width height refusal
-    ⊎ HasLongResult (DocumentSays document sheet metrics width height) refusal
+-- it is refused for this reason: the first by the order of the rules, or what the view shows is too long
+abbrev pub RefusesPageView : (view : FlowsData → List ℕ) (document sheet metrics : List ℕ) (width : ℕ) (height : Option ℕ)
+    → Refusal → Type 0
+RefusesPageView view document sheet metrics width height refusal =
+    RefusesDocument document sheet metrics width height refusal
+    ⊎ HasLongView view (DocumentSays document sheet metrics width height) refusal

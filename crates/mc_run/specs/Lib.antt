@@ -6,3 +6,4 @@ pub mod Printed
 pub mod Reading
 pub mod Stops
 pub mod Told
+pub mod Viewed

@@ -10,7 +10,9 @@ use Rattle.mc_base.specs.declared.refusal.Refusal.{Refusal}
 use Rattle.mc_base.specs.declared.refusal.Refusal.TheVariants.{Limit, NoMemory}
 use Rattle.mc_run.specs.declared.stop.Stop.{Stop}
 use Rattle.mc_run.specs.declared.stop.Stop.TheVariants.{Usage, Read, Write, Refused}
-use Rattle.mc_run.specs.FlowResult.{IsFlowResult, RefusesBytes, IsDocumentResult, RefusesTexts}
+use Rattle.mc_run.specs.FlowResult.{IsFlowResult, RefusesBytes, IsPageView, RefusesPageView}
+use Rattle.mc_run.specs.Printed.{result_text}
+use Rattle.page_views.specs.Views.{hit_text, draw_text}
 use Rattle.mc_run.specs.Inputs.{Contents, reads, inputs_of, AreHeld, AreTold, AreShort, IsTooLong, HasFault}
 use Rattle.mc_words.specs.Words.{Command, rows, gen, trial, layout, hit, draw}
 
@@ -22,9 +24,11 @@ Yields (rows flow) contents text = IsFlowResult (contents Flow) text
 Yields (gen start count) contents text = (count ≤ 5000) × (text ≡ document start count)
 Yields (trial start count) contents text = ⊥
 Yields (layout page) contents text =
-    IsDocumentResult (contents Document) (contents Sheet) (contents Metrics) page.width page.height text
-Yields (hit page x y) contents text = ⊥
-Yields (draw page rule) contents text = ⊥
+    IsPageView result_text (contents Document) (contents Sheet) (contents Metrics) page.width page.height text
+Yields (hit page x y) contents text =
+    IsPageView (hit_text x y) (contents Document) (contents Sheet) (contents Metrics) page.width page.height text
+Yields (draw page rule) contents text =
+    IsPageView (draw_text rule) (contents Document) (contents Sheet) (contents Metrics) page.width page.height text
 
 -- a command whose inputs hold this, none of them too long, is refused for this reason
 abbrev pub Denies : Command → Contents → Refusal → Type 0
@@ -32,9 +36,11 @@ Denies (rows flow) contents refusal = RefusesBytes (contents Flow) refusal
 Denies (gen start count) contents refusal = (5000 < count) × (refusal ≡ Limit Paragraphs 5001 5000)
 Denies (trial start count) contents refusal = ⊥
 Denies (layout page) contents refusal =
-    RefusesTexts (contents Document) (contents Sheet) (contents Metrics) page.width page.height refusal
-Denies (hit page x y) contents refusal = ⊥
-Denies (draw page rule) contents refusal = ⊥
+    RefusesPageView result_text (contents Document) (contents Sheet) (contents Metrics) page.width page.height refusal
+Denies (hit page x y) contents refusal =
+    RefusesPageView (hit_text x y) (contents Document) (contents Sheet) (contents Metrics) page.width page.height refusal
+Denies (draw page rule) contents refusal =
+    RefusesPageView (draw_text rule) (contents Document) (contents Sheet) (contents Metrics) page.width page.height refusal
 
 -- ---- all commands
 

@@ -5,11 +5,12 @@ ghost use Rattle.mc_run.specs.Inputs.{reads, inputs_of, OnlyThese};
 ghost use Rattle.mc_base.specs.declared.refusal.Refusal.TheVariants.{NoMemory};
 ghost use Rattle.mc_run.specs.Commands.{built, command_of};
 ghost use Rattle.mc_words.specs.Asked.{asked, page_asked, IsNarrow};
-ghost use Rattle.mc_words.specs.Words.{rows, gen, layout};
+ghost use Rattle.mc_words.specs.Words.{rows, gen};
+ghost use Rattle.mc_run.specs.Viewed.{page_command};
 ghost use Rattle.mc_run.specs.Outcome.{Gives, IsCause, GetsResult, GetsPart};
 
 use crate::inputs::{read_input, read_texts};
-use crate::pages::page_result;
+use crate::pages::{View, page_result};
 use crate::rows::rows_result;
 use crate::stop::Stop;
 use doc_gen::generate;
@@ -45,18 +46,23 @@ fn answer_gen(alloc: Global, start: u64, count: u32) -> Result<Text, Stop>
     }
 }
 
-/// The result of a document. Its inputs are all read before any is judged.
+/// What is shown of a document that is laid out. Its inputs are all read before any is judged.
 #[tactic(auto, using(crate::proofs::Stopping::flow_lemmas))]
-fn answer_layout<F: Files>(alloc: Global, page: Page<'_>, files: &mut F) -> Result<Text, Stop>
+fn answer_page<F: Files>(
+    alloc: Global,
+    page: Page<'_>,
+    view: View,
+    files: &mut F,
+) -> Result<Text, Stop>
     requires { page.width < 2 ^ 60 }
     ensures content { (other : List ℕ) → F.held files.new other ≡ F.held files.old other }
-    ensures others { OnlyThese (F.faults files.old) (F.faults files.new) (reads (layout (page_asked page.entry))) }
-    ensures ok { IfOk result (Gives (Some (layout (page_asked page.entry))) (F.held files.old)) }
-    ensures err { IfErr result (IsCause (Some (layout (page_asked page.entry))) (F.held files.old)
+    ensures others { OnlyThese (F.faults files.old) (F.faults files.new) (reads (page_command view (page_asked page.entry))) }
+    ensures ok { IfOk result (Gives (Some (page_command view (page_asked page.entry))) (F.held files.old)) }
+    ensures err { IfErr result (IsCause (Some (page_command view (page_asked page.entry))) (F.held files.old)
         (F.faults files.old) (F.faults files.new) 0 0) }
 {
     let texts = read_texts(alloc, files, page)?;
-    match page_result(alloc, &texts, page.width, page.height) {
+    match page_result(alloc, &texts, page.width, page.height, view) {
         Ok(text) => Ok(text),
         Err(refusal) => Err(Stop::Refused { refusal }),
     }
@@ -74,8 +80,10 @@ fn result_of<F: Files>(alloc: Global, command: Command<'_>, files: &mut F) -> Re
     match command {
         Command::Rows { flow } => answer_rows(alloc, flow, files),
         Command::Gen { start, count } => answer_gen(alloc, start, count),
-        Command::Layout { page } => answer_layout(alloc, page, files),
-        Command::Trial { .. } | Command::Hit { .. } | Command::Draw { .. } => Err(Stop::Usage),
+        Command::Layout { page } => answer_page(alloc, page, View::Tree, files),
+        Command::Hit { page, x, y } => answer_page(alloc, page, View::Point { x, y }, files),
+        Command::Draw { page, rule } => answer_page(alloc, page, View::Drawing { rule }, files),
+        Command::Trial { .. } => Err(Stop::Usage),
     }
 }
 

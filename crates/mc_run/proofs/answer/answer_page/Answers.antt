@@ -1,13 +1,11 @@
--- The bytes that were read are those of the three inputs, and their result is the command's.
-use Rattle.std.proofs.Common.{refl}
+-- The bytes that were read are those of the three inputs, and what is shown of them is the command's result.
 use Rattle.mc_words.specs.Asked.{page_asked}
-use Rattle.mc_words.specs.Words.{layout}
-use Rattle.mc_run.proofs.Stopping.{page_text, page_refused}
-use Rattle.mc_run.proofs.answer.answer_layout.Goals as goal
+use Rattle.mc_run.proofs.Stopping.{view_result, view_refused}
+use Rattle.mc_run.proofs.answer.answer_page.Goals as goal
 
 pub returns-in-Ok-clause-ok : goal.returns-in-Ok-clause-ok
 returns-in-Ok-clause-ok g c =
-    page_text (layout (page_asked c.args.page)) (page_asked c.args.page) refl
+    view_result c.args.view (page_asked c.args.page)
     (g.F.Files.held c.args.files.now) c.in_ok-texts.texts.document.items c.in_ok-texts.texts.sheet.items
     c.in_ok-texts.texts.metrics.items c.in-Ok.text
     (record {
@@ -18,7 +16,7 @@ returns-in-Ok-clause-ok g c =
 
 pub returns-clause-err : goal.returns-clause-err
 returns-clause-err g c =
-    page_refused (layout (page_asked c.args.page)) (page_asked c.args.page) refl
+    view_refused c.args.view (page_asked c.args.page)
     (g.F.Files.held c.args.files.now) (g.F.Files.faults c.args.files.now) (g.F.Files.faults c.read_texts.new.files)
     c.in_ok-texts.texts.document.items c.in_ok-texts.texts.sheet.items c.in_ok-texts.texts.metrics.items c.in-Err.refusal
     (record {
