@@ -7,9 +7,11 @@
 #![tactic(auto)]
 
 mod band;
+mod cover;
 mod fill;
 mod index;
 mod mark;
+mod nearest;
 mod point;
 
 pub use index::Index;

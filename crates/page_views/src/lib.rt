@@ -6,6 +6,8 @@
 //! has more bytes than a result may have.
 #![tactic(auto)]
 
+mod lines;
+mod limit;
 mod point;
 mod drawing;
 mod summary;
