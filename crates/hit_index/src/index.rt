@@ -9,8 +9,8 @@ ghost use Rattle.hit_index.specs.Scan.{path_up, mark_of};
 ghost use Rattle.tree_lines.specs.Lines.{lines_of};
 
 use crate::band::{Band, hit_in};
-use crate::fill::{Filling, empty, with_mark};
 use crate::cover::{held_between, holders, put_covered};
+use crate::fill::{Filling, empty, with_mark};
 use crate::mark::{Mark, mark_of};
 use crate::nearest::nearest;
 use crate::point::{later, meets};

@@ -27,12 +27,7 @@ const RIGHT: Rect = Rect {
     h: 2560,
 };
 
-fn put(
-    lines: &mut List<TreeLine>,
-    depth: u32,
-    kind: TreeKind,
-    rect: Rect,
-) -> Result<(), NoMemory> {
+fn put(lines: &mut List<TreeLine>, depth: u32, kind: TreeKind, rect: Rect) -> Result<(), NoMemory> {
     lines.push(TreeLine { depth, kind, rect })?;
     Ok(())
 }
@@ -123,7 +118,10 @@ fn leaves_within_have_a_point_in_common(rt: HostRuntime) -> Result<(), Fail> {
         w: 1538,
         h: 1,
     };
-    assert_eq!(rt; index.within(rt.alloc(), across)?.as_slice(), [7, 11].as_slice());
+    assert_eq!(rt;
+        index.within(rt.alloc(), across)?.as_slice(),
+        [7, 11].as_slice()
+    );
     let between = Rect {
         x: 4608,
         y: 0,
@@ -151,7 +149,10 @@ fn leaves_are_covered_by_column(rt: HostRuntime) -> Result<(), Fail> {
             h: 1280,
         },
     ];
-    assert_eq!(rt; index.cover(rt.alloc(), 8, 11)?.as_slice(), last_and_first.as_slice());
+    assert_eq!(rt;
+        index.cover(rt.alloc(), 8, 11)?.as_slice(),
+        last_and_first.as_slice()
+    );
     let both = [Rect {
         x: 6144,
         y: 0,

@@ -1,5 +1,5 @@
 -- What stands first in a tree, how items add up, and that columns are counted among lines as they are kept.
-use Rattle.std.proofs.Common.{◌≡◌, ℕ, zero, suc, ◌+◌, ◌*◌, ◌^◌, ◌<◌, ◌≤◌, List, [], ◌∷◌, All, length, take, get_or, cond, refl, sym, ap}
+use Rattle.std.proofs.Common.{◌≡◌, ℕ, zero, suc, ◌+◌, ◌^◌, ◌<◌, List, [], ◌∷◌, length, take, get_or, cond, refl, sym, ap}
 use Rattle.std.proofs.Common.{◌∙◌, arith, sum_by}
 use Rattle.std.specs.Prelude.{count_by}
 use Rattle.std.proofs.lemmas.List.Sums.{sum_by-cons, sum_by-le, sum_by_more_le}
@@ -37,7 +37,7 @@ pub items_fit : (d : FlowsData) → IsSound d → (f : ℕ) → f < length d.flo
     → sum_by (λ (g : Flow). length g.items) (take f d.flows) + length (get_or d.flows f no_flow).items < 2 ^ 64
 items_fit d sound f known =
     let most = sum_by-le (λ (g : Flow). length g.items) (2 ^ 32) d.flows (λ k g h.
-        let few = (sound.flows k g h).count in omega (arith, few)) in
+    let few = (sound.flows k g h).count in omega (arith, few)) in
     let part = sum_by_more_le (λ (g : Flow). length g.items) d.flows f no_flow known in
     let flows = sound.flow_count in
     omega (arith, most, part, flows)

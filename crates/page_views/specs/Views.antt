@@ -1,5 +1,5 @@
 -- What is shown of flows that are laid out, as text: what stands at a point, a drawing, or counts (this project's own).
-use Rattle.std.specs.Prelude.{◌≡◌, ℕ, ◌+◌, ◌<◌, ◌≤◌, List, [], ◌∷◌, ◌++◌, map, codes, length, Option, Some, None, slice_get}
+use Rattle.std.specs.Prelude.{ℕ, List, [], ◌++◌, map, codes, length, Option, Some, None, slice_get}
 use Rattle.std.specs.Prelude.{Bool, true, false, flat_map, sum_by, count_by}
 use Rattle.std.specs.Fmt.{decimal}
 use Rattle.flow_list.specs.Data.{Flow, FlowsData}

@@ -6,10 +6,10 @@
 //! has more bytes than a result may have.
 #![tactic(auto)]
 
-mod lines;
-mod limit;
-mod point;
 mod drawing;
+mod limit;
+mod lines;
+mod point;
 mod summary;
 
 pub use drawing::draw_result;

@@ -31,11 +31,7 @@ fn put_numbered(
 }
 
 /// The text of the lines with these numbers.
-fn numbered_text(
-    alloc: Global,
-    lines: &[TreeLine],
-    numbers: &[u64],
-) -> Result<Text, NoMemory>
+fn numbered_text(alloc: Global, lines: &[TreeLine], numbers: &[u64]) -> Result<Text, NoMemory>
     ensures { IfOk result (λ text. text ≡ numbered_text (lines_of lines.now) numbers.now) }
 {
     let mut text = Text::new(alloc);
@@ -46,12 +42,7 @@ fn numbered_text(
 }
 
 /// The text of the lines of a tree at a point.
-fn point_text(
-    alloc: Global,
-    lines: &List<TreeLine>,
-    x: Units,
-    y: Units,
-) -> Result<Text, NoMemory>
+fn point_text(alloc: Global, lines: &List<TreeLine>, x: Units, y: Units) -> Result<Text, NoMemory>
     ensures { IfOk result (λ text. text ≡ leaf_text (lines_of lines.now) (hit (map mark_of (lines_of lines.now)) x y)) }
 {
     let index = Index::of(alloc, lines)?;

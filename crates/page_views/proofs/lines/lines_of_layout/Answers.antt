@@ -1,4 +1,3 @@
-use Rattle.std.proofs.Common.{◌∙◌}
 use Rattle.page_views.proofs.Counted.{first_is_stack}
 use Rattle.page_views.proofs.lines.lines_of_layout.Goals as goal
 
