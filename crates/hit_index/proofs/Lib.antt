@@ -1,3 +1,4 @@
 pub mod Best
 pub mod Filled
 pub mod Made
+pub mod Known

@@ -1,3 +1,4 @@
 pub mod Bands
+pub mod Cover
 pub mod Filling
 pub mod Scan

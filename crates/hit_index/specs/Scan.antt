@@ -19,9 +19,25 @@ is_leaf (void owner) = true
 is_leaf (image owner) = true
 is_leaf (atom item) = true
 
+-- leaves are covered by the column or the stack that they stand in
+abbrev pub is_holder : TreeKind → Bool
+is_holder (stack number) = true
+is_holder (row number from) = false
+is_holder (col index) = true
+is_holder (box owner starts ends) = false
+is_holder (line owner index) = false
+is_holder (void owner) = false
+is_holder (image owner) = false
+is_holder (atom item) = false
+
 -- what an index keeps of a line
 abbrev pub mark_of : TreeLine → Mark
-mark_of l = record { depth = l.depth; leaf = is_leaf l.kind; rect = record { x = l.x; y = l.y; w = l.w; h = l.h } }
+mark_of l = record {
+  depth = l.depth;
+  leaf = is_leaf l.kind;
+  holder = is_holder l.kind;
+  rect = record { x = l.x; y = l.y; w = l.w; h = l.h };
+}
 
 -- the leaves among these lines, with their numbers; the first line has number n
 abbrev pub leaves_from : ℕ → List Mark → List Leaf
@@ -68,7 +84,7 @@ abbrev pub within : List Mark → Rect → List ℕ
 within marks r = numbers_of (filter (λ (l : Leaf). meets l.rect r) (leaves_of marks))
 
 abbrev pub no_mark : Mark
-no_mark = record { depth = 0; leaf = false; rect = record { x = 0; y = 0; w = 0; h = 0 } }
+no_mark = record { depth = 0; leaf = false; holder = false; rect = record { x = 0; y = 0; w = 0; h = 0 } }
 
 -- how deep line n stands
 abbrev pub depth_of : List Mark → ℕ → ℕ

@@ -1,15 +1,18 @@
 //! The index.
 
-ghost use Rattle.std.specs.Prelude.{◌≡◌, ◌<◌, ◌++◌, length, map, IfOk, OnOk};
+ghost use Rattle.std.specs.Prelude.{◌≡◌, ◌<◌, ◌++◌, length, map, IfOk, IfSome, OnOk};
 ghost use Rattle.hit_index.specs.Bands.{IsBand, best};
 ghost use Rattle.hit_index.specs.Filling.{IsFilled};
 ghost use Rattle.hit_index.specs.Scan as scan;
-ghost use Rattle.hit_index.specs.Scan.{nearest, path_up, mark_of};
+ghost use Rattle.hit_index.specs.Cover as scan_cover;
+ghost use Rattle.hit_index.specs.Scan.{path_up, mark_of};
 ghost use Rattle.tree_lines.specs.Lines.{lines_of};
 
 use crate::band::{Band, hit_in};
+use crate::cover::{held_between, holders, put_covered};
 use crate::fill::{Filling, empty, with_mark};
 use crate::mark::{Mark, mark_of};
+use crate::nearest::nearest;
 use crate::point::{later, meets};
 use mc_base::{List, NoMemory, Rect, Units};
 use std::alloc::Global;
@@ -33,22 +36,6 @@ impl Model for Index {
     ghost view = { λ i. i.marks };
 
     ghost invariant = { λ i. IsIndexed i.marks i.bands };
-}
-
-/// The nearest line before line `n` with this depth, or line 0.
-fn nearest(marks: &[Mark], n: usize, depth: u32) -> usize
-    requires { n < length marks.now }
-    ensures same { result ≡ nearest marks.now n depth }
-    ensures known { result < length marks.now }
-{
-    let mut before = n;
-    'back: while before > 0 {
-        before -= 1;
-        if marks[before].depth == depth {
-            return before;
-        }
-    }
-    0
 }
 
 /// Adds the path to line `n`, which has this depth.
@@ -85,7 +72,8 @@ impl Index {
     /// The last leaf whose rectangle holds a point, a place in units from the document's top left; none where no leaf does.
     /// It takes no memory.
     pub fn hit(&self, x: Units, y: Units) -> Option<u64>
-        ensures { result ≡ scan.hit self.now x y }
+        ensures same { result ≡ scan.hit self.now x y }
+        ensures known { IfSome result (λ leaf. leaf < length self.now) }
     {
         let mut found = None;
         for band in self.bands.as_slice() {
@@ -119,5 +107,18 @@ impl Index {
             }
         }
         Ok(leaves)
+    }
+
+    /// For each column or stack that holds leaves with numbers from `from` through `to`, in the order of the first such leaf, the
+    /// least rectangle that holds all of those leaves. A leaf without area has its place too. The error is out of memory, also
+    /// where 64 bits have no number for an edge.
+    pub fn cover(&self, alloc: Global, from: u64, to: u64) -> Result<List<Rect>, NoMemory>
+        ensures { IfOk result (λ rects. rects ≡ scan_cover.cover self.now from to) }
+    {
+        let held = held_between(alloc, self.marks.as_slice(), from, to)?;
+        let holders = holders(alloc, held.as_slice())?;
+        let mut rects = List::new(alloc);
+        put_covered(&mut rects, held.as_slice(), holders.as_slice())?;
+        Ok(rects)
     }
 }

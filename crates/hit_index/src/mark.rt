@@ -1,17 +1,18 @@
 //! What an index keeps of a tree's lines.
 
 ghost use Rattle.std.specs.Prelude.{◌≡◌};
-ghost use Rattle.hit_index.specs.Scan.{is_leaf, mark_of};
+ghost use Rattle.hit_index.specs.Scan.{is_holder, is_leaf, mark_of};
 ghost use Rattle.tree_lines.specs.Lines.{kind_of, line_of};
 
 use mc_base::Rect;
 use tree_lines::{TreeKind, TreeLine};
 
-/// What is kept of a line: how deep it stands, whether it is a leaf, and its rectangle.
+/// What is kept of a line: how deep it stands, whether it is a leaf, whether it is a column or a stack, and its rectangle.
 #[derive(Clone, Copy)]
 pub struct Mark {
     pub depth: u32,
     pub leaf: bool,
+    pub holder: bool,
     pub rect: Rect,
 }
 
@@ -38,6 +39,22 @@ fn is_leaf(kind: &TreeKind) -> bool
     }
 }
 
+/// Whether a line is a column or a stack.
+fn is_holder(kind: &TreeKind) -> bool
+    ensures { result ≡ is_holder (kind_of kind.now) }
+{
+    match kind {
+        TreeKind::Stack { .. } => true,
+        TreeKind::Row { .. } => false,
+        TreeKind::Col { .. } => true,
+        TreeKind::Piece { .. } => false,
+        TreeKind::Line { .. } => false,
+        TreeKind::Void { .. } => false,
+        TreeKind::Image { .. } => false,
+        TreeKind::Atom { .. } => false,
+    }
+}
+
 /// What is kept of this line.
 pub fn mark_of(line: &TreeLine) -> Mark
     ensures { result ≡ mark_of (line_of line.now) }
@@ -45,6 +62,7 @@ pub fn mark_of(line: &TreeLine) -> Mark
     Mark {
         depth: line.depth,
         leaf: is_leaf(&line.kind),
+        holder: is_holder(&line.kind),
         rect: line.rect,
     }
 }

@@ -1,6 +1,6 @@
 -- What is shown of flows that are laid out, as text: what stands at a point, a drawing, or counts (this project's own).
-use Rattle.std.specs.Prelude.{◌≡◌, ℕ, ◌+◌, ◌<◌, ◌≤◌, List, [], ◌∷◌, ◌++◌, map, codes, length, Option, Some, None, slice_get}
-use Rattle.std.specs.Prelude.{flat_map, sum_by}
+use Rattle.std.specs.Prelude.{ℕ, List, [], ◌++◌, map, codes, length, Option, Some, None, slice_get}
+use Rattle.std.specs.Prelude.{Bool, true, false, flat_map, sum_by, count_by}
 use Rattle.std.specs.Fmt.{decimal}
 use Rattle.flow_list.specs.Data.{Flow, FlowsData}
 use Rattle.flow_list.specs.Stacks.{stack_height}
@@ -40,27 +40,30 @@ draw_text rule d = drawing_text (drawing_of d rule (tree_of d))
 abbrev pub items_in : FlowsData → ℕ
 items_in d = sum_by (λ (f : Flow). length f.items) d.flows
 
--- one for a column
-abbrev pub column_count : TreeKind → ℕ
-column_count (stack number) = 0
-column_count (row number from) = 0
-column_count (col index) = 1
-column_count (box owner starts ends) = 0
-column_count (line owner index) = 0
-column_count (void owner) = 0
-column_count (image owner) = 0
-column_count (atom item) = 0
+abbrev pub is_column : TreeKind → Bool
+is_column (stack number) = false
+is_column (row number from) = false
+is_column (col index) = true
+is_column (box owner starts ends) = false
+is_column (line owner index) = false
+is_column (void owner) = false
+is_column (image owner) = false
+is_column (atom item) = false
 
 -- how many columns the tree has
 abbrev pub columns_in : List TreeLine → ℕ
-columns_in lines = sum_by (λ (l : TreeLine). column_count l.kind) lines
+columns_in lines = count_by (λ (l : TreeLine). is_column l.kind) lines
 
 -- a word and a number
 abbrev pub counted : List ℕ → ℕ → List ℕ
 counted word n = word ++ decimal n
 
+-- these counts on a line
+abbrev pub counts_text : (elements items columns height : ℕ) → List ℕ
+counts_text elements items columns height =
+    counted (codes "elements ") elements ++ (counted (codes " items ") items ++ (counted (codes " columns ") columns
+    ++ (counted (codes " height ") height ++ codes "\n")))
+
 -- how many elements the document has, items all flows, and columns the tree, and how high stack 0 is
 unfoldable pub summary_text : (elements : ℕ) → FlowsData → List ℕ
-summary_text elements d =
-    counted (codes "elements ") elements ++ (counted (codes " items ") (items_in d)
-    ++ (counted (codes " columns ") (columns_in (tree_of d)) ++ (counted (codes " height ") (stack_height d 0) ++ codes "\n")))
+summary_text elements d = counts_text elements (items_in d) (columns_in (tree_of d)) (stack_height d 0)

@@ -6,8 +6,10 @@
 //! has more bytes than a result may have.
 #![tactic(auto)]
 
-mod point;
 mod drawing;
+mod limit;
+mod lines;
+mod point;
 mod summary;
 
 pub use drawing::draw_result;

@@ -1,8 +1,9 @@
-use Rattle.std.proofs.Common.{All, sym, subst, ap, ◌∙◌}
+use Rattle.std.proofs.Common.{All, ◌<◌, length, IfSome, sym, subst, ap, ◌∙◌}
 use Rattle.std.proofs.lemmas.List.{drop_all}
 use Rattle.hit_index.specs.Bands.{best, later, leaves_in, IsBand}
 use Rattle.hit_index.specs.Scan.{leaves_of}
 use Rattle.hit_index.proofs.Best.{best-hit, later-none}
+use Rattle.hit_index.proofs.Known.{hit-known}
 use Rattle.hit_index.proofs.Filled.{hit-next}
 use Rattle.hit_index.proofs.index.Index.hit.Goals as goal
 
@@ -21,9 +22,14 @@ loop-band-preserved c =
 pub returns : goal.returns
 returns c =
     let none = drop_all c.loop-band.band-index c.as_slice-band-items.result.now c.loop-band-test.false in
-    sym (later-none c.loop-band.found)
+    let same = sym (later-none c.loop-band.found)
     ∙ ap (λ bands. later c.loop-band.found (best c.args.x c.args.y (leaves_in bands))) (sym none) ∙ c.loop-band.invariant
     ∙ ap (λ bands. best c.args.x c.args.y (leaves_in bands)) c.as_slice-band-items.ensures
     ∙ c.self.invariant.same c.args.x c.args.y
     ∙ ap (λ marks. best c.args.x c.args.y (leaves_of marks)) c.self.view_is
-    ∙ best-hit c.args.x c.args.y c.args.self.now
+    ∙ best-hit c.args.x c.args.y c.args.self.now in
+    record {
+      same = same;
+      known = subst (λ o. IfSome o (λ leaf. leaf < length c.args.self.now)) (sym same)
+          (hit-known c.args.x c.args.y c.args.self.now);
+    }

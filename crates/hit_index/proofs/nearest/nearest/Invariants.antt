@@ -1,7 +1,7 @@
 -- no line from there on is it
 use Rattle.std.proofs.Common.{◌≡◌, ◌≤◌}
 use Rattle.hit_index.specs.Scan.{nearest}
-use Rattle.hit_index.proofs.index.nearest.Given as goal
+use Rattle.hit_index.proofs.nearest.nearest.Given as goal
 
 abbrev pub invariant-back : goal.invariant-back
 invariant-back l = record {
