@@ -1,6 +1,7 @@
 //! The commands of mcol, from their words to the bytes of the result.
 //!
-//! It stands on the readers of flow files and of documents, the layout, the text of its tree and the generated document.
+//! It stands on mc_words for the words, on the readers of flow files and of documents, the layout, the text of its tree and the
+//! generated document.
 //! Its one call, `run`, promises which status comes when, that the sink gets exactly the result of the command, and that the
 //! line of a refusal tells its cause. All that it promises is said of any command; a command adds which inputs it reads, what
 //! its result is, and what it refuses.
@@ -34,7 +35,8 @@ use std::alloc::Global;
 pub use stop::Stop;
 use stop::{status, tell};
 
-/// Runs the command that the words after the program's name ask for, `layout`, `rows` or `gen`, and answers the exit status.
+/// Runs the command that the words after the program's name ask for, `layout`, `rows`, `gen`, `hit` or `draw`, and answers the
+/// exit status.
 ///
 /// `files` are read by name; the result is put to `out` in one call after it is whole, and the line of a refusal to
 /// `err`, whose faults change nothing. The status is 0 where the result was put, 1 where the words aren't taken, 2 after a
