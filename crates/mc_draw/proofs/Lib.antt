@@ -1,3 +1,4 @@
 pub mod Steps
 pub mod Rectangles
 pub mod Numbers
+pub mod FieldLemmas

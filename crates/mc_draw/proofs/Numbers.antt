@@ -12,7 +12,7 @@ use Rattle.flow_text.specs.Numbers.{IsNumber, digits_len, is_numeral, number_at}
 use Rattle.flow_text.proofs.NumberLemmas.{all_digits_front}
 use Rattle.flow_text.proofs.FormLemmas.{own, pass}
 
-guarded : {A : Type 0} (b : Bool) (x y : A) → cond b (pass x) None ≡ pass y → (b ≡ true) × (x ≡ y)
+pub guarded : {A : Type 0} (b : Bool) (x y : A) → cond b (pass x) None ≡ pass y → (b ≡ true) × (x ≡ y)
 guarded true x y e = (refl, cc)
 guarded false x y e = absurd cc
 
