@@ -22,6 +22,9 @@ use Rattle.mc_draw.proofs.Numbers.{number_takes, guarded}
 
 -- ---- what follows bytes
 
+pub some_is : {A : Type 0} (x y : A) → pass x ≡ pass y → x ≡ y
+some_is x y e = cc
+
 pub past_takes : (front bytes rest : List ℕ) → past front bytes ≡ pass rest → bytes ≡ front ++ rest
 past_takes front bytes rest h =
     let g = guarded (starts_with nat_eq bytes front) _ rest h in
@@ -53,17 +56,14 @@ numbered_again front rest n fits stops =
 class_takes : (cs : List ShapeClass) (bytes : List ℕ) (x : ShapeClass × List ℕ) → first_class cs bytes ≡ pass x
     → bytes ≡ class_text x.0 ++ x.1
 class_takes [] bytes x h = absurd cc
-class_takes (c ∷ cs) bytes x h = by_word (past (class_text c) bytes) refl h
+class_takes (c ∷ cs) bytes x h = by_word (past (class_text c) bytes) (class_takes cs bytes x) refl h
   where
-    by_word : (o : Option (List ℕ)) → past (class_text c) bytes ≡ o
-        → or_else (o >>= λ rest. Some (c, rest)) (first_class cs bytes) ≡ pass x → bytes ≡ class_text x.0 ++ x.1
-    by_word (Some rest) is e = past_takes (class_text c) bytes rest is
-        ∙ ap (λ (o : Option (ShapeClass × List ℕ)). spelled o) e
-      where
-        spelled : Option (ShapeClass × List ℕ) → List ℕ
-        spelled None = []
-        spelled (Some y) = class_text y.0 ++ y.1
-    by_word None is e = class_takes cs bytes x e
+    by_word : (o : Option (List ℕ)) → (first_class cs bytes ≡ pass x → bytes ≡ class_text x.0 ++ x.1)
+        → past (class_text c) bytes ≡ o → or_else (o >>= λ rest. Some (c, rest)) (first_class cs bytes) ≡ pass x → bytes ≡ class_text x.0 ++ x.1
+    by_word (Some rest) later is e =
+        past_takes (class_text c) bytes rest is
+        ∙ ap (λ (y : ShapeClass × List ℕ). class_text y.0 ++ y.1) (some_is (c, rest) x e)
+    by_word None later is e = later e
 
 class_again : (c : ShapeClass) (rest : List ℕ) → class_at (class_text c ++ rest) ≡ pass (c, rest)
 unfolding class_at
@@ -79,11 +79,8 @@ class_again classes.Rule rest = refl
 
 -- ---- lines
 
-some_is : {A : Type 0} (x y : A) → pass x ≡ pass y → x ≡ y
-some_is x y e = cc
-
 step : {A B : Type 0} (r : Option A) (x : A) (f : A → Option B) (y : B) → r ≡ pass x → f x ≡ pass y → (r >>= f) ≡ pass y
-step r x f y e g = ap (λ (o : Option A). o >>= f) e ∙ g
+step {A = A} r x f y e g = ap (λ (o : Option A). o >>= f) e ∙ g
 
 joined : (a b x y z : List ℕ) → x ≡ a ++ y → y ≡ b ++ z → x ≡ (a ++ b) ++ z
 joined a b x y z h k = h ∙ ap (λ (t : List ℕ). a ++ t) k ∙ sym (append_assoc a b z)
@@ -100,10 +97,16 @@ rect_takes bytes x h = some_step (numbered_at (codes "\" x=\"") bytes) _ x h (λ
     let f3 = numbered_takes (codes "\" width=\"") b.1 c e3 in
     let f4 = numbered_takes (codes "\" height=\"") c.1 d e4 in
     let f5 = past_takes (codes "\"/>\n") d.1 rest e5 in
+    let qa = numbered (codes "\" x=\"") a.0 in
+    let qb = numbered (codes "\" y=\"") b.0 in
+    let qc = numbered (codes "\" width=\"") c.0 in
+    let qd = numbered (codes "\" height=\"") d.0 in
+    let end = codes "\"/>\n" in
     let P : Rect × List ℕ → Type 0 = λ y. (bytes ≡ rect_text y.0 ++ y.1) × IsFitRect y.0 in
     subst P (some_is (record { x = a.0; y = b.0; w = c.0; h = d.0 }, rest) x g)
-    (joined _ _ _ _ _ f1.0 (joined _ _ _ _ _ f2.0 (joined _ _ _ _ _ f3.0 (joined _ _ _ _ _ f4.0 f5))),
-    (f1.1, (f2.1, (f3.1, f4.1)))))))))
+    (joined qa (qb ++ (qc ++ (qd ++ end))) bytes a.1 rest f1.0 (joined qb (qc ++ (qd ++ end)) a.1 b.1 rest f2.0
+    (joined qc (qd ++ end) b.1 c.1 rest f3.0 (joined qd end c.1 d.1 rest f4.0 f5))),
+    (f1.1, f2.1, f3.1, f4.1)))))))
 
 rect_parts : (a b c d e rest : List ℕ)
     → (a ++ (b ++ (c ++ (d ++ e)))) ++ rest ≡ a ++ (b ++ (c ++ (d ++ (e ++ rest))))
@@ -125,7 +128,7 @@ rect_again r rest fit =
     (step _ _ _ _ (numbered_again (codes "\" y=\"") (w ++ (h ++ (e ++ rest))) r.y fit.1 refl)
     (step _ _ _ _ (numbered_again (codes "\" width=\"") (h ++ (e ++ rest)) r.w fit.2 refl)
     (step _ _ _ _ (numbered_again (codes "\" height=\"") (e ++ rest) r.h fit.3 refl)
-    (step _ _ _ _ (past_again e rest) refl))))
+    (step _ _ (λ t. Some (r, t)) _ (past_again e rest) refl))))
 
 pub shape_takes : (bytes : List ℕ) (x : Shape × List ℕ) → shape_at bytes ≡ pass x
     → (bytes ≡ shape_text x.0 ++ x.1) × IsFitShape x.0
@@ -138,7 +141,17 @@ shape_takes bytes x h = some_step (past (codes "<rect class=\"") bytes) _ x h (�
     let f3 = rect_takes b.1 r e3 in
     let P : Shape × List ℕ → Type 0 = λ y. (bytes ≡ shape_text y.0 ++ y.1) × IsFitShape y.0 in
     subst P (some_is (record { class = b.0; rect = r.0 }, r.1) x g)
-    (joined _ _ _ _ _ f1 (joined _ _ _ _ _ f2 f3.0), f3.1))))
+    (joined (codes "<rect class=\"") (class_text b.0 ++ rect_text r.0) bytes a r.1 f1
+    (joined (class_text b.0) (rect_text r.0) a b.1 r.1 f2 f3.0), f3.1))))
+
+abbrev shaped : ShapeClass → Rect × List ℕ → Option (Shape × List ℕ)
+shaped class rect = Some (record { class = class; rect = rect.0 }, rect.1)
+
+abbrev from_rect : ShapeClass × List ℕ → Option (Shape × List ℕ)
+from_rect class = rect_at class.1 >>= shaped class.0
+
+abbrev from_class : List ℕ → Option (Shape × List ℕ)
+from_class rest = class_at rest >>= from_rect
 
 pub shape_again : (s : Shape) (rest : List ℕ) → IsFitShape s → shape_at (shape_text s ++ rest) ≡ pass (s, rest)
 unfolding shape_at shape_text
@@ -146,9 +159,9 @@ shape_again s rest fit =
     let front = codes "<rect class=\"" in
     ap shape_at (append_assoc front (class_text s.class ++ rect_text s.rect) rest
     ∙ ap (λ (t : List ℕ). front ++ t) (append_assoc (class_text s.class) (rect_text s.rect) rest))
-    ∙ step _ _ _ _ (past_again front (class_text s.class ++ (rect_text s.rect ++ rest)))
-    (step _ _ _ _ (class_again s.class (rect_text s.rect ++ rest))
-    (step _ _ _ _ (rect_again s.rect rest fit) refl))
+    ∙ step _ _ from_class _ (past_again front (class_text s.class ++ (rect_text s.rect ++ rest)))
+    (step _ _ from_rect _ (class_again s.class (rect_text s.rect ++ rest))
+    (step _ _ (shaped s.class) _ (rect_again s.rect rest fit) refl))
 
 pub record HeadTaken (bytes : List ℕ) (x : ℕ × ℕ × List ℕ) : Type 0 where
   pub spelled : bytes ≡ head_text x.0 x.1 ++ x.2
@@ -163,8 +176,14 @@ head_takes bytes x h = some_step (numbered_at (codes "<svg xmlns=\"http://www.w3
     let f1 = numbered_takes (codes "<svg xmlns=\"http://www.w3.org/2000/svg\" viewBox=\"0 0 ") bytes a e1 in
     let f2 = numbered_takes (codes " ") a.1 b e2 in
     let f3 = past_takes (codes "\">\n") b.1 rest e3 in
+    let front = numbered (codes "<svg xmlns=\"http://www.w3.org/2000/svg\" viewBox=\"0 0 ") a.0 in
     subst (HeadTaken bytes) (some_is (a.0, b.0, rest) x g)
-    (record { spelled = joined _ _ _ _ _ f1.0 (joined _ _ _ _ _ f2.0 f3); w = f1.1; h = f2.1 }))))
+    (record {
+      spelled = joined front (numbered (codes " ") b.0 ++ codes "\">\n") bytes a.1 rest f1.0
+          (joined (numbered (codes " ") b.0) (codes "\">\n") a.1 b.1 rest f2.0 f3);
+      w = f1.1;
+      h = f2.1;
+    }))))
 
 pub head_again : (w h : ℕ) (rest : List ℕ) → IsNumber w → IsNumber h → head_at (head_text w h ++ rest) ≡ pass (w, h, rest)
 unfolding head_at head_text
@@ -175,7 +194,7 @@ head_again w h rest fit_w fit_h =
     ap head_at (append_assoc (numbered one w) (numbered two h ++ e) rest
     ∙ ap (λ (t : List ℕ). numbered one w ++ t) (append_assoc (numbered two h) e rest))
     ∙ step _ _ _ _ (numbered_again one (numbered two h ++ (e ++ rest)) w fit_w refl)
-    (step _ _ _ _ (numbered_again two (e ++ rest) h fit_h refl) (step _ _ _ _ (past_again e rest) refl))
+    (step _ _ _ _ (numbered_again two (e ++ rest) h fit_h refl) (step _ _ (λ t. Some (w, h, t)) _ (past_again e rest) refl))
 
 -- the line that closes a drawing is no rectangle's
 pub foot_no_shape : (rest : List ℕ) → shape_at (foot_text ++ rest) ≡ None

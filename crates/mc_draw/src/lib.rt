@@ -15,7 +15,7 @@ mod shapes;
 mod text;
 
 pub use drawing::{Drawing, Shape, ShapeClass};
-pub use laws::rectangles_are_those_of_lines;
+pub use laws::{drawings_are_read_again, rectangles_are_those_of_lines};
 pub use read::{BadDrawing, read_drawing};
 pub use shapes::draw_tree;
 pub use text::write_drawing;
