@@ -1,5 +1,5 @@
 -- One drawing at most has a text, and one line at most of other bytes is the first that is bad.
-use Rattle.std.proofs.Common.{◌≡◌, ℕ, ◌+◌, ◌<◌, ◌≤◌, List, [], ◌∷◌, ◌++◌, length, Option, Some, None, refl, sym, ap, ◌∙◌, arith}
+use Rattle.std.proofs.Common.{◌≡◌, ℕ, ◌+◌, List, [], ◌∷◌, ◌++◌, length, Option, Some, None, refl, sym, ap, ◌∙◌, arith}
 use Rattle.std.proofs.Common.{append_assoc, inl, inr}
 use Rattle.std.specs.List.{flat_map}
 use Rattle.std.proofs.lemmas.List.{append-nil, length-append}
@@ -7,7 +7,7 @@ use Rattle.flow_text.specs.Numbers.{IsNumber}
 use Rattle.flow_text.proofs.FormLemmas.{pass}
 use Rattle.mc_draw.specs.declared.drawing.Drawing.{Drawing}
 use Rattle.mc_draw.specs.declared.drawing.Shape.{Shape}
-use Rattle.mc_draw.specs.DrawingText.{shape_text, head_text, foot_text, drawing_text}
+use Rattle.mc_draw.specs.DrawingText.{shape_text, head_text, foot_text}
 use Rattle.mc_draw.specs.Fields.{shape_at, head_at}
 use Rattle.mc_draw.specs.ReadBack.{AreFit, IsTextOf, HasNoHead, HasNoShape, IsBadWithin, IsBadAfter, IsBadLine, AreReadAgain}
 use Rattle.mc_draw.proofs.FieldLemmas.{some_is, shape_takes, shape_again, head_again, foot_no_shape}

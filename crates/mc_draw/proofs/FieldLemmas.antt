@@ -1,6 +1,6 @@
 -- What is read at the front of bytes is spelled there, and what is spelled there is read.
-use Rattle.std.proofs.Common.{◌≡◌, ℕ, ◌+◌, ◌<◌, ◌≤◌, List, [], ◌∷◌, ◌++◌, length, drop, Bool, true, false, cond, Option, Some, None}
-use Rattle.std.proofs.Common.{refl, sym, ap, ◌∙◌, subst, arith, append_assoc}
+use Rattle.std.proofs.Common.{◌≡◌, ℕ, List, [], ◌∷◌, ◌++◌, length, Option, Some, None}
+use Rattle.std.proofs.Common.{refl, sym, ap, ◌∙◌, subst, append_assoc}
 use Rattle.std.specs.Prelude.{codes, nat_eq}
 use Rattle.std.specs.List.{starts_with}
 use Rattle.std.specs.Fmt.{decimal}
@@ -10,7 +10,7 @@ use Rattle.std.proofs.lemmas.Slice.Eq.{starts_is}
 use Rattle.mc_base.specs.Finding.{◌>>=◌}
 use Rattle.mc_base.proofs.FindSteps.{some_step}
 use Rattle.mc_base.specs.declared.units.Rect.{Rect}
-use Rattle.flow_text.specs.Numbers.{IsNumber, number_at}
+use Rattle.flow_text.specs.Numbers.{IsNumber}
 use Rattle.flow_text.proofs.FormLemmas.{pass, Stops, number_again}
 use Rattle.mc_draw.specs.declared.drawing.Shape.{Shape}
 use Rattle.mc_draw.specs.declared.drawing.ShapeClass.{ShapeClass}

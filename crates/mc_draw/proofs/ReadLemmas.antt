@@ -1,19 +1,17 @@
 -- Reading a drawing line by line.
-use Rattle.std.proofs.Common.{◌≡◌, ℕ, ◌+◌, ◌<◌, ◌≤◌, List, [], ◌∷◌, ◌++◌, length, Option, Some, None, refl, sym, ap, ◌∙◌, subst, arith}
+use Rattle.std.proofs.Common.{◌≡◌, ℕ, ◌+◌, ◌<◌, List, [], ◌∷◌, ◌++◌, length, None, refl, sym, ap, ◌∙◌, subst, arith}
 use Rattle.std.proofs.Common.{append_assoc, inl, inr}
 use Rattle.std.specs.Prelude.{codes}
-use Rattle.std.specs.List.{flat_map, AllByRecursion}
+use Rattle.std.specs.List.{flat_map}
 use Rattle.std.proofs.lemmas.List.{append-nil, length-append, flat_map_more}
-use Rattle.flow_text.specs.Numbers.{IsNumber}
 use Rattle.flow_text.proofs.FormLemmas.{pass}
 use Rattle.mc_draw.specs.declared.drawing.Drawing.{Drawing}
 use Rattle.mc_draw.specs.declared.drawing.Shape.{Shape}
 use Rattle.mc_draw.specs.DrawingText.{shape_text, head_text, foot_text, drawing_text}
 use Rattle.mc_draw.specs.Fields.{past, shape_at, head_at}
-use Rattle.mc_draw.specs.ReadBack.{IsFitShape, AreFit, IsFit, IsTextOf, HasNoHead, HasNoShape, HasNoFoot, IsBadWithin, IsBadAfter}
-use Rattle.mc_draw.specs.ReadBack.{IsBadLine, AreReadAgain}
-use Rattle.mc_draw.proofs.FieldLemmas.{past_takes, past_again, shape_takes, shape_again, HeadTaken, head_takes, head_again}
-use Rattle.mc_draw.proofs.FieldLemmas.{foot_no_shape}
+use Rattle.mc_draw.specs.ReadBack.{IsFitShape, AreFit, IsTextOf, HasNoHead, HasNoShape, HasNoFoot}
+use Rattle.mc_draw.specs.ReadBack.{IsBadLine}
+use Rattle.mc_draw.proofs.FieldLemmas.{past_takes, past_again, shape_takes, shape_again, head_takes, head_again}
 
 -- ---- the lines of rectangles
 
