@@ -130,7 +130,7 @@ has_head text w h xs a p none = none w h (flat_map shape_text xs ++ a) p.fit_w p
 
 -- ---- the law
 
-alone : (text : List ℕ) (d e : Drawing) → IsTextOf text d → IsTextOf text e → d ≡ e
+pub alone : (text : List ℕ) (d e : Drawing) → IsTextOf text d → IsTextOf text e → d ≡ e
 alone text d e p q =
     let same = same_parts text d.w e.w d.h e.h d.shapes e.shapes foot_text foot_text (of_drawing text d p) (of_drawing text e q) in
     by_fields same.width same.height same.shapes
@@ -143,7 +143,7 @@ alone text d e p q =
         drawing : ℕ → ℕ → List Shape → Drawing
         drawing w h shapes = record { w = w; h = h; shapes = shapes }
 
-good : (text : List ℕ) (d : Drawing) (n : ℕ) → IsTextOf text d → IsBadLine text n → ⊥
+pub good : (text : List ℕ) (d : Drawing) (n : ℕ) → IsTextOf text d → IsBadLine text n → ⊥
 good text d n is (inl b) = has_head text d.w d.h d.shapes foot_text (of_drawing text d is) b.1
 good text d n is (inr (inl b)) =
     let same = same_parts text d.w b.w d.h b.h d.shapes b.shapes foot_text b.rest (of_drawing text d is) (of_within text n b) in

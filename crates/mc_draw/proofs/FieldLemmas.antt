@@ -103,10 +103,11 @@ rect_takes bytes x h = some_step (numbered_at (codes "\" x=\"") bytes) _ x h (λ
     let qd = numbered (codes "\" height=\"") d.0 in
     let end = codes "\"/>\n" in
     let P : Rect × List ℕ → Type 0 = λ y. (bytes ≡ rect_text y.0 ++ y.1) × IsFitRect y.0 in
-    subst P (some_is (record { x = a.0; y = b.0; w = c.0; h = d.0 }, rest) x g)
-    (joined qa (qb ++ (qc ++ (qd ++ end))) bytes a.1 rest f1.0 (joined qb (qc ++ (qd ++ end)) a.1 b.1 rest f2.0
-    (joined qc (qd ++ end) b.1 c.1 rest f3.0 (joined qd end c.1 d.1 rest f4.0 f5))),
-    (f1.1, f2.1, f3.1, f4.1)))))))
+    subst P (some_is (record { x = a.0; y = b.0; w = c.0; h = d.0 }, rest) x g) (
+      joined qa (qb ++ (qc ++ (qd ++ end))) bytes a.1 rest f1.0 (joined qb (qc ++ (qd ++ end)) a.1 b.1 rest f2.0
+          (joined qc (qd ++ end) b.1 c.1 rest f3.0 (joined qd end c.1 d.1 rest f4.0 f5))),
+      (f1.1, f2.1, f3.1, f4.1),
+    ))))))
 
 rect_parts : (a b c d e rest : List ℕ)
     → (a ++ (b ++ (c ++ (d ++ e)))) ++ rest ≡ a ++ (b ++ (c ++ (d ++ (e ++ rest))))
@@ -140,9 +141,11 @@ shape_takes bytes x h = some_step (past (codes "<rect class=\"") bytes) _ x h (�
     let f2 = class_takes all_classes a b e2 in
     let f3 = rect_takes b.1 r e3 in
     let P : Shape × List ℕ → Type 0 = λ y. (bytes ≡ shape_text y.0 ++ y.1) × IsFitShape y.0 in
-    subst P (some_is (record { class = b.0; rect = r.0 }, r.1) x g)
-    (joined (codes "<rect class=\"") (class_text b.0 ++ rect_text r.0) bytes a r.1 f1
-    (joined (class_text b.0) (rect_text r.0) a b.1 r.1 f2 f3.0), f3.1))))
+    subst P (some_is (record { class = b.0; rect = r.0 }, r.1) x g) (
+      joined (codes "<rect class=\"") (class_text b.0 ++ rect_text r.0) bytes a r.1 f1
+          (joined (class_text b.0) (rect_text r.0) a b.1 r.1 f2 f3.0),
+      f3.1,
+    ))))
 
 abbrev shaped : ShapeClass → Rect × List ℕ → Option (Shape × List ℕ)
 shaped class rect = Some (record { class = class; rect = rect.0 }, rect.1)

@@ -1,5 +1,5 @@
 -- Which bytes are a drawing, and which line of other bytes is the first that is off the forms (this project's own).
-use Rattle.std.specs.Prelude.{◌≡◌, ◌<◌, ℕ, ◌+◌, List, ◌++◌, length, ◌⊎◌}
+use Rattle.std.specs.Prelude.{◌≡◌, ◌<◌, ℕ, ◌+◌, List, ◌++◌, length, ◌⊎◌, Result, Ok, Err}
 use Rattle.std.specs.List.{flat_map, AllByRecursion}
 use Rattle.flow_text.specs.Numbers.{IsNumber}
 use Rattle.mc_base.specs.declared.units.Rect.{Rect}
@@ -67,6 +67,12 @@ IsBadLine text n = ((n ≡ 1) × HasNoHead text) ⊎ (IsBadWithin text n ⊎ IsB
 abbrev pub IsBad : List ℕ → BadDrawing → Type 0
 IsBad text (bad.BadLine n) = IsBadLine text n
 IsBad text bad.NoMemory = Unit {0}
+
+-- this drawing is read, unless memory is lacking
+abbrev pub IsReadAs : Drawing → Result Drawing BadDrawing → Type 0
+IsReadAs d (Ok e) = e ≡ d
+IsReadAs d (Err (bad.BadLine n)) = ⊥
+IsReadAs d (Err bad.NoMemory) = Unit {0}
 
 -- The law: a drawing whose numbers have at most 19 digits is the only one of its text, and no line of it is bad; and of other
 -- bytes one line at most is the first that is bad.

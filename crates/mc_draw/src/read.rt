@@ -1,10 +1,11 @@
 //! Reading the text of a drawing.
 
-ghost use Rattle.std.specs.Prelude.{◌≡◌, ◌++◌, List as Items, ℕ, IfOk, IfErr, None};
+ghost use Rattle.std.specs.Prelude.{◌≡◌, ◌++◌, IfOk, IfErr, None};
 ghost use Rattle.std.specs.List.{flat_map};
+ghost use Rattle.mc_draw.specs.declared.drawing.Drawing.{Drawing as Picture};
 ghost use Rattle.mc_draw.specs.DrawingText.{shape_text};
 ghost use Rattle.mc_draw.specs.Fields.{shape_at};
-ghost use Rattle.mc_draw.specs.ReadBack.{AreFit, IsBad, IsTextOf};
+ghost use Rattle.mc_draw.specs.ReadBack.{AreFit, IsBad, IsReadAs, IsTextOf};
 
 use crate::drawing::{Drawing, Shape};
 use crate::fields::{head_line, past, shape_line};
@@ -49,10 +50,11 @@ fn shape_lines(alloc: Global, bytes: &[u8]) -> Result<(List<Shape>, &[u8]), NoMe
 /// The drawing whose text this is (SVG 2, sections 8.2 and 10.2): a line that opens it, with its width and height, a line for
 /// each of its rectangles, and a line that closes it. Numbers are decimal, without leading zeros, of at most 19 digits; each line
 /// ends with a line feed, and nothing follows the last. Other bytes are `BadLine`, with the first line that is off these forms,
-/// or the number of lines plus 1 where the last is lacking.
+/// or the number of lines plus 1 where the last is lacking. So a drawing of such numbers that is written is read again as itself.
 pub fn read_drawing(alloc: Global, text: &[u8]) -> Result<Drawing, BadDrawing>
     ensures ok { IfOk result (IsTextOf text.now) }
     ensures err { IfErr result (IsBad text.now) }
+    ensures again { (d : Picture) → IsTextOf text.now d → IsReadAs d result }
 {
     let Some((w, h, rest)) = head_line(text) else {
         return Err(BadDrawing::BadLine { line: 1 });
