@@ -18,7 +18,7 @@ fn put(out: &mut Text, front: &[u8], number: Units) -> Result<(), NoMemory>
     Ok(())
 }
 
-fn class_name(class: ShapeClass) -> &'static [u8]
+pub fn class_name(class: ShapeClass) -> &'static [u8]
     ensures { result.now ≡ class_text class }
 {
     match class {
