@@ -1,0 +1,4 @@
+pub mod Holding
+pub mod LeastPiece
+pub mod LoweredText
+pub mod Lowering
