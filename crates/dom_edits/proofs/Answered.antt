@@ -44,7 +44,8 @@ ends_there i pre x tree post is none =
     let count = inside i i (suc i) tree post (omega arith) (omega arith) in
     rw (rest, count, none) (omega arith)
 
-get_there : (i : ℕ) (pre : List DomNode) (x : DomNode) (rest : List DomNode) → i ≡ length pre → slice_get (pre ++ x ∷ rest) i ≡ Some x
+get_there : (i : ℕ) (pre : List DomNode) (x : DomNode) (rest : List DomNode) → i ≡ length pre
+    → slice_get (pre ++ x ∷ rest) i ≡ Some x
 get_there i pre x rest is = rw is (get_seam pre x rest)
 
 classed_there : (i : ℕ) (value : List ℕ) (pre : List DomNode) (x : DomNode) (rest : List DomNode) → i ≡ length pre
@@ -72,7 +73,8 @@ range_there i end pre x ks post is e =
     rw (n, is, drop-append_seam pre (x ∷ (ks ++ post))) (ap (λ ys. x ∷ ys) (take-append_seam ks post))
 
 same_all : (f : ℕ → ℕ) → ((p : ℕ) → f p ≡ p) → (node : DomNode) → renumbered f node ≡ node
-same_all f same node = ap (λ (p : Option ℕ). record { parent = p; offset = node.offset; kind = node.kind }) (by_parent node.parent)
+same_all f same node = ap (λ (p : Option ℕ). record { parent = p; offset = node.offset; kind = node.kind })
+    (by_parent node.parent)
   where
     by_parent : (parent : Option ℕ) → option_map f parent ≡ parent
     by_parent None = refl
@@ -171,7 +173,8 @@ place_there edit tree e s =
 spot_of : (edit : Edit) (tree : Forest) (w : Whole) → first_with (id_of edit) tree ≡ Some w → Spot edit None 0 tree w
 spot_of edit tree w found = spot edit None 0 tree w outermost found
 
-no_place : (edit : Edit) (tree : Forest) (nodes : List DomNode) → nodes ≡ nodes_from None 0 tree → first_with (id_of edit) tree ≡ None
+no_place : (edit : Edit) (tree : Forest) (nodes : List DomNode) → nodes ≡ nodes_from None 0 tree
+    → first_with (id_of edit) tree ≡ None
     → place_in edit nodes ≡ Err NoElement
 no_place edit tree nodes all none =
     rw (all, position_none (node_has_id (id_of edit)) (nodes_from None 0 tree) (none_there (id_of edit) tree none)) refl
@@ -206,13 +209,15 @@ pub done : (edit : Edit) (tree : Forest) (nodes left : List DomNode) (place : Pl
     → place_in edit nodes ≡ Ok place → left ≡ changed_nodes edit place.start place.end nodes → IsDone edit tree left
 done edit tree nodes left place all e is = by_found (first_with (id_of edit) tree) refl
   where
-    by_allowed : (w : Whole) (s : Spot edit None 0 tree w) (t : Bool) → is_allowed edit w ≡ t → first_with (id_of edit) tree ≡ Some w
+    by_allowed : (w : Whole) (s : Spot edit None 0 tree w) (t : Bool) → is_allowed edit w ≡ t
+        → first_with (id_of edit) tree ≡ Some w
         → cond t (Ok (place_at s.i (end_of s.i w))) (Err NotAllowed) ≡ Ok place → IsDone edit tree left
     by_allowed w s false may found hit = absurd (let n : Err NotAllowed ≡ Ok place = hit in cc)
     by_allowed w s true may found hit =
         let at : place_at s.i (end_of s.i w) ≡ place = cc in
         let changed : changed_nodes edit place.start place.end nodes ≡ nodes_from None 0 (changed_in edit tree) =
-        rw (← at, all ∙ s.nodes) (changed_there edit s.i s.q s.pre s.post w (omega (arith, s.place)) s.above s.still_pre ∙ sym s.after) in
+        rw (← at, all ∙ s.nodes) (changed_there edit s.i s.q s.pre s.post w (omega (arith, s.place)) s.above s.still_pre
+        ∙ sym s.after) in
         record { after = changed_in edit tree; done = rw (found, may) refl; nodes_of = is ∙ changed }
 
     by_found : (f : Option Whole) → first_with (id_of edit) tree ≡ f → IsDone edit tree left

@@ -1,5 +1,6 @@
 -- The attribute `class`.
-use Rattle.std.proofs.Common.{◌≡◌, ℕ, zero, suc, ◌<◌, List, [], ◌∷◌, ◌++◌, length, Bool, true, false, ◌||◌, None, Some, refl, sym, ap}
+use Rattle.std.proofs.Common.{◌≡◌, ℕ, zero, suc, ◌<◌, List, [], ◌∷◌, ◌++◌, length, Bool, true, false, ◌||◌, None, Some, refl, sym}
+use Rattle.std.proofs.Common.{ap}
 use Rattle.std.proofs.Common.{◌∙◌, arith, set, get_or}
 use Rattle.std.proofs.Math.Seq.{set-append_seam, get_or-append_seam}
 use Rattle.std.specs.List.{list_any, position}
@@ -19,7 +20,8 @@ in_place o value [] a rest miss hit = rw hit refl
 in_place o value (b ∷ pre) a rest miss hit = by_test (is_class b) refl miss (in_place o value pre a rest)
   where
     by_test : (t : Bool) → is_class b ≡ t → (t || list_any is_class pre) ≡ false
-        → (list_any is_class pre ≡ false → is_class a ≡ true → with_class o value (pre ++ a ∷ rest) ≡ pre ++ valued value a ∷ rest)
+        → (list_any is_class pre ≡ false → is_class a ≡ true
+        → with_class o value (pre ++ a ∷ rest) ≡ pre ++ valued value a ∷ rest)
         → with_class o value (b ∷ (pre ++ a ∷ rest)) ≡ b ∷ (pre ++ valued value a ∷ rest)
     by_test true is e below = absurd (let n : true ≡ false = e in cc)
     by_test false is e below = rw (is, below e hit) refl
@@ -30,7 +32,8 @@ at_end o value [] miss = refl
 at_end o value (b ∷ xs) miss = by_test (is_class b) refl miss (at_end o value xs)
   where
     by_test : (t : Bool) → is_class b ≡ t → (t || list_any is_class xs) ≡ false
-        → (list_any is_class xs ≡ false → with_class o value xs ≡ xs ++ record { name = codes "class"; value = value; offset = o } ∷ [])
+        → (list_any is_class xs ≡ false → with_class o value xs ≡ xs
+        ++ record { name = codes "class"; value = value; offset = o } ∷ [])
         → with_class o value (b ∷ xs) ≡ b ∷ (xs ++ record { name = codes "class"; value = value; offset = o } ∷ [])
     by_test true is e below = absurd (let n : true ≡ false = e in cc)
     by_test false is e below = rw (is, below e) refl
@@ -44,7 +47,8 @@ class_put o value xs i d is = by_split (split is_class xs)
     by_split (at pre a rest all miss hit) =
         let e : Some i ≡ Some (length pre) = is ∙ rw (← all) at (position_front is_class pre a rest miss hit) in
         let place : i ≡ length pre = cc in
-        rw (all, place, get_or-append_seam pre a rest d, set-append_seam pre a rest (valued value a)) (sym (in_place o value pre a rest miss hit))
+        rw (all, place, get_or-append_seam pre a rest d, set-append_seam pre a rest (valued value a)) (sym
+        (in_place o value pre a rest miss hit))
 
 pub class_added : (o : ℕ) (value : List ℕ) (xs : List Attribute) → None ≡ position is_class xs
     → xs ++ record { name = codes "class"; value = value; offset = o } ∷ [] ≡ with_class o value xs

@@ -14,13 +14,15 @@ use Rattle.html_grammar.specs.declared.dom.DomNode.{DomNode}
 use Rattle.html_grammar.specs.Names.{same}
 use Rattle.html_grammar.specs.Tree.{Forest, Nil, Element, Words, element_node, words_node, nodes_from}
 use Rattle.html_grammar.specs.Grammar.{depth_of}
-use Rattle.html_subset.specs.WellFormed.{AttributeIsUtf8, NodeIsUtf8, NodeIsWithin, AttributeIsWithin, attribute_bytes, node_bytes}
+use Rattle.html_subset.specs.WellFormed.{AttributeIsUtf8, NodeIsUtf8, NodeIsWithin, AttributeIsWithin, attribute_bytes}
+use Rattle.html_subset.specs.WellFormed.{node_bytes}
 use Rattle.html_subset.specs.WellFormed.{IsHtml, IsWellFormed}
 use Rattle.edit_script.specs.declared.script.Edit.{Edit}
 use Rattle.edit_script.specs.declared.script.Edit.TheVariants as edits
 use Rattle.edit_script.specs.declared.script.EditFault.TheVariants.{NoElement, NotAllowed}
 use Rattle.edit_script.specs.Spelling.{id_of}
-use Rattle.edit_script.specs.Edited.{Whole, first_with, edited, changed, changed_in, is_allowed, text_of, with_class, has_id, is_there, where_allowed}
+use Rattle.edit_script.specs.Edited.{Whole, first_with, edited, changed, changed_in, is_allowed, text_of, with_class, has_id}
+use Rattle.edit_script.specs.Edited.{is_there, where_allowed}
 use Rattle.dom_edits.specs.Nodes.{renumbered, moved, is_class}
 use Rattle.dom_edits.specs.Sizes.{rest_of, added_bytes, GrowsBy, HasRoom}
 use Rattle.dom_edits.proofs.Shifted.{kids_nodes, outermost}
@@ -39,7 +41,8 @@ backs P [] ys a = a
 backs P (x ∷ xs) ys a = backs P xs ys a.1
 
 -- other numbers change no text
-utf8_again : (f : ℕ → ℕ) (nodes : List DomNode) → AllByRecursion NodeIsUtf8 nodes → AllByRecursion NodeIsUtf8 (map (renumbered f) nodes)
+utf8_again : (f : ℕ → ℕ) (nodes : List DomNode) → AllByRecursion NodeIsUtf8 nodes
+    → AllByRecursion NodeIsUtf8 (map (renumbered f) nodes)
 utf8_again f [] a = tt
 utf8_again f (n ∷ nodes) a = (a.0, utf8_again f nodes a.1)
 
@@ -69,7 +72,8 @@ attributes_utf8 at value (a ∷ xs) u all = by_test (is_class a) refl (attribute
     by_test true is below = rw is ((all.0.0, u), all.1)
     by_test false is below = rw is (all.0, below)
 
-attributes_within : (m at : ℕ) (value : List ℕ) (xs : List Attribute) → 5 ≤ m → length value ≤ m → AllByRecursion (AttributeIsWithin m) xs
+attributes_within : (m at : ℕ) (value : List ℕ) (xs : List Attribute) → 5 ≤ m → length value ≤ m
+    → AllByRecursion (AttributeIsWithin m) xs
     → AllByRecursion (AttributeIsWithin m) (with_class at value xs)
 attributes_within m at value [] five u all = ((five, u), tt)
 attributes_within m at value (a ∷ xs) five u all = by_test (is_class a) refl (attributes_within m at value xs five u all.1)
@@ -110,7 +114,8 @@ new_within : (m : ℕ) (edit : Edit) (q : Option ℕ) (i : ℕ) (e : Whole) → 
     → AllByRecursion (NodeIsWithin m) (new_nodes edit q i e)
 new_within m (edits.Words id []) q i e five u own inner = (own, tt)
 new_within m (edits.Words id (b ∷ rest)) q i e five u own inner = (own, (u, tt))
-new_within m (edits.Class id rest) q i e five u own inner = ((own.0, attributes_within m e.at rest e.attributes five u own.1), inner)
+new_within m (edits.Class id rest) q i e five u own inner =
+    ((own.0, attributes_within m e.at rest e.attributes five u own.1), inner)
 new_within m (edits.Remove id) q i e five u own inner = tt
 
 new_bytes : (edit : Edit) (q : Option ℕ) (i : ℕ) (e : Whole)
@@ -139,7 +144,8 @@ text_flat : (at : ℕ) (rest : List ℕ) → depth_of (text_of at rest) ≡ 0
 text_flat at [] = refl
 text_flat at (b ∷ rest) = refl
 
-changed_depth : (edit : Edit) (e : Whole) (next : Forest) → depth_of (changed edit e next) ≤ max (suc (depth_of e.kids)) (depth_of next)
+changed_depth : (edit : Edit) (e : Whole) (next : Forest)
+    → depth_of (changed edit e next) ≤ max (suc (depth_of e.kids)) (depth_of next)
 changed_depth (edits.Words id rest) e next = omega (arith, text_flat e.at rest)
 changed_depth (edits.Class id rest) e next = omega arith
 changed_depth (edits.Remove id) e next = omega arith
@@ -177,12 +183,14 @@ html_again edit (Element at name attributes kids next) w html found may =
     last : (edit : Edit) → changed_in edit next ≡ Nil
     last edit = rw html.1 refl
 
-    own_is : (edit : Edit) → has_id (id_of edit) attributes ≡ true → first_with (id_of edit) (Element at name attributes kids next) ≡ Some w
+    own_is : (edit : Edit) → has_id (id_of edit) attributes ≡ true
+        → first_with (id_of edit) (Element at name attributes kids next) ≡ Some w
         → record { at = at; name = name; attributes = attributes; kids = kids } ≡ w
     own_is edit own found =
         let e : Some (record { at = at; name = name; attributes = attributes; kids = kids }) ≡ Some w = rw own at found in cc
 
-    named : (edit : Edit) → has_id (id_of edit) attributes ≡ true → first_with (id_of edit) (Element at name attributes kids next) ≡ Some w
+    named : (edit : Edit) → has_id (id_of edit) attributes ≡ true
+        → first_with (id_of edit) (Element at name attributes kids next) ≡ Some w
         → same w.name (codes "html") ≡ true
     named edit own found = rw (← own_is edit own found) (same_html name html.0)
 
@@ -213,10 +221,17 @@ was_done edit tree after done = by_found (first_with (id_of edit) tree) refl don
   where
     by_allowed : (w : Whole) (t : Bool) → is_allowed edit w ≡ t → first_with (id_of edit) tree ≡ Some w
         → cond t (Ok (changed_in edit tree)) (Err NotAllowed) ≡ Ok after → WasDone edit tree after
-    by_allowed w true may found e = record { e = w; found = found; may = may; is = (let s : after ≡ changed_in edit tree = cc in s) }
+    by_allowed w true may found e = record {
+      e = w;
+      found = found;
+      may = may;
+      is = (let s : after ≡ changed_in edit tree = cc in
+          s);
+    }
     by_allowed w false may found e = absurd (let n : Err NotAllowed ≡ Ok after = e in cc)
 
-    by_found : (f : Option Whole) → first_with (id_of edit) tree ≡ f → where_allowed edit tree f ≡ Ok after → WasDone edit tree after
+    by_found : (f : Option Whole) → first_with (id_of edit) tree ≡ f → where_allowed edit tree f ≡ Ok after
+        → WasDone edit tree after
     by_found None found e = absurd (let n : Err NoElement ≡ Ok after = e in cc)
     by_found (Some w) found e = by_allowed w (is_allowed edit w) refl found e
 
@@ -258,9 +273,12 @@ spot_grows edit tree e s nodes left is was =
     let x = spot_x edit tree e s in
     let new = new_nodes edit s.q s.i e in
     let ks = kids_nodes s.i e.kids in
-    let count : length nodes ≡ length s.pre + suc (length ks + length s.post) = ap length (is ∙ s.nodes) ∙ laid_count s.pre x ks s.post in
-    let count' : length left ≡ length s.pre + (length new + length s.post) = ap length (was ∙ s.after) ∙ left_count f s.pre new s.post in
-    let bytes : sum_by node_bytes nodes ≡ sum_by node_bytes s.pre + (node_bytes x + (sum_by node_bytes ks + sum_by node_bytes s.post)) =
+    let count : length nodes ≡ length s.pre + suc (length ks + length s.post) = ap length (is ∙ s.nodes)
+    ∙ laid_count s.pre x ks s.post in
+    let count' : length left ≡ length s.pre + (length new + length s.post) = ap length (was ∙ s.after)
+    ∙ left_count f s.pre new s.post in
+    let bytes : sum_by node_bytes nodes ≡ sum_by node_bytes s.pre + (node_bytes x +
+    (sum_by node_bytes ks + sum_by node_bytes s.post)) =
     ap (λ ns. sum_by node_bytes ns) (is ∙ s.nodes) ∙ laid_bytes s.pre x ks s.post in
     let bytes' : sum_by node_bytes left ≡ sum_by node_bytes s.pre + (sum_by node_bytes new + sum_by node_bytes s.post) =
     ap (λ ns. sum_by node_bytes ns) (was ∙ s.after) ∙ left_bytes f s.pre new s.post in
@@ -269,7 +287,8 @@ spot_grows edit tree e s nodes left is was =
       bytes = omega (arith, bytes, bytes', new_bytes edit s.q s.i e);
     }
 
-pub spot_all : (P : DomNode → Type 0) (edit : Edit) (tree : Forest) (e : Whole) (s : Spot edit None 0 tree e) (nodes left : List DomNode)
+pub spot_all : (P : DomNode → Type 0) (edit : Edit) (tree : Forest) (e : Whole) (s : Spot edit None 0 tree e)
+    (nodes left : List DomNode)
     → nodes ≡ nodes_from None 0 tree → left ≡ nodes_from None 0 (changed_in edit tree)
     → ((f : ℕ → ℕ) (ns : List DomNode) → AllByRecursion P ns → AllByRecursion P (map (renumbered f) ns))
     → (P (spot_x edit tree e s) → AllByRecursion P (kids_nodes s.i e.kids) → AllByRecursion P (new_nodes edit s.q s.i e))
@@ -296,7 +315,8 @@ spot_formed edit dom left e wf s found may was room =
       root = html_again edit wf.tree e wf.root found may;
       depth = omega (arith, depth_again edit wf.tree, wf.depth);
       count = omega (arith, grows.count, room.count);
-      utf8 = spot_all NodeIsUtf8 edit wf.tree e s dom.nodes left.nodes wf.nodes was utf8_again (new_utf8 edit s.q s.i e room.utf8) wf.utf8;
+      utf8 = spot_all NodeIsUtf8 edit wf.tree e s dom.nodes left.nodes wf.nodes was utf8_again
+          (new_utf8 edit s.q s.i e room.utf8) wf.utf8;
       texts = spot_all (NodeIsWithin (2 ^ 28)) edit wf.tree e s dom.nodes left.nodes wf.nodes was (within_again (2 ^ 28))
           (new_within (2 ^ 28) edit s.q s.i e (lit≤ tt) room.text) wf.texts;
       bytes = omega (arith, grows.bytes, room.bytes);

@@ -7,15 +7,18 @@ use Rattle.std.specs.List.{insert}
 
 -- the parts that a rotation, a cut at the end and a rotation back leave
 pub left_of : {X : Type 0} → (xs : List X) (start end behind : ℕ) → start ≤ end → end ≤ length xs → behind ≡ length xs - end
-    → drop behind (take (behind + start) (drop end xs ++ take end xs)) ++ take behind (take (behind + start) (drop end xs ++ take end xs))
+    → drop behind (take (behind + start) (drop end xs ++ take end xs)) ++ take behind (take (behind + start) (drop end xs
+    ++ take end xs))
     ≡ take start xs ++ drop end xs
 left_of xs start end behind le within is =
     let len : length (drop end xs) ≡ behind = length-drop end xs ∙ sym is in
     let short : take start (take end xs) ≡ take start xs = take-take start end xs le in
     let all : take (behind + start) (drop end xs ++ take end xs) ≡ drop end xs ++ take start xs =
     rw (← len) (take-append-add (drop end xs) (take end xs) start ∙ ap (λ ys. drop end xs ++ ys) short) in
-    let front : drop behind (drop end xs ++ take start xs) ≡ take start xs = rw (← len) (drop-append_seam (drop end xs) (take start xs)) in
-    let back : take behind (drop end xs ++ take start xs) ≡ drop end xs = rw (← len) (take-append_seam (drop end xs) (take start xs)) in
+    let front : drop behind (drop end xs ++ take start xs) ≡ take start xs = rw (← len) (drop-append_seam (drop end xs)
+    (take start xs)) in
+    let back : take behind (drop end xs ++ take start xs) ≡ drop end xs = rw (← len) (take-append_seam (drop end xs)
+    (take start xs)) in
     rw (all, front, back) refl
 
 -- an item put in, and those after it cut up to a place

@@ -21,16 +21,19 @@ pub shift : (f : ℕ → ℕ) (parent other : Option ℕ) (k n : ℕ) (tree : Fo
 shift f parent other k n Nil is to = refl
 shift f parent other k n (Words at text next) is to =
     let below = shift f parent other (suc k) (suc n) next is
-    (λ j lt. ap f (let e : suc k + j ≡ k + suc j = omega arith in e) ∙ to (suc j) (omega arith) ∙ (let e : n + suc j ≡ suc n + j = omega arith in e)) in
+    (λ j lt. ap f (let e : suc k + j ≡ k + suc j = omega arith in e) ∙ to (suc j) (omega arith)
+    ∙ (let e : n + suc j ≡ suc n + j = omega arith in e)) in
     rw (is, below) refl
 shift f parent other k n (Element at name attributes kids next) is to =
     let all = length-append (kids_nodes k kids) (next_nodes parent k kids next) in
-    let number : f k ≡ n = ap f (let e : k ≡ k + 0 = omega arith in e) ∙ to 0 (omega arith) ∙ (let e : n + 0 ≡ n = omega arith in e) in
+    let number : f k ≡ n = ap f (let e : k ≡ k + 0 = omega arith in e) ∙ to 0 (omega arith)
+    ∙ (let e : n + 0 ≡ n = omega arith in e) in
     let inner : map (renumbered f) (kids_nodes k kids) ≡ kids_nodes n kids =
     shift f (Some k) (Some n) (suc k) (suc n) kids (ap Some number)
     (λ j lt. ap f (let e : suc k + j ≡ k + suc j = omega arith in e) ∙ to (suc j) (omega (arith, all, lt))
     ∙ (let e : n + suc j ≡ suc n + j = omega arith in e)) in
-    let len : length (kids_nodes n kids) ≡ length (kids_nodes k kids) = ap length (sym inner) ∙ length-map (kids_nodes k kids) (renumbered f) in
+    let len : length (kids_nodes n kids) ≡ length (kids_nodes k kids) = ap length (sym inner)
+    ∙ length-map (kids_nodes k kids) (renumbered f) in
     let outer : map (renumbered f) (next_nodes parent k kids next) ≡ next_nodes other n kids next =
     rw len (shift f parent other (suc k + length (kids_nodes k kids)) (suc n + length (kids_nodes k kids)) next is
     (λ j lt. ap f (let e : suc k + length (kids_nodes k kids) + j ≡ k + suc (length (kids_nodes k kids) + j) = omega arith in e)
@@ -67,10 +70,12 @@ unfolding IsBelow
 kept f None k same lt = refl
 kept f (Some p) k same lt = ap Some (same p lt)
 
-pub still : (f : ℕ → ℕ) (parent : Option ℕ) (k n : ℕ) (tree : Forest) → IsBelow parent k → k + length (nodes_from parent k tree) ≤ n
+pub still : (f : ℕ → ℕ) (parent : Option ℕ) (k n : ℕ) (tree : Forest) → IsBelow parent k
+    → k + length (nodes_from parent k tree) ≤ n
     → ((p : ℕ) → p < n → f p ≡ p) → map (renumbered f) (nodes_from parent k tree) ≡ nodes_from parent k tree
 still f parent k n tree lt le same =
-    shift f parent parent k k tree (kept f parent n same (below_more parent k n lt (omega arith))) (λ j less. same (k + j) (omega arith))
+    shift f parent parent k k tree (kept f parent n same (below_more parent k n lt (omega arith))) (λ j less. same (k + j)
+    (omega arith))
 
 -- nodes from a number on, where that comes to another
 pub shift_past : (parent : Option ℕ) (from to d m n : ℕ) (tree : Forest) → IsBelow parent from → m ≡ from + d → n ≡ to + d
@@ -122,13 +127,15 @@ HasParentBelow bound node = ParentIsBelow bound node.parent
 
 -- the parents of a tree's nodes come before them
 pub parents : (bound : ℕ) (parent : Option ℕ) (k : ℕ) (tree : Forest) → ParentIsBelow bound parent
-    → k + length (nodes_from parent k tree) ≤ bound → All (λ (node : DomNode). ParentIsBelow bound node.parent) (nodes_from parent k tree)
+    → k + length (nodes_from parent k tree) ≤ bound
+    → All (λ (node : DomNode). ParentIsBelow bound node.parent) (nodes_from parent k tree)
 parents bound parent k Nil small le = λ j d lt. absurd (omega arith)
 parents bound parent k (Words at text next) small le =
     one_more (HasParentBelow bound) (words_node parent at text) _ small (parents bound parent (suc k) next small (omega arith))
 parents bound parent k (Element at name attributes kids next) small le =
     let all = length-append (kids_nodes k kids) (next_nodes parent k kids next) in
-    one_more (HasParentBelow bound) (element_node parent at name attributes) _ small (All-append (HasParentBelow bound) (kids_nodes k kids) (next_nodes parent k kids next)
+    one_more (HasParentBelow bound) (element_node parent at name attributes) _ small (All-append (HasParentBelow bound)
+    (kids_nodes k kids) (next_nodes parent k kids next)
     (parents bound (Some k) (suc k) kids (omega (arith, all)) (omega (arith, all)))
     (parents bound parent (suc k + length (kids_nodes k kids)) next small (omega (arith, all))))
 

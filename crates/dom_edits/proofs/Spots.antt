@@ -14,7 +14,8 @@ use Rattle.edit_script.specs.Spelling.{id_of}
 use Rattle.edit_script.specs.Edited.{Whole, has_id, first_with, or_else, is_there, changed, changed_in, text_of, with_class}
 use Rattle.edit_script.specs.Edited.{holds_style}
 use Rattle.dom_edits.specs.Nodes.{renumbered, moved, inside_len, node_has_id, node_is_style}
-use Rattle.dom_edits.proofs.Shifted.{kids_nodes, next_nodes, IsBelow, below_more, own_below, kept, still, shift_past, outside, outside_both}
+use Rattle.dom_edits.proofs.Shifted.{kids_nodes, next_nodes, IsBelow, below_more, own_below, kept, still, shift_past, outside}
+use Rattle.dom_edits.proofs.Shifted.{outside_both}
 
 -- what stands in place of an element and of what is in it
 abbrev pub new_nodes : Edit → Option ℕ → ℕ → Whole → List DomNode
@@ -26,8 +27,8 @@ new_nodes (edits.Remove id) q i e = []
 abbrev pub end_of : ℕ → Whole → ℕ
 end_of i e = i + 1 + length (kids_nodes i e.kids)
 
--- The nodes of a tree are those before an element, the element, those in it and those after it; and after the edit those before it,
--- the new ones, and those after it with their new numbers.
+-- The nodes of a tree are those before an element, the element, those in it and those after it; and after the edit those before
+-- it, the new ones, and those after it with their new numbers.
 pub record Spot (edit : Edit) (parent : Option ℕ) (k : ℕ) (tree : Forest) (e : Whole) : Type 0 where
   pub pre : List DomNode
   pub post : List DomNode
@@ -55,7 +56,8 @@ here_after : (edit : Edit) (parent : Option ℕ) (k at : ℕ) (name : List ℕ) 
     (next_nodes parent k kids next)
 here_after (edits.Words id rest) parent k at name attributes kids next lt =
     let words = nodes_from (Some k) (suc k) (text_of at rest) in
-    let past = shift_past parent (k + 1 + length (kids_nodes k kids)) (k + suc (length words)) 0 (suc k + length (kids_nodes k kids))
+    let past = shift_past parent (k + 1 + length (kids_nodes k kids)) (k + suc (length words)) 0 (suc k + length
+    (kids_nodes k kids))
     (suc k + length words) next (below_more parent k _ lt (omega arith)) (omega arith) (omega arith) in
     rw past refl
 here_after (edits.Class id rest) parent k at name attributes kids next lt =
@@ -107,12 +109,17 @@ in_words edit parent k at text next e lt s =
       own = s.own;
       above = s.above;
       ends = s.ends;
-      still_pre = λ f same. rw (kept f parent s.i same (below_more parent k s.i lt (omega (arith, place))), s.still_pre f same) refl;
+      still_pre = λ f same. rw (
+        kept f parent s.i same (below_more parent k s.i lt (omega
+            (arith, place))),
+        s.still_pre f same,
+      ) refl;
       after = ap (λ ys. front ∷ ys) s.after;
     }
 
 -- an element in the first one
-in_kids : (edit : Edit) (parent : Option ℕ) (k at : ℕ) (name : List ℕ) (attributes : List Attribute) (kids next : Forest) (e : Whole)
+in_kids : (edit : Edit) (parent : Option ℕ) (k at : ℕ) (name : List ℕ) (attributes : List Attribute) (kids next : Forest)
+    (e : Whole)
     → IsBelow parent k → has_id (id_of edit) attributes ≡ false → is_there (first_with (id_of edit) kids) ≡ true
     → Spot edit (Some k) (suc k) kids e → Spot edit parent k (Element at name attributes kids next) e
 in_kids edit parent k at name attributes kids next e lt other is s =
@@ -142,7 +149,11 @@ in_kids edit parent k at name attributes kids next e lt other is s =
       own = s.own;
       above = s.above;
       ends = outside_both s.i s.post x s.ends (outside s.i _ parent next (below_more parent k s.i lt (omega (arith, place))));
-      still_pre = λ f same. rw (kept f parent s.i same (below_more parent k s.i lt (omega (arith, place))), s.still_pre f same) refl;
+      still_pre = λ f same. rw (
+        kept f parent s.i same (below_more parent k s.i lt (omega
+            (arith, place))),
+        s.still_pre f same,
+      ) refl;
       after = rw (other, is) (ap (λ ys. front ∷ ys) (ap (λ ys. kids_nodes k (changed_in edit kids) ++ ys) (sym past)
           ∙ joined s.pre (new_nodes edit s.q s.i e) (map (renumbered f) s.post) (map (renumbered f) x)
           (kids_nodes k (changed_in edit kids)) s.after
@@ -169,7 +180,8 @@ misses id parent k (Element at name attributes kids next) none =
         rw (is, list_any-append (node_has_id id) (kids_nodes k kids) (next_nodes parent k kids next), inner found, outer e) refl
 
 -- an element after the first one
-in_next : (edit : Edit) (parent : Option ℕ) (k at : ℕ) (name : List ℕ) (attributes : List Attribute) (kids next : Forest) (e : Whole)
+in_next : (edit : Edit) (parent : Option ℕ) (k at : ℕ) (name : List ℕ) (attributes : List Attribute) (kids next : Forest)
+    (e : Whole)
     → IsBelow parent k → has_id (id_of edit) attributes ≡ false → first_with (id_of edit) kids ≡ None
     → Spot edit parent (suc k + length (kids_nodes k kids)) next e → Spot edit parent k (Element at name attributes kids next) e
 in_next edit parent k at name attributes kids next e lt other none s =
@@ -185,7 +197,13 @@ in_next edit parent k at name attributes kids next e lt other none s =
       i = s.i;
       place = omega (arith, place, len);
       nodes = ap (λ ys. front ∷ ys) (ap (λ ys. k_nodes ++ ys) s.nodes ∙ sym (append_assoc k_nodes s.pre _));
-      first = rw (other, list_any-append (node_has_id (id_of edit)) k_nodes s.pre, misses (id_of edit) (Some k) (suc k) kids none, s.first) refl;
+      first = rw (
+        other,
+        list_any-append (node_has_id (id_of edit)) k_nodes s.pre,
+        misses (id_of edit) (Some k)
+            (suc k) kids none,
+        s.first,
+      ) refl;
       own = s.own;
       above = s.above;
       ends = s.ends;
@@ -213,7 +231,8 @@ spot edit parent k (Element at name attributes kids next) e lt is =
     (λ found. spot edit parent (suc k + length (kids_nodes k kids)) next e (below_more parent k _ lt (omega arith)) found)
   where
     by_own : (t : Bool) (f : Option Whole) → has_id (id_of edit) attributes ≡ t → first_with (id_of edit) kids ≡ f
-        → cond t (Some (record { at = at; name = name; attributes = attributes; kids = kids })) (or_else f (first_with (id_of edit) next)) ≡ Some e
+        → cond t (Some (record { at = at; name = name; attributes = attributes; kids = kids })) (or_else f (first_with
+        (id_of edit) next)) ≡ Some e
         → ((w : Whole) → first_with (id_of edit) kids ≡ Some w → Spot edit (Some k) (suc k) kids w)
         → (first_with (id_of edit) next ≡ Some e → Spot edit parent (suc k + length (kids_nodes k kids)) next e)
         → Spot edit parent k (Element at name attributes kids next) e
@@ -237,5 +256,6 @@ styles parent k (Element at name attributes kids next) =
       styles parent (suc k + length (kids_nodes k kids)) next,
     ) refl
 
-pub none_there : (id : List ℕ) (tree : Forest) → first_with id tree ≡ None → list_any (node_has_id id) (nodes_from None 0 tree) ≡ false
+pub none_there : (id : List ℕ) (tree : Forest) → first_with id tree ≡ None
+    → list_any (node_has_id id) (nodes_from None 0 tree) ≡ false
 none_there id tree none = misses id None 0 tree none

@@ -58,7 +58,12 @@ kind_with_class at value (kinds.Element name attributes) = kinds.Element name (w
 kind_with_class at value (kinds.Words text) = kinds.Words text
 
 abbrev pub node_with_class : List ℕ → DomNode → DomNode
-node_with_class value node = record { parent = node.parent; offset = node.offset; kind = kind_with_class node.offset value node.kind }
+node_with_class value node = record {
+  parent = node.parent;
+  offset = node.offset;
+  kind = kind_with_class node.offset value
+      node.kind;
+}
 
 -- the class of the node of this number
 abbrev pub classed_at : ℕ → List ℕ → List DomNode → List DomNode

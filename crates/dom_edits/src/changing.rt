@@ -1,6 +1,7 @@
 //! An edit of a document.
 
-ghost use Rattle.std.specs.Prelude.{◌≡◌, [], ◌∷◌, ◌+◌, ◌-◌, ◌<◌, ◌≤◌, ◌^◌, All, length, None, Some, slice_get, IfSome, OnOk, OnErr};
+ghost use Rattle.std.specs.Prelude.{◌≡◌, [], ◌∷◌, ◌+◌, ◌-◌, ◌<◌, ◌≤◌, ◌^◌, All, length, None, Some, slice_get, IfSome, OnOk};
+ghost use Rattle.std.specs.Prelude.{OnErr};
 ghost use Rattle.std.specs.List.{position};
 ghost use Rattle.html_grammar.specs.Tree.{Forest, nodes_from};
 ghost use Rattle.html_subset.specs.WellFormed.{IsWellFormed};
@@ -142,7 +143,8 @@ fn change_words(
     requires short { length nodes.old.items < 2 ^ 31 }
     requires small { All (λ node. ParentIsBelow (2 ^ 32 - 1) node.parent) nodes.old.items }
     ensures ok { OnOk result (nodes.new.items ≡ nodes_specs.replaced (place.start + 1) place.end
-        (nodes_specs.words_at place.start (nodes_specs.offset_in (slice_get nodes.old.items place.start)) rest.now) nodes.old.items) }
+        (nodes_specs.words_at place.start (nodes_specs.offset_in
+        (slice_get nodes.old.items place.start)) rest.now) nodes.old.items) }
     ensures err { OnErr result (nodes.new.items ≡ nodes.old.items) }
 {
     if rest.is_empty() {

@@ -131,7 +131,8 @@ removal_back : (bytes : List ℕ) (step : Step) → removal_at bytes ≡ Some st
 unfolding removal_at
 removal_back bytes step e =
     let h = where_true (is_id bytes) (Some (steps.Change (edits.Remove bytes))) step e in
-    let is : steps.Change (edits.Remove bytes) ≡ step = let s : Some (steps.Change (edits.Remove bytes)) ≡ Some step = h.1 in cc in
+    let is : steps.Change (edits.Remove bytes) ≡ step = let s : Some (steps.Change (edits.Remove bytes)) ≡ Some step = h.1 in
+    cc in
     rw (← is) (record { written = refl; named = h.0 })
 
 edit_back : (word bytes : List ℕ) (step : Step) → edit_at word bytes ≡ Some step → IsSpelled step (word ++ 32 ∷ bytes)

@@ -47,10 +47,11 @@ holds_style (Element at name attributes kids next) = same name (codes "style") |
 abbrev pub has_style : Whole → Bool
 has_style e = same e.name (codes "style") || holds_style e.kids
 
--- Whether an edit may be done at an element of this name that is or holds a style element, or not: a text not in `html`, in `head`
--- or in a void element, a removal not of `html`, `head` or `body`, and neither where a style element is.
+-- Whether an edit may be done at an element of this name that is or holds a style element, or not: a text not in `html`, in
+-- `head` or in a void element, a removal not of `html`, `head` or `body`, and neither where a style element is.
 abbrev pub allowed_at : Edit → List ℕ → Bool → Bool
-allowed_at (edits.Words id rest) name styled = not (same name (codes "html") || (same name (codes "head") || (is_void name || styled)))
+allowed_at (edits.Words id rest) name styled = not (same name (codes "html") || (same name (codes "head") ||
+    (is_void name || styled)))
 allowed_at (edits.Class id rest) name styled = true
 allowed_at (edits.Remove id) name styled =
     not (same name (codes "html") || (same name (codes "head") || (same name (codes "body") || styled)))

@@ -1,8 +1,8 @@
 //! Scripts of edits: what a script says, its first fault, and the tree of a document after an edit.
 //!
 //! It stands on mc_base, and on html_grammar for trees. `specs/Spelling.antt` says how a step of a script is written, and
-//! `specs/Script.antt` which steps a text has, or which fault is its first; `read_script` promises just these. `specs/Edited.antt`
-//! says which tree a document has after an edit, or why it has none: the other crates' contracts cite it.
+//! `specs/Script.antt` which steps a text has, or which fault is its first; `read_script` promises just these.
+//! `specs/Edited.antt` says which tree a document has after an edit, or why it has none: the other crates' contracts cite it.
 #![tactic(auto)]
 
 mod cut;

@@ -69,8 +69,8 @@ fn refusal_of(fault: Fault) -> Refusal
 
 /// The lines of a script, each with the byte at which it begins and its step.
 ///
-/// `Grammar` comes off the grammar, with the first fault: l1 at the first byte that is U+0000 or off UTF-8, before all else, l2 at
-/// a last line without a line end, and l3 at a line of no form. `NoMemory` is out of memory.
+/// `Grammar` comes off the grammar, with the first fault: l1 at the first byte that is U+0000 or off UTF-8, before all else, l2
+/// at a last line without a line end, and l3 at a line of no form. `NoMemory` is out of memory.
 pub fn read_script(alloc: Global, text: &[u8]) -> Result<List<ScriptLine>, Refusal>
     ensures { scripts.IsAnswer result (scripts.script_of text.now) }
 {

@@ -4,8 +4,8 @@ use mc_base::Text;
 
 /// A change to the first element in document order whose `id` is this.
 ///
-/// `Words` puts one text in place of all that is in it, or nothing where the text is empty. `Class` gives it this `class`. `Remove`
-/// takes it out, with all that is in it.
+/// `Words` puts one text in place of all that is in it, or nothing where the text is empty. `Class` gives it this `class`.
+/// `Remove` takes it out, with all that is in it.
 #[derive(Drop)]
 pub enum Edit {
     Words { id: Text, rest: Text },

@@ -9,8 +9,10 @@ use Rattle.mc_run.specs.FlowResult.{IsPageView, RefusesPageView}
 use Rattle.page_views.specs.Shown.{HasLongView}
 use Rattle.mc_run.proofs.Results.{short_or_long}
 
-pub one_of_texts : OneAnswer → (view : FlowsData → List ℕ) (document sheet metrics : List ℕ) (width : ℕ) (height : Option ℕ) (a b : Refusal)
-    → RefusesPageView view document sheet metrics width height a → RefusesPageView view document sheet metrics width height b → a ≡ b
+pub one_of_texts : OneAnswer → (view : FlowsData → List ℕ) (document sheet metrics : List ℕ) (width : ℕ)
+    (height : Option ℕ) (a b : Refusal)
+    → RefusesPageView view document sheet metrics width height a → RefusesPageView view document sheet metrics width height b
+    → a ≡ b
 one_of_texts law view document sheet metrics width height a b (inl h) (inl k) =
     law.reason document sheet metrics width height a b h k
 one_of_texts law view document sheet metrics width height a b (inl h) (inr k) =
@@ -19,7 +21,8 @@ one_of_texts law view document sheet metrics width height a b (inr h) (inl k) =
     absurd (law.either document sheet metrics width height h.0.0 b h.0.1 k)
 one_of_texts law view document sheet metrics width height a b (inr h) (inr k) = h.1 ∙ sym k.1
 
-pub texts_or_refusal : OneAnswer → (view : FlowsData → List ℕ) (document sheet metrics : List ℕ) (width : ℕ) (height : Option ℕ) (text : List ℕ)
+pub texts_or_refusal : OneAnswer → (view : FlowsData → List ℕ) (document sheet metrics : List ℕ) (width : ℕ)
+    (height : Option ℕ) (text : List ℕ)
     (refusal : Refusal) → IsPageView view document sheet metrics width height text
     → RefusesPageView view document sheet metrics width height refusal → ⊥
 texts_or_refusal law view document sheet metrics width height text refusal h (inl k) =
@@ -28,7 +31,8 @@ texts_or_refusal law view document sheet metrics width height text refusal h (in
     short_or_long view (DocumentSays document sheet metrics width height) text refusal
     (law.flows document sheet metrics width height) h k
 
-pub texts_err : (view : FlowsData → List ℕ) (document sheet metrics : List ℕ) (width : ℕ) (height : Option ℕ) (r : Result (List ℕ) Refusal)
+pub texts_err : (view : FlowsData → List ℕ) (document sheet metrics : List ℕ) (width : ℕ) (height : Option ℕ)
+    (r : Result (List ℕ) Refusal)
     → IfErr r (λ e. (e ≡ NoMemory) ⊎ HasLongView view (DocumentSays document sheet metrics width height) e)
     → IfErr r (λ e. (e ≡ NoMemory) ⊎ RefusesPageView view document sheet metrics width height e)
 texts_err view document sheet metrics width height (Ok text) is = tt

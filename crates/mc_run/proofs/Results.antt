@@ -13,13 +13,16 @@ pub said_long : (view : FlowsData → List ℕ) (Says : FlowsData → Type 0) (f
     → HasLongView view (λ d. d ≡ flows) refusal → HasLongView view Says refusal
 said_long view Says flows refusal says long = ((long.0.0, subst Says (sym long.0.1) says, long.0.2), long.1)
 
-pub said_ok : (view : FlowsData → List ℕ) (Says : FlowsData → Type 0) (flows : FlowsData) (r : Result (List ℕ) Refusal) → Says flows
+pub said_ok : (view : FlowsData → List ℕ) (Says : FlowsData → Type 0) (flows : FlowsData) (r : Result (List ℕ) Refusal)
+    → Says flows
     → IfOk r (IsView view (λ d. d ≡ flows)) → IfOk r (IsView view Says)
 said_ok view Says flows (Ok text) says is = said_result view Says flows text says is
 said_ok view Says flows (Err e) says is = tt
 
-pub said_err : (view : FlowsData → List ℕ) (Says : FlowsData → Type 0) (flows : FlowsData) (r : Result (List ℕ) Refusal) → Says flows
-    → IfErr r (λ e. (e ≡ NoMemory) ⊎ HasLongView view (λ d. d ≡ flows) e) → IfErr r (λ e. (e ≡ NoMemory) ⊎ HasLongView view Says e)
+pub said_err : (view : FlowsData → List ℕ) (Says : FlowsData → Type 0) (flows : FlowsData) (r : Result (List ℕ) Refusal)
+    → Says flows
+    → IfErr r (λ e. (e ≡ NoMemory) ⊎ HasLongView view (λ d. d ≡ flows) e)
+    → IfErr r (λ e. (e ≡ NoMemory) ⊎ HasLongView view Says e)
 said_err view Says flows (Ok text) says is = tt
 said_err view Says flows (Err e) says (inl none) = inl none
 said_err view Says flows (Err e) says (inr long) = inr (said_long view Says flows e says long)

@@ -27,7 +27,8 @@ pub enum View {
 /// What is shown of flows.
 fn shown(alloc: Global, flows: &Flows, view: View) -> Result<Text, Refusal>
     ensures ok { IfOk result (IsView (view_text view) (λ d. d ≡ flows.now)) }
-    ensures err { IfErr result (λ refusal. (refusal ≡ Refusal.NoMemory) ⊎ HasLongView (view_text view) (λ d. d ≡ flows.now) refusal) }
+    ensures err { IfErr result (λ refusal. (refusal ≡ Refusal.NoMemory)
+        ⊎ HasLongView (view_text view) (λ d. d ≡ flows.now) refusal) }
 {
     match view {
         View::Tree => print(alloc, flows),
@@ -76,7 +77,8 @@ pub fn page_result(
     ensures ok { IfOk result (IsPageView (view_text view) texts.now.document.items texts.now.sheet.items texts.now.metrics.items
         width height) }
     ensures err { IfErr result (λ refusal. (refusal ≡ Refusal.NoMemory)
-        ⊎ RefusesPageView (view_text view) texts.now.document.items texts.now.sheet.items texts.now.metrics.items width height refusal) }
+        ⊎ RefusesPageView (view_text view) texts.now.document.items texts.now.sheet.items texts.now.metrics.items width height
+        refusal) }
 {
     bytes_result(
         alloc,

@@ -1,5 +1,6 @@
 -- The law of least pieces, and of searches for them.
-use Rattle.std.proofs.Common.{◌≡◌, ℕ, zero, suc, ◌+◌, ◌-◌, ◌<◌, ◌≤◌, Bool, true, false, cond, List, [], ◌∷◌, min, refl, sym, subst}
+use Rattle.std.proofs.Common.{◌≡◌, ℕ, zero, suc, ◌+◌, ◌-◌, ◌<◌, ◌≤◌, Bool, true, false, cond, List, [], ◌∷◌, min, refl, sym}
+use Rattle.std.proofs.Common.{subst}
 use Rattle.std.proofs.Common.{◌∙◌, ap, arith, Option, Some, None, ◌⊎◌, inl, inr}
 use Rattle.std.specs.Prelude.{nat_le, fold, All}
 use Rattle.std.proofs.lemmas.Bool.{cases_lt}
@@ -22,7 +23,8 @@ module _ (d : FlowsData) (r : ℕ) (q : Token) (a : ℕ) where
   least-piece : (cut_piece d r q a).overflow ≡ false → IsLeast Does (least_height d r q a)
   unfolding least_height Does
   least-piece fine =
-      let k = least-is Does a 0 a (λ k lt. absurd (omega arith)) (omega arith) (omega arith) (does-itself (cut_piece d r q a) fine) in
+      let k = least-is Does a 0 a (λ k lt. absurd (omega arith)) (omega arith) (omega arith) (does-itself
+      (cut_piece d r q a) fine) in
       rw fine (record { passes_at = k.itself; none_below = k.below })
 
   no-higher : least_height d r q a ≤ a
@@ -51,7 +53,8 @@ module _ (d : FlowsData) (r : ℕ) (q : Token) (a : ℕ) where
   piece-holds = record {
     least = least-piece;
     no_higher = no-higher;
-    go_on = λ fine. subst (λ xs. GoOn 0 (least_height d r q a) xs) (sym (ranges-are fine)) (all-go-on (cut_piece d r q) (cut_piece d r q a) (least_height d r q a) (piece-stays d r q)
+    go_on = λ fine. subst (λ xs. GoOn 0 (least_height d r q a) xs) (sym (ranges-are fine)) (all-go-on (cut_piece d r q)
+        (cut_piece d r q a) (least_height d r q a) (piece-stays d r q)
         (piece-above d r q) (least-piece fine).none_below (least_height d r q a) 0 (omega arith) (omega arith));
     reasons = go (cut_piece d r q a).overflow;
   }
@@ -83,7 +86,8 @@ module _ (d : FlowsData) (r : ℕ) (q : Token) (a : ℕ) where
             record {
               above = least-over low a (cut_piece d r q low).bounds (omega arith) (piece-above d r q low);
               no_higher = end;
-              first = subst (λ e. ranges_from d r q a low ≡ record { low = low; high = e; reason = reason } ∷ ranges_from d r q a e)
+              first = subst (λ e. ranges_from d r q a low ≡ record { low = low; high = e; reason = reason }
+                  ∷ ranges_from d r q a e)
                   same (one-more (cut_piece d r q) (cut_piece d r q a) top (piece-stays d r q) (piece-above d r q)
                   (least-piece fine).none_below low reason lt why);
             }

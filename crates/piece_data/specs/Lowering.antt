@@ -1,8 +1,10 @@
 -- The tree of a layout in which each cut piece of a flagged row is as low as it can be (this project's own): from the outermost
 -- piece inward, what follows a piece in its column stays where it is.
-use Rattle.std.specs.Prelude.{ℕ, zero, suc, ◌+◌, ◌-◌, ◌==◌, Bool, true, false, cond, List, [], ◌∷◌, ◌++◌, get_or, length, map, Option}
+use Rattle.std.specs.Prelude.{ℕ, zero, suc, ◌+◌, ◌-◌, ◌==◌, Bool, true, false, cond, List, [], ◌∷◌, ◌++◌, get_or, length, map}
+use Rattle.std.specs.Prelude.{Option}
 use Rattle.std.specs.Prelude.{Some, None, fold}
-use Rattle.mc_base.specs.PlainTree.{PlainTree, PlainTrees, plain_trees, atom as atom_tree, piece, row_piece, column as column_tree}
+use Rattle.mc_base.specs.PlainTree.{PlainTree, PlainTrees, plain_trees, atom as atom_tree, piece, row_piece}
+use Rattle.mc_base.specs.PlainTree.{column as column_tree}
 use Rattle.mc_base.specs.PlainTree.{no_trees, more_trees}
 use Rattle.flow_data.specs.Flows.{box_of, row_of, flow_of, flow_in, stack_of, item_of}
 use Rattle.flow_list.specs.Certificate.{StackRow, rows_in_stacks}

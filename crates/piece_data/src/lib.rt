@@ -1,8 +1,8 @@
 //! The pieces of rows that are cut, each as low as it can be (`column-fill: balance-all`): what is told of them.
 //!
 //! It stands on flow_list and its laws. Its `specs/` say what the least height of a piece is and why no lesser one will do
-//! (`LeastPiece`), the tree of a layout whose flagged pieces are lowered (`Lowering`), and its text (`LoweredText`). Its functions
-//! promise laws of these, do nothing, and take no memory.
+//! (`LeastPiece`), the tree of a layout whose flagged pieces are lowered (`Lowering`), and its text (`LoweredText`). Its
+//! functions promise laws of these, do nothing, and take no memory.
 #![tactic(auto)]
 
 ghost use Rattle.std.specs.Prelude.{◌≡◌, ℕ, false};

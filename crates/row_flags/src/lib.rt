@@ -1,11 +1,12 @@
 //! Which rows of a document ask for each of their pieces to be as low as it can be (`column-fill: balance-all`).
 //!
-//! It stands on flow_list and open_boxes for the rows and the boxes around them, and on box_data and css_cascade for the styles of
-//! these. `flags` promises a flag for each row: whether the innermost box that is open at its item has the value. It asks for
+//! It stands on flow_list and open_boxes for the rows and the boxes around them, and on box_data and css_cascade for the styles
+//! of these. `flags` promises a flag for each row: whether the innermost box that is open at its item has the value. It asks for
 //! nothing of the boxes and styles: where a number names none of them, the flag is false.
 #![tactic(auto)]
 
-ghost use Rattle.std.specs.Prelude.{◌≡◌, ◌∷◌, ◌++◌, [], ◌<◌, IfOk, List as Items, OnOk, false, length, replicate, set, true, cond, ℕ, Bool};
+ghost use Rattle.std.specs.Prelude.{◌≡◌, ◌∷◌, ◌++◌, [], ◌<◌, IfOk, List as Items, OnOk, false, length, replicate, set, true};
+ghost use Rattle.std.specs.Prelude.{cond, ℕ, Bool};
 ghost use Rattle.css_cascade.specs.Entries.{style_at};
 ghost use Rattle.flow_data.specs.Flows.{flow_of, item_of, open_at};
 ghost use Rattle.box_style.specs.Styles as styles_of;

@@ -11,7 +11,8 @@ returns-in-Err-clause-done c = λ tree all.
 
 pub change_list-requires-clause-small : goal.change_list-requires-clause-small
 change_list-requires-clause-small c =
-    small_parents c.args.dom.now.nodes c.requires.formed.tree (2 ^ 32 - 1) c.requires.formed.nodes (omega (arith, c.requires.formed.count))
+    small_parents c.args.dom.now.nodes c.requires.formed.tree (2 ^ 32 - 1) c.requires.formed.nodes (omega
+    (arith, c.requires.formed.count))
 
 pub returns-in-Ok-change_list-clause-done : goal.returns-in-Ok-change_list-clause-done
 returns-in-Ok-change_list-clause-done c = λ tree all.

@@ -12,12 +12,15 @@ pub returns-clause-text : goal.returns-clause-text
 returns-clause-text c =
     let d = c.args.flows.now in
     let first : c.extend.new.self ≡ codes "mcol 2\n" = search rules in
-    let whole = ap (λ (front : List ℕ). (front ++ tree_text (tree_of d)) ++ ended_lines (certificate_lines d)) first ∙ by-parts d in
+    let whole = ap (λ (front : List ℕ). (front ++ tree_text (tree_of d)) ++ ended_lines (certificate_lines d)) first
+    ∙ by-parts d in
     subst (λ (all : List ℕ). IfOk c.laid_out.result (λ found. IfSome found (λ text. text ≡ all))) whole c.laid_out.ensures.text
 
 pub returns-clause-long : goal.returns-clause-long
 returns-clause-long c =
     let d = c.args.flows.now in
     let first : c.extend.new.self ≡ codes "mcol 2\n" = search rules in
-    let whole = ap (λ (front : List ℕ). (front ++ tree_text (tree_of d)) ++ ended_lines (certificate_lines d)) first ∙ by-parts d in
-    subst (λ (all : List ℕ). IfOk c.laid_out.result (λ found. found ≡ None → 268435456 < length all)) whole c.laid_out.ensures.long
+    let whole = ap (λ (front : List ℕ). (front ++ tree_text (tree_of d)) ++ ended_lines (certificate_lines d)) first
+    ∙ by-parts d in
+    subst (λ (all : List ℕ). IfOk c.laid_out.result (λ found. found ≡ None
+    → 268435456 < length all)) whole c.laid_out.ensures.long

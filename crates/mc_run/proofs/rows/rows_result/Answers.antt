@@ -8,12 +8,14 @@ use Rattle.mc_run.proofs.rows.rows_result.Goals as goal
 
 pub returns-clause-ok : goal.returns-clause-ok
 returns-clause-ok c =
-    said_ok result_text (FlowSays c.args.bytes.now) c.in_ok-flows.flows c.print.result c.in_ok-flows.ensures.found c.print.ensures.ok
+    said_ok result_text (FlowSays c.args.bytes.now) c.in_ok-flows.flows c.print.result c.in_ok-flows.ensures.found
+    c.print.ensures.ok
 
 pub returns-clause-err : goal.returns-clause-err
 returns-clause-err c =
     bytes_err c.args.bytes.now c.print.result
-    (said_err result_text (FlowSays c.args.bytes.now) c.in_ok-flows.flows c.print.result c.in_ok-flows.ensures.found c.print.ensures.err)
+    (said_err result_text (FlowSays c.args.bytes.now) c.in_ok-flows.flows c.print.result c.in_ok-flows.ensures.found
+    c.print.ensures.err)
 
 pub returns-in_err-flows-clause-err : goal.returns-in_err-flows-clause-err
 returns-in_err-flows-clause-err c =
