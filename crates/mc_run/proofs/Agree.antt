@@ -7,7 +7,7 @@ use Rattle.mc_base.specs.declared.refusal.Input.TheVariants.{Document, Sheet, Me
 use Rattle.mc_run.specs.FlowResult.{IsFlowResult, RefusesBytes, IsDocumentResult, RefusesTexts}
 use Rattle.mc_run.specs.Inputs.{NamedInput, Contents, reads, AreHeld, AreTold, AreShort, IsTooLong, byte_limit}
 use Rattle.mc_run.specs.Outcome.{Yields, Denies, HasResult, IsRefused}
-use Rattle.mc_run.specs.Words.{Command, rows, gen, layout}
+use Rattle.mc_words.specs.Words.{Command, rows, gen, trial, layout, hit, draw}
 
 abbrev pub Agree : Contents → Contents → List NamedInput → Type 0
 Agree a b inputs = AllByRecursion (λ i. a i.input ≡ b i.input) inputs
@@ -40,19 +40,25 @@ yields_along : (command : Command) (a b : Contents) (text : List ℕ) → Agree 
     → Yields command b text
 yields_along (rows flow) a b text same yields = subst (λ bytes. IsFlowResult bytes text) same.0 yields
 yields_along (gen start count) a b text same yields = yields
-yields_along (layout document sheet metrics width height) a b text same yields =
-    subst (λ bytes. IsDocumentResult bytes (b Sheet) (b Metrics) width height text) same.0
-    (subst (λ bytes. IsDocumentResult (a Document) bytes (b Metrics) width height text) same.1.0
-    (subst (λ bytes. IsDocumentResult (a Document) (a Sheet) bytes width height text) same.1.1.0 yields))
+yields_along (trial start count) a b text same yields = yields
+yields_along (layout page) a b text same yields =
+    subst (λ bytes. IsDocumentResult bytes (b Sheet) (b Metrics) page.width page.height text) same.0
+    (subst (λ bytes. IsDocumentResult (a Document) bytes (b Metrics) page.width page.height text) same.1.0
+    (subst (λ bytes. IsDocumentResult (a Document) (a Sheet) bytes page.width page.height text) same.1.1.0 yields))
+yields_along (hit page x y) a b text same yields = yields
+yields_along (draw page rule) a b text same yields = yields
 
 denies_along : (command : Command) (a b : Contents) (refusal : Refusal) → Agree a b (reads command) → Denies command a refusal
     → Denies command b refusal
 denies_along (rows flow) a b refusal same denies = subst (λ bytes. RefusesBytes bytes refusal) same.0 denies
 denies_along (gen start count) a b refusal same denies = denies
-denies_along (layout document sheet metrics width height) a b refusal same denies =
-    subst (λ bytes. RefusesTexts bytes (b Sheet) (b Metrics) width height refusal) same.0
-    (subst (λ bytes. RefusesTexts (a Document) bytes (b Metrics) width height refusal) same.1.0
-    (subst (λ bytes. RefusesTexts (a Document) (a Sheet) bytes width height refusal) same.1.1.0 denies))
+denies_along (trial start count) a b refusal same denies = denies
+denies_along (layout page) a b refusal same denies =
+    subst (λ bytes. RefusesTexts bytes (b Sheet) (b Metrics) page.width page.height refusal) same.0
+    (subst (λ bytes. RefusesTexts (a Document) bytes (b Metrics) page.width page.height refusal) same.1.0
+    (subst (λ bytes. RefusesTexts (a Document) (a Sheet) bytes page.width page.height refusal) same.1.1.0 denies))
+denies_along (hit page x y) a b refusal same denies = denies
+denies_along (draw page rule) a b refusal same denies = denies
 
 pub result_along : (command : Command) (a b : Contents) (text : List ℕ) → Agree a b (reads command) → HasResult command a text
     → HasResult command b text

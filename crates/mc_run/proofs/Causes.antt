@@ -12,7 +12,7 @@ use Rattle.mc_base.specs.declared.refusal.Rule.{Rule}
 use Rattle.mc_run.specs.declared.stop.Stop.{Stop}
 use Rattle.mc_run.specs.declared.stop.Stop.TheVariants.{Usage, Read, Write, Refused}
 use Rattle.mc_run.specs.Stops.{status_of, refusal_status}
-use Rattle.mc_run.specs.Words.{Command}
+use Rattle.mc_words.specs.Words.{Command}
 use Rattle.mc_run.specs.Inputs.{NamedInput, inputs_of, HasFault, AreRead}
 use Rattle.mc_run.specs.Outcome.{Gives, Refuses, RefusesTold, Accepts, IsCause}
 use Rattle.mc_run.proofs.OneReason.{no_result, not_refused, reason_is}
@@ -54,7 +54,7 @@ ungrammatical command held before now ob on Usage cause is = absurd (omega arith
 ungrammatical command held before now ob on (Read input) cause is = absurd (omega arith)
 ungrammatical command held before now ob on Write cause is = absurd (omega arith)
 ungrammatical command held before now ob on (Refused (Grammar input offset rule)) cause is =
-    (input, offset, rule, full command held (Grammar input offset rule) (λ e. cc) cause.1)
+    (input, offset, rule, full command held (Grammar input offset rule) (λ e. cc) cause)
 ungrammatical command held before now ob on (Refused (Construct input offset name)) cause is = absurd (omega arith)
 ungrammatical command held before now ob on (Refused (Limit name reached limit)) cause is = absurd (omega arith)
 ungrammatical command held before now ob on (Refused NoMemory) cause is = absurd (omega arith)
@@ -68,7 +68,7 @@ not_laid_out command held before now ob on (Read input) cause is = absurd (omega
 not_laid_out command held before now ob on Write cause is = absurd (omega arith)
 not_laid_out command held before now ob on (Refused (Grammar input offset rule)) cause is = absurd (omega arith)
 not_laid_out command held before now ob on (Refused (Construct input offset name)) cause is =
-    (input, offset, name, full command held (Construct input offset name) (λ e. cc) cause.1)
+    (input, offset, name, full command held (Construct input offset name) (λ e. cc) cause)
 not_laid_out command held before now ob on (Refused (Limit name reached limit)) cause is = absurd (omega arith)
 not_laid_out command held before now ob on (Refused NoMemory) cause is = absurd (omega arith)
 
@@ -82,7 +82,7 @@ limited command held before now ob on Write cause is = absurd (omega arith)
 limited command held before now ob on (Refused (Grammar input offset rule)) cause is = absurd (omega arith)
 limited command held before now ob on (Refused (Construct input offset name)) cause is = absurd (omega arith)
 limited command held before now ob on (Refused (Limit name reached limit)) cause is =
-    (name, reached, limit, full command held (Limit name reached limit) (λ e. cc) cause.1)
+    (name, reached, limit, full command held (Limit name reached limit) (λ e. cc) cause)
 limited command held before now ob on (Refused NoMemory) cause is = absurd (omega arith)
 
 -- ---- completeness
@@ -103,7 +103,7 @@ complete law command held before now ob on (Read input) cause accepts read calm 
 complete law command held before now ob on Write cause accepts read calm memory = calm cause
 complete law command held before now ob on (Refused refusal) cause accepts read calm memory =
     not_refused law command held refusal accepts
-    (full command held refusal (λ none. memory (ap refusal_status none)) cause.1)
+    (full command held refusal (λ none. memory (ap refusal_status none)) cause)
 
 -- a command that is refused and whose inputs were read stops for that reason
 pub stops_for : OneAnswer → (command : Option Command) (held : List ℕ → Option (List ℕ)) (before now : List ℕ → ℕ) (ob on : ℕ)
@@ -118,4 +118,4 @@ stops_for law command held before now ob on Write b cause gives told read memory
     in absurd (no_result law command held given.0 b given.1 told)
 stops_for law command held before now ob on (Refused a) b cause gives told read memory =
     ap (λ (r : Refusal). Refused r)
-    (reason_is law command held a b (full command held a (λ none. memory (ap refusal_status none)) cause.1) told)
+    (reason_is law command held a b (full command held a (λ none. memory (ap refusal_status none)) cause) told)

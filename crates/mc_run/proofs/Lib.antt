@@ -1,7 +1,5 @@
 pub mod Agree
 pub mod Causes
-pub mod Lengths
-pub mod Numbers
 pub mod OneDocument
 pub mod OneFlow
 pub mod OneReason

@@ -6,7 +6,7 @@ use Rattle.mc_base.specs.declared.refusal.Input.TheVariants.{Document, Sheet, Me
 use Rattle.mc_base.specs.declared.refusal.Refusal.{Refusal}
 use Rattle.mc_run.specs.Inputs.{NamedInput, Contents, reads, AreShort, IsTooLong}
 use Rattle.mc_run.specs.Outcome.{Yields, Denies, HasResult, IsRefused, Gives, Refuses, RefusesTold, Accepts}
-use Rattle.mc_run.specs.Words.{Command, rows, gen, layout}
+use Rattle.mc_words.specs.Words.{Command, rows, gen, trial, layout, hit, draw}
 use Rattle.mc_run.proofs.Agree.{held_told, result_along, refused_along}
 use Rattle.mc_run.proofs.OneDocument.{one_of_texts, texts_or_refusal}
 use Rattle.mc_run.proofs.OneFlow.{one_of_bytes, result_or_refusal}
@@ -36,15 +36,21 @@ denied_once : OneAnswer → (command : Command) (contents : Contents) (a b : Ref
     → Denies command contents b → a ≡ b
 denied_once law (rows flow) contents a b h k = one_of_bytes (contents Flow) a b h k
 denied_once law (gen start count) contents a b h k = h.1 ∙ sym k.1
-denied_once law (layout document sheet metrics width height) contents a b h k =
-    one_of_texts law (contents Document) (contents Sheet) (contents Metrics) width height a b h k
+denied_once law (trial start count) contents a b h k = absurd h
+denied_once law (layout page) contents a b h k =
+    one_of_texts law (contents Document) (contents Sheet) (contents Metrics) page.width page.height a b h k
+denied_once law (hit page x y) contents a b h k = absurd h
+denied_once law (draw page rule) contents a b h k = absurd h
 
 yields_or_denies : OneAnswer → (command : Command) (contents : Contents) (text : List ℕ) (refusal : Refusal)
     → Yields command contents text → Denies command contents refusal → ⊥
 yields_or_denies law (rows flow) contents text refusal h k = result_or_refusal (contents Flow) text refusal h k
 yields_or_denies law (gen start count) contents text refusal h k = let few = h.0 in let many = k.0 in omega (arith, few, many)
-yields_or_denies law (layout document sheet metrics width height) contents text refusal h k =
-    texts_or_refusal law (contents Document) (contents Sheet) (contents Metrics) width height text refusal h k
+yields_or_denies law (trial start count) contents text refusal h k = h
+yields_or_denies law (layout page) contents text refusal h k =
+    texts_or_refusal law (contents Document) (contents Sheet) (contents Metrics) page.width page.height text refusal h k
+yields_or_denies law (hit page x y) contents text refusal h k = h
+yields_or_denies law (draw page rule) contents text refusal h k = h
 
 -- ---- all commands
 

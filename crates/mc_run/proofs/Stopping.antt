@@ -1,5 +1,5 @@
 -- What a command comes to, by what was read and what came of it.
-use Rattle.std.proofs.Common.{◌≡◌, ◌≢◌, ◌⊎◌, inl, inr, ℕ, ◌<◌, ◌≤◌, List, [], Option, Some, sym}
+use Rattle.std.proofs.Common.{◌≡◌, ◌≢◌, ◌⊎◌, inl, inr, ℕ, ◌<◌, ◌≤◌, List, [], Option, Some, refl, subst, sym}
 use Rattle.std.proofs.lemmas.Bool.{cases_lt}
 use Rattle.mc_base.specs.declared.refusal.Input.TheVariants.{Document, Sheet, Metrics, Flow}
 use Rattle.mc_base.specs.declared.refusal.Refusal.{Refusal}
@@ -7,11 +7,11 @@ use Rattle.mc_base.specs.declared.refusal.LimitName.TheVariants.{Paragraphs}
 use Rattle.mc_base.specs.declared.refusal.Refusal.TheVariants.{Limit, NoMemory}
 use Rattle.mc_run.specs.declared.stop.Stop.{Stop}
 use Rattle.mc_run.specs.declared.stop.Stop.TheVariants.{Usage, Read, Write, Refused}
-use Rattle.mc_run.specs.FlowResult.{IsFlowResult, RefusesBytes, IsDocumentResult, RefusesTexts}
-use Rattle.mc_run.specs.Inputs.{OnlyThese, reads, byte_limit, named_texts}
+use Rattle.mc_run.specs.FlowResult.{IsFlowResult, RefusesBytes}
+use Rattle.mc_run.specs.Inputs.{AreHeld, AreShort, HasFault, IsTooLong, OnlyThese, byte_limit, page_texts, reads}
 use Rattle.mc_run.specs.Outcome.{Gives, IsCause, Denies, Yields}
 use Rattle.mc_run.specs.Reading.{IsReadCause, IsReadingCause, IsContent}
-use Rattle.mc_run.specs.Words.{rows, gen, layout}
+use Rattle.mc_words.specs.Words.{Command, Page, rows, gen, layout}
 use Rattle.mc_run.proofs.Reading.{long_bytes, texts}
 
 -- ---- a flow file
@@ -22,10 +22,10 @@ pub flow_unread : (flow : List ℕ) (held : List ℕ → Option (List ℕ)) (bef
 flow_unread flow held before now Usage cause = absurd cause
 flow_unread flow held before now (Read input) cause = inl cause
 flow_unread flow held before now Write cause = absurd cause
-flow_unread flow held before now (Refused refusal) (inl none) = (λ e. cc, inl none)
+flow_unread flow held before now (Refused refusal) (inl none) = inl none
 flow_unread flow held before now (Refused refusal) (inr (is, over)) =
     let long = long_bytes (held flow) (byte_limit Flow) over in
-    (λ e. cc, inr (λ _. long.0, (long.1, tt), inl (inl (long.2, is))))
+    inr (λ _. long.0, (long.1, tt), inl (inl (long.2, is)))
 
 pub flow_result : (flow : List ℕ) (held : List ℕ → Option (List ℕ)) (bytes text : List ℕ)
     → IsContent (record { input = Flow; name = flow }) held bytes → IsFlowResult bytes text → Gives (Some (rows flow)) held text
@@ -34,9 +34,9 @@ flow_result flow held bytes text content is = (λ _. bytes, (content.1, tt), ((c
 pub flow_refused : (flow : List ℕ) (held : List ℕ → Option (List ℕ)) (before now : List ℕ → ℕ) (bytes : List ℕ)
     (refusal : Refusal) → IsContent (record { input = Flow; name = flow }) held bytes
     → (refusal ≡ NoMemory) ⊎ RefusesBytes bytes refusal → IsCause (Some (rows flow)) held before now 0 0 (Refused refusal)
-flow_refused flow held before now bytes refusal content (inl none) = (λ e. cc, inl none)
+flow_refused flow held before now bytes refusal content (inl none) = inl none
 flow_refused flow held before now bytes refusal content (inr refused) =
-    (λ e. cc, inr (λ _. bytes, (content.1, tt), inr ((content.0, tt), refused)))
+    inr (λ _. bytes, (content.1, tt), inr ((content.0, tt), refused))
 
 pub flow_alone : (flow : List ℕ) (before now : List ℕ → ℕ) → ((name : List ℕ) → name ≢ flow → now name ≡ before name)
     → OnlyThese before now (reads (rows flow))
@@ -50,38 +50,53 @@ pub record AreContents (document sheet metrics : List ℕ) (held : List ℕ → 
   pub sheet_is : IsContent (record { input = Sheet; name = sheet }) held s
   pub metrics_is : IsContent (record { input = Metrics; name = metrics }) held m
 
-pub page_unread : (document sheet metrics : List ℕ) (width : ℕ) (height : Option ℕ) (held : List ℕ → Option (List ℕ))
-    (before now : List ℕ → ℕ) (stop : Stop) → IsReadingCause (named_texts document sheet metrics) held before now stop
-    → IsCause (Some (layout document sheet metrics width height)) held before now 0 0 stop
-page_unread document sheet metrics width height held before now Usage cause = absurd cause
-page_unread document sheet metrics width height held before now (Read input) cause = cause
-page_unread document sheet metrics width height held before now Write cause = absurd cause
-page_unread document sheet metrics width height held before now (Refused refusal) (inl none) = (λ e. cc, inl none)
-page_unread document sheet metrics width height held before now (Refused refusal) (inr (contents, are, long)) =
-    (λ e. cc, inr (contents, are, inl long))
+-- a command that reads these three and no more
+module _ (command : Command) (page : Page) (same : page_texts page ≡ reads command) where
+  pub page_unread : (held : List ℕ → Option (List ℕ)) (before now : List ℕ → ℕ) (stop : Stop)
+      → IsReadingCause (page_texts page) held before now stop → IsCause (Some command) held before now 0 0 stop
+  page_unread held before now Usage cause = absurd cause
+  page_unread held before now (Read input) cause = subst (λ inputs. HasFault before now inputs input) same cause
+  page_unread held before now Write cause = absurd cause
+  page_unread held before now (Refused refusal) (inl none) = inl none
+  page_unread held before now (Refused refusal) (inr (contents, are, long)) =
+      inr (
+        contents,
+        subst (λ inputs. AreHeld held contents inputs) same are,
+        inl (subst (λ inputs. IsTooLong contents inputs refusal) same long),
+      )
 
-pub page_text : (document sheet metrics : List ℕ) (width : ℕ) (height : Option ℕ) (held : List ℕ → Option (List ℕ))
-    (d s m text : List ℕ) → AreContents document sheet metrics held d s m → IsDocumentResult d s m width height text
-    → Gives (Some (layout document sheet metrics width height)) held text
-page_text document sheet metrics width height held d s m text are is = (
-  texts d s m,
-  (are.document_is.1, (are.sheet_is.1, (are.metrics_is.1, tt))),
-  ((are.document_is.0, (are.sheet_is.0, (are.metrics_is.0, tt))), is),
-)
-
-pub page_refused : (document sheet metrics : List ℕ) (width : ℕ) (height : Option ℕ) (held : List ℕ → Option (List ℕ))
-    (before now : List ℕ → ℕ) (d s m : List ℕ) (refusal : Refusal) → AreContents document sheet metrics held d s m
-    → (refusal ≡ NoMemory) ⊎ RefusesTexts d s m width height refusal
-    → IsCause (Some (layout document sheet metrics width height)) held before now 0 0 (Refused refusal)
-page_refused document sheet metrics width height held before now d s m refusal are (inl none) = (λ e. cc, inl none)
-page_refused document sheet metrics width height held before now d s m refusal are (inr refused) = (
-  λ e. cc,
-  inr (
+  pub page_text : (held : List ℕ → Option (List ℕ)) (d s m text : List ℕ)
+      → AreContents page.document page.sheet page.metrics held d s m → Yields command (texts d s m) text
+      → Gives (Some command) held text
+  page_text held d s m text are is = (
     texts d s m,
-    (are.document_is.1, (are.sheet_is.1, (are.metrics_is.1, tt))),
-    inr ((are.document_is.0, (are.sheet_is.0, (are.metrics_is.0, tt))), refused),
-  ),
-)
+    subst (λ inputs. AreHeld held (texts d s m) inputs) same (are.document_is.1, (are.sheet_is.1, (are.metrics_is.1, tt))),
+    (
+      subst (λ inputs. AreShort (texts d s m) inputs) same (are.document_is.0, (are.sheet_is.0, (are.metrics_is.0, tt))),
+      is,
+    ),
+  )
+
+  pub page_refused : (held : List ℕ → Option (List ℕ)) (before now : List ℕ → ℕ) (d s m : List ℕ) (refusal : Refusal)
+      → AreContents page.document page.sheet page.metrics held d s m
+      → (refusal ≡ NoMemory) ⊎ Denies command (texts d s m) refusal
+      → IsCause (Some command) held before now 0 0 (Refused refusal)
+  page_refused held before now d s m refusal are (inl none) = inl none
+  page_refused held before now d s m refusal are (inr refused) =
+      inr (
+        texts d s m,
+        subst (λ inputs. AreHeld held (texts d s m) inputs) same
+            (are.document_is.1, (are.sheet_is.1, (are.metrics_is.1, tt))),
+        inr (
+          subst (λ inputs. AreShort (texts d s m) inputs) same
+              (are.document_is.0, (are.sheet_is.0, (are.metrics_is.0, tt))),
+          refused,
+        ),
+      )
+
+pub layout_unread : (page : Page) (held : List ℕ → Option (List ℕ)) (before now : List ℕ → ℕ) (stop : Stop)
+    → IsReadingCause (page_texts page) held before now stop → IsCause (Some (layout page)) held before now 0 0 stop
+layout_unread page held before now stop cause = page_unread (layout page) page refl held before now stop cause
 
 -- ---- a generated document
 
@@ -92,8 +107,8 @@ gen_result start count held text is = (λ _. [], tt, (tt, is))
 pub gen_refused : (start count : ℕ) (held : List ℕ → Option (List ℕ)) (before now : List ℕ → ℕ) (refusal : Refusal)
     → (refusal ≡ NoMemory) ⊎ Denies (gen start count) (λ _. []) refusal
     → IsCause (Some (gen start count)) held before now 0 0 (Refused refusal)
-gen_refused start count held before now refusal (inl none) = (λ e. cc, inl none)
-gen_refused start count held before now refusal (inr refused) = (λ e. cc, inr (λ _. [], tt, inr (tt, refused)))
+gen_refused start count held before now refusal (inl none) = inl none
+gen_refused start count held before now refusal (inr refused) = inr (λ _. [], tt, inr (tt, refused))
 
 reason_by : (start count : ℕ) (refusal : Refusal) → (count ≤ 5000 → refusal ≡ NoMemory)
     → (5000 < count → refusal ≡ Limit Paragraphs 5001 5000) → (5000 < count) ⊎ (count ≤ 5000)
@@ -107,4 +122,4 @@ pub gen_reason : (start count : ℕ) (refusal : Refusal) → (count ≤ 5000 →
     → (refusal ≡ NoMemory) ⊎ Denies (gen start count) (λ _. []) refusal
 gen_reason start count refusal memory limit = reason_by start count refusal memory limit (cases_lt 5000 count)
 
-pub ruleset flow_lemmas = (flow_unread, flow_alone)
+pub ruleset flow_lemmas = (flow_unread, flow_alone, layout_unread)

@@ -9,7 +9,7 @@ use Rattle.mc_base.specs.declared.refusal.LimitName.TheVariants.{Sheet as SheetB
 use Rattle.mc_base.specs.declared.refusal.LimitName.TheVariants.{Script as ScriptBytes, Result as ResultBytes}
 use Rattle.mc_base.specs.declared.refusal.Refusal.{Refusal}
 use Rattle.mc_base.specs.declared.refusal.Refusal.TheVariants.{Limit}
-use Rattle.mc_run.specs.Words.{Command, rows, gen, layout}
+use Rattle.mc_words.specs.Words.{Command, Page, rows, gen, trial, layout, hit, draw}
 
 -- an input, and the name that the words give for it
 pub record NamedInput : Type 0 where
@@ -22,11 +22,17 @@ named_texts document sheet metrics =
     record { input = Document; name = document } ∷ record { input = Sheet; name = sheet }
     ∷ record { input = Metrics; name = metrics } ∷ []
 
+abbrev pub page_texts : Page → List NamedInput
+page_texts page = named_texts page.document page.sheet page.metrics
+
 -- the inputs that a command reads, in the order of its words
 abbrev pub reads : Command → List NamedInput
 reads (rows flow) = record { input = Flow; name = flow } ∷ []
 reads (gen start count) = []
-reads (layout document sheet metrics width height) = named_texts document sheet metrics
+reads (trial start count) = []
+reads (layout page) = page_texts page
+reads (hit page x y) = page_texts page
+reads (draw page rule) = page_texts page
 
 -- the inputs that are read, if the words are taken
 abbrev pub inputs_of : Option Command → List NamedInput

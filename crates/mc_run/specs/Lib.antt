@@ -1,4 +1,4 @@
-pub mod Asked
+pub mod Commands
 pub mod FlowResult
 pub mod Inputs
 pub mod Outcome
@@ -6,4 +6,3 @@ pub mod Printed
 pub mod Reading
 pub mod Stops
 pub mod Told
-pub mod Words

@@ -1,6 +1,6 @@
 -- What a command comes to: its result, or why it stops. What is said of all commands is said once; a command adds which inputs it
 -- reads, what its result is and what it refuses.
-use Rattle.std.specs.Prelude.{◌≡◌, ◌≢◌, ℕ, ◌<◌, ◌≤◌, ◌⊎◌, List, Option, None, Some}
+use Rattle.std.specs.Prelude.{◌≡◌, ℕ, ◌<◌, ◌≤◌, ◌⊎◌, List, Option, None, Some}
 use Rattle.std.specs.Io.KnownBytes.{Appends}
 use Rattle.doc_gen.specs.Document.{document}
 use Rattle.mc_base.specs.Outside.{HasRisen, AppendsPart}
@@ -12,7 +12,7 @@ use Rattle.mc_run.specs.declared.stop.Stop.{Stop}
 use Rattle.mc_run.specs.declared.stop.Stop.TheVariants.{Usage, Read, Write, Refused}
 use Rattle.mc_run.specs.FlowResult.{IsFlowResult, RefusesBytes, IsDocumentResult, RefusesTexts}
 use Rattle.mc_run.specs.Inputs.{Contents, reads, inputs_of, AreHeld, AreTold, AreShort, IsTooLong, HasFault}
-use Rattle.mc_run.specs.Words.{Command, rows, gen, layout}
+use Rattle.mc_words.specs.Words.{Command, rows, gen, trial, layout, hit, draw}
 
 -- ---- each command
 
@@ -20,15 +20,21 @@ use Rattle.mc_run.specs.Words.{Command, rows, gen, layout}
 abbrev pub Yields : Command → Contents → List ℕ → Type 0
 Yields (rows flow) contents text = IsFlowResult (contents Flow) text
 Yields (gen start count) contents text = (count ≤ 5000) × (text ≡ document start count)
-Yields (layout doc sheet metrics width height) contents text =
-    IsDocumentResult (contents Document) (contents Sheet) (contents Metrics) width height text
+Yields (trial start count) contents text = ⊥
+Yields (layout page) contents text =
+    IsDocumentResult (contents Document) (contents Sheet) (contents Metrics) page.width page.height text
+Yields (hit page x y) contents text = ⊥
+Yields (draw page rule) contents text = ⊥
 
 -- a command whose inputs hold this, none of them too long, is refused for this reason
 abbrev pub Denies : Command → Contents → Refusal → Type 0
 Denies (rows flow) contents refusal = RefusesBytes (contents Flow) refusal
 Denies (gen start count) contents refusal = (5000 < count) × (refusal ≡ Limit Paragraphs 5001 5000)
-Denies (layout doc sheet metrics width height) contents refusal =
-    RefusesTexts (contents Document) (contents Sheet) (contents Metrics) width height refusal
+Denies (trial start count) contents refusal = ⊥
+Denies (layout page) contents refusal =
+    RefusesTexts (contents Document) (contents Sheet) (contents Metrics) page.width page.height refusal
+Denies (hit page x y) contents refusal = ⊥
+Denies (draw page rule) contents refusal = ⊥
 
 -- ---- all commands
 
@@ -73,8 +79,7 @@ abbrev pub IsCause : Option Command → (List ℕ → Option (List ℕ)) → (Li
 IsCause command held before now out_before out_now Usage = command ≡ None
 IsCause command held before now out_before out_now (Read input) = HasFault before now (inputs_of command) input
 IsCause command held before now out_before out_now Write = HasRisen out_before out_now
-IsCause command held before now out_before out_now (Refused refusal) =
-    (command ≢ None) × ((refusal ≡ NoMemory) ⊎ Refuses command held refusal)
+IsCause command held before now out_before out_now (Refused refusal) = (refusal ≡ NoMemory) ⊎ Refuses command held refusal
 
 -- the sink got the whole result of a command, or a first part of it
 abbrev pub GetsResult : Option Command → (List ℕ → Option (List ℕ)) → Option (List ℕ) → Option (List ℕ) → Type 0

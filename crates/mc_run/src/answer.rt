@@ -1,18 +1,20 @@
 //! What the words ask for, and its result.
 
-ghost use Rattle.std.specs.Prelude.{◌≡◌, ◌≢◌, ◌<◌, ◌^◌, ℕ, List, Option, map, Some, IfOk, IfErr, OnOk, string_bytes};
-ghost use Rattle.mc_run.specs.Asked.{asked, laid_out, IsNarrow};
+ghost use Rattle.std.specs.Prelude.{◌≡◌, ◌≢◌, ◌<◌, ◌^◌, ℕ, ◌⊎◌, List, Option, map, None, Some, IfOk, IfErr, OnOk, string_bytes};
 ghost use Rattle.mc_run.specs.Inputs.{reads, inputs_of, OnlyThese};
-ghost use Rattle.mc_run.specs.Words.{command_of, rows, gen};
+ghost use Rattle.mc_base.specs.declared.refusal.Refusal.TheVariants.{NoMemory};
+ghost use Rattle.mc_run.specs.Commands.{built, command_of};
+ghost use Rattle.mc_words.specs.Asked.{asked, page_asked, IsNarrow};
+ghost use Rattle.mc_words.specs.Words.{rows, gen, layout};
 ghost use Rattle.mc_run.specs.Outcome.{Gives, IsCause, GetsResult, GetsPart};
 
 use crate::inputs::{read_input, read_texts};
 use crate::pages::page_result;
 use crate::rows::rows_result;
 use crate::stop::Stop;
-use crate::words::{Command, Page, read_words};
 use doc_gen::generate;
-use mc_base::{Files, Input, Sink, Text};
+use mc_base::{Files, Input, Refusal, Sink, Text};
+use mc_words::{Command, Page, WordsFault, read_words};
 use std::alloc::Global;
 
 /// The result of a flow file, by its name.
@@ -44,12 +46,13 @@ fn answer_gen(alloc: Global, start: u64, count: u32) -> Result<Text, Stop>
 }
 
 /// The result of a document. Its inputs are all read before any is judged.
+#[tactic(auto, using(crate::proofs::Stopping::flow_lemmas))]
 fn answer_layout<F: Files>(alloc: Global, page: Page<'_>, files: &mut F) -> Result<Text, Stop>
     requires { page.width < 2 ^ 60 }
     ensures content { (other : List ℕ) → F.held files.new other ≡ F.held files.old other }
-    ensures others { OnlyThese (F.faults files.old) (F.faults files.new) (reads (laid_out page.entry)) }
-    ensures ok { IfOk result (Gives (Some (laid_out page.entry)) (F.held files.old)) }
-    ensures err { IfErr result (IsCause (Some (laid_out page.entry)) (F.held files.old)
+    ensures others { OnlyThese (F.faults files.old) (F.faults files.new) (reads (layout (page_asked page.entry))) }
+    ensures ok { IfOk result (Gives (Some (layout (page_asked page.entry))) (F.held files.old)) }
+    ensures err { IfErr result (IsCause (Some (layout (page_asked page.entry))) (F.held files.old)
         (F.faults files.old) (F.faults files.new) 0 0) }
 {
     let texts = read_texts(alloc, files, page)?;
@@ -59,19 +62,36 @@ fn answer_layout<F: Files>(alloc: Global, page: Page<'_>, files: &mut F) -> Resu
     }
 }
 
-/// The result of a command.
+/// The result of a command that is built.
 fn result_of<F: Files>(alloc: Global, command: Command<'_>, files: &mut F) -> Result<Text, Stop>
     requires { IsNarrow command }
     ensures content { (other : List ℕ) → F.held files.new other ≡ F.held files.old other }
-    ensures others { OnlyThese (F.faults files.old) (F.faults files.new) (reads (asked command.entry)) }
-    ensures ok { IfOk result (Gives (Some (asked command.entry)) (F.held files.old)) }
-    ensures err { IfErr result (IsCause (Some (asked command.entry)) (F.held files.old)
+    ensures others { OnlyThese (F.faults files.old) (F.faults files.new) (inputs_of (built (asked command.entry))) }
+    ensures ok { IfOk result (Gives (built (asked command.entry)) (F.held files.old)) }
+    ensures err { IfErr result (IsCause (built (asked command.entry)) (F.held files.old)
         (F.faults files.old) (F.faults files.new) 0 0) }
 {
     match command {
         Command::Rows { flow } => answer_rows(alloc, flow, files),
         Command::Gen { start, count } => answer_gen(alloc, start, count),
         Command::Layout { page } => answer_layout(alloc, page, files),
+        Command::Trial { .. } | Command::Hit { .. } | Command::Draw { .. } => Err(Stop::Usage),
+    }
+}
+
+/// The command that the words ask for.
+fn asked_command(alloc: Global, words: &[String]) -> Result<Command<'_>, Stop>
+    ensures asked { IfOk result (λ command. command_of (map string_bytes words.now) ≡ built (asked command)) }
+    ensures narrow { IfOk result IsNarrow }
+    ensures err { IfErr result (λ stop. ((stop ≡ Stop.Usage) × (command_of (map string_bytes words.now) ≡ None))
+        ⊎ (stop ≡ Stop.Refused NoMemory)) }
+{
+    match read_words(alloc, words) {
+        Ok(command) => Ok(command),
+        Err(WordsFault::Refused) => Err(Stop::Usage),
+        Err(WordsFault::NoMemory) => Err(Stop::Refused {
+            refusal: Refusal::NoMemory,
+        }),
     }
 }
 
@@ -92,8 +112,9 @@ pub fn answer<F: Files, K: Sink>(
     ensures err { IfErr result (IsCause (command_of (map string_bytes words.now)) (F.held files.old)
         (F.faults files.old) (F.faults files.new) (K.faults out.old) (K.faults out.new)) }
 {
-    let Some(command) = read_words(words) else {
-        return Err(Stop::Usage);
+    let command = match asked_command(alloc, words) {
+        Ok(command) => command,
+        Err(stop) => return Err(stop),
     };
     let text = result_of(alloc, command, files)?;
     match out.put(text.as_slice()) {

@@ -8,8 +8,8 @@ ghost use Rattle.mc_run.specs.Reading as reading;
 ghost use Rattle.mc_run.specs.Reading.{IsReadCause, IsReadingCause, IsContent};
 
 use crate::stop::Stop;
-use crate::words::Page;
 use mc_base::{FileFault, Files, Input, LimitName, Refusal};
+use mc_words::Page;
 use std::alloc::Global;
 
 /// How many bytes an input may have.

@@ -6,7 +6,7 @@
 //! its result is, and what it refuses.
 #![tactic(auto)]
 
-ghost use Rattle.std.specs.Prelude.{◌≡◌, ◌≢◌, ◌↔◌, ℕ, ◌≤◌, List, map, None, string_bytes};
+ghost use Rattle.std.specs.Prelude.{◌≡◌, ◌≢◌, ℕ, ◌≤◌, List, map, None, string_bytes};
 ghost use Rattle.mc_base.specs.Outside.{HasRisen};
 ghost use Rattle.mc_base.specs.declared.refusal.ConstructName.{ConstructName};
 ghost use Rattle.mc_base.specs.declared.refusal.Input.{Input};
@@ -17,7 +17,7 @@ ghost use Rattle.mc_base.specs.declared.refusal.Rule.{Rule};
 ghost use Rattle.mc_run.specs.declared.stop.Stop.{Stop as AnyStop};
 ghost use Rattle.mc_run.specs.Told.{Tells};
 ghost use Rattle.mc_run.specs.Stops.{line_of, refusal_status, status_of};
-ghost use Rattle.mc_run.specs.Words.{command_of};
+ghost use Rattle.mc_run.specs.Commands.{command_of};
 ghost use Rattle.mc_run.specs.Inputs.{inputs_of, HasFault, AreRead, OnlyThese};
 ghost use Rattle.mc_run.specs.Outcome.{Refuses, RefusesTold, Accepts, IsCause, GetsResult, GetsPart};
 
@@ -27,7 +27,6 @@ mod pages;
 mod printing;
 mod rows;
 mod stop;
-mod words;
 
 use doc_flows::documents_have_one_answer;
 use mc_base::{Files, Sink};
@@ -52,8 +51,12 @@ pub fn run<F: Files, K: Sink, E: Sink>(
     ensures done { result ≡ 0 → GetsResult (command_of (map string_bytes words.now)) (F.held files.old)
         (K.written out.old) (K.written out.new) }
 
-    // With 1 the words aren't taken, and only then.
-    ensures words { (result ≡ 1) ↔ (command_of (map string_bytes words.now) ≡ None) }
+    // With 1 the words are no command.
+    ensures words { result ≡ 1 → command_of (map string_bytes words.now) ≡ None }
+
+    // Words that are no command come to 1 and the usage line, and no input is read, unless memory runs out.
+    ensures usage { command_of (map string_bytes words.now) ≡ None → result ≢ 7 → (result ≡ 1) ×
+        Tells (E.written err.old) (E.written err.new) (E.faults err.old) (E.faults err.new) (line_of Stop.Usage) }
 
     // With 2 the count of faults of an input rose, with 3 that of the sink, which got a first part of the result.
     ensures read { result ≡ 2 → (input : Input) ×

@@ -1,6 +1,6 @@
 -- What follows of the cause for which the command stopped.
 use Rattle.std.proofs.Common.{subst, sym, ap, map, string_bytes, ◌∙◌, ◌≡◌, ◌≢◌, ◌≤◌}
-use Rattle.mc_run.specs.Words.{command_of}
+use Rattle.mc_run.specs.Commands.{command_of}
 use Rattle.mc_run.specs.declared.stop.Stop.{Stop}
 use Rattle.mc_run.specs.declared.stop.Stop.TheVariants.{Refused}
 use Rattle.mc_run.specs.Stops.{status_of, line_of}

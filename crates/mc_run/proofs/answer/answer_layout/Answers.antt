@@ -1,10 +1,13 @@
 -- The bytes that were read are those of the three inputs, and their result is the command's.
+use Rattle.std.proofs.Common.{refl}
+use Rattle.mc_words.specs.Asked.{page_asked}
+use Rattle.mc_words.specs.Words.{layout}
 use Rattle.mc_run.proofs.Stopping.{page_text, page_refused}
 use Rattle.mc_run.proofs.answer.answer_layout.Goals as goal
 
 pub returns-in-Ok-clause-ok : goal.returns-in-Ok-clause-ok
 returns-in-Ok-clause-ok g c =
-    page_text c.args.page.document.now c.args.page.sheet.now c.args.page.metrics.now c.args.page.width c.args.page.height
+    page_text (layout (page_asked c.args.page)) (page_asked c.args.page) refl
     (g.F.Files.held c.args.files.now) c.in_ok-texts.texts.document.items c.in_ok-texts.texts.sheet.items
     c.in_ok-texts.texts.metrics.items c.in-Ok.text
     (record {
@@ -15,7 +18,7 @@ returns-in-Ok-clause-ok g c =
 
 pub returns-clause-err : goal.returns-clause-err
 returns-clause-err g c =
-    page_refused c.args.page.document.now c.args.page.sheet.now c.args.page.metrics.now c.args.page.width c.args.page.height
+    page_refused (layout (page_asked c.args.page)) (page_asked c.args.page) refl
     (g.F.Files.held c.args.files.now) (g.F.Files.faults c.args.files.now) (g.F.Files.faults c.read_texts.new.files)
     c.in_ok-texts.texts.document.items c.in_ok-texts.texts.sheet.items c.in_ok-texts.texts.metrics.items c.in-Err.refusal
     (record {

@@ -8,7 +8,7 @@ use Rattle.std.proofs.lemmas.Bool.{and_parts, lt-ltb, le-ltb}
 use Rattle.std.proofs.lemmas.Bool.Decides.{nat_tests}
 use Rattle.mc_base.proofs.DecimalDigits.{digit_is}
 use Rattle.mc_base.specs.Decimals.{are_digits, is_numeral}
-use Rattle.mc_run.specs.Words.{number_below}
+use Rattle.mc_words.specs.Words.{number_below}
 
 all_digits : (word : List ℕ) → IsTrue (are_digits word) → AllDigits 10 word
 all_digits [] h = tt

@@ -1,0 +1,16 @@
+-- The commands that there are.
+use Rattle.std.specs.Prelude.{ℕ, List, Option, None, Some, option_and_then}
+use Rattle.mc_words.specs.Words.{Command, rows, gen, trial, layout, hit, draw, command_of as words_ask}
+
+-- a command, where it is built
+abbrev pub built : Command → Option Command
+built (rows flow) = Some (rows flow)
+built (gen start count) = Some (gen start count)
+built (trial start count) = None
+built (layout page) = Some (layout page)
+built (hit page x y) = None
+built (draw page rule) = None
+
+-- what the words after the program's name ask for
+abbrev pub command_of : List (List ℕ) → Option Command
+command_of words = option_and_then built (words_ask words)

@@ -1,0 +1,60 @@
+//! The words of the command line.
+//!
+//! It stands on clap, which reads the name of a command and counts its words, and on mc_base for decimals. `specs/Words.antt`
+//! says which words ask for what. `read_words` is proved to answer just that command, and to refuse just the words that are none.
+#![tactic(auto)]
+
+ghost use Rattle.std.specs.Prelude.{◌≡◌, None, Some, map, string_bytes, IfOk, IfErr};
+ghost use Rattle.std.specs.List.{list_all};
+ghost use Rattle.mc_words.specs.Asked.{asked, IsNarrow};
+ghost use Rattle.mc_words.specs.Words as stated;
+ghost use Rattle.mc_words.specs.Words.{command_of};
+
+mod command;
+mod numbers;
+mod parser;
+#[cfg(test)]
+mod tests;
+
+pub use command::{Command, Page};
+use parser::read_plain;
+use std::alloc::Global;
+
+/// Why words aren't read.
+#[derive(Clone, Copy, Debug, PartialEq, Eq)]
+pub enum WordsFault {
+    /// They aren't taken.
+    Refused,
+    NoMemory,
+}
+
+/// Whether a word isn't empty and doesn't begin with `-`.
+fn is_plain(word: &str) -> bool
+    ensures { result ≡ stated.is_plain word.now }
+{
+    match word.as_bytes() {
+        [] => false,
+        [first, ..] => *first != b'-',
+    }
+}
+
+fn are_plain(words: &[String]) -> bool
+    ensures { result ≡ list_all (λ word. stated.is_plain (string_bytes word)) words.now }
+{
+    words.iter().all(|word| is_plain(word.as_str()))
+}
+
+/// What the words after the program's name ask for.
+///
+/// The command that `specs/Words.antt` says comes with `Ok`, and `Refused` only where there is none.
+#[tactic(auto, using(crate::proofs::Taken::word_lemmas))]
+pub fn read_words<'a>(alloc: Global, words: &'a [String]) -> Result<Command<'a>, WordsFault>
+    ensures ok { IfOk result (λ command. command_of (map string_bytes words.now) ≡ Some (asked command)) }
+    ensures narrow { IfOk result IsNarrow }
+    ensures err { IfErr result (λ fault. fault ≡ WordsFault.Refused → command_of (map string_bytes words.now) ≡ None) }
+{
+    if !are_plain(words) {
+        return Err(WordsFault::Refused);
+    }
+    read_plain(alloc, words)
+}
