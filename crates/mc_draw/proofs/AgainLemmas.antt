@@ -132,7 +132,8 @@ has_head text w h xs a p none = none w h (flat_map shape_text xs ++ a) p.fit_w p
 
 pub alone : (text : List ℕ) (d e : Drawing) → IsTextOf text d → IsTextOf text e → d ≡ e
 alone text d e p q =
-    let same = same_parts text d.w e.w d.h e.h d.shapes e.shapes foot_text foot_text (of_drawing text d p) (of_drawing text e q) in
+    let same = same_parts text d.w e.w d.h e.h d.shapes e.shapes foot_text foot_text (of_drawing text d p)
+    (of_drawing text e q) in
     by_fields same.width same.height same.shapes
   where
     by_fields : d.w ≡ e.w → d.h ≡ e.h → d.shapes ≡ e.shapes → d ≡ e
