@@ -59,8 +59,8 @@ class_takes [] bytes x h = absurd cc
 class_takes (c ∷ cs) bytes x h = by_word (past (class_text c) bytes) (class_takes cs bytes x) refl h
   where
     by_word : (o : Option (List ℕ)) → (first_class cs bytes ≡ pass x → bytes ≡ class_text x.0 ++ x.1)
-        → past (class_text c) bytes ≡ o → or_else (o >>= λ rest. Some (c, rest)) (first_class cs bytes) ≡ pass x
-        → bytes ≡ class_text x.0 ++ x.1
+        → past (class_text c) bytes ≡ o
+        → or_else (o >>= λ rest. Some (c, rest)) (first_class cs bytes) ≡ pass x → bytes ≡ class_text x.0 ++ x.1
     by_word (Some rest) later is e =
         past_takes (class_text c) bytes rest is
         ∙ ap (λ (y : ShapeClass × List ℕ). class_text y.0 ++ y.1) (some_is (c, rest) x e)

@@ -12,6 +12,8 @@ mod number;
 mod read;
 mod rules;
 mod shapes;
+#[cfg(test)]
+mod tests;
 mod text;
 
 pub use drawing::{Drawing, Shape, ShapeClass};
