@@ -5,6 +5,7 @@ ghost use Rattle.flow_list.specs.ResultText.{certificate_lines};
 ghost use Rattle.flow_list.specs.Tree.{tree_of};
 ghost use Rattle.flow_list.specs.TreeText.{tree_text};
 ghost use Rattle.layout_laws.specs.Certified.{IsCertified};
+ghost use Rattle.page_views.specs.Shown.{text_limit};
 ghost use Rattle.result_laws.specs.Given.{ended_lines};
 ghost use Rattle.mc_run.specs.Printed.{result_text};
 ghost use Rattle.mc_run.specs.FlowResult.{IsResult, HasLongResult};
@@ -16,11 +17,9 @@ use frag_pool::Pool;
 use frag_printer::write_tree_within;
 use height_cert::write_cert;
 use layout_laws::layouts_are_certified;
-use mc_base::{LimitName, NoMemory, Refusal, Text};
+use mc_base::{NoMemory, Refusal, Text};
+use page_views::{TEXT_LIMIT, too_long};
 use std::alloc::Global;
-
-/// How many bytes a result may have.
-const RESULT_LIMIT: u64 = 268_435_456;
 
 const FIRST_LINE: &[u8] = b"mcol 2\n";
 
@@ -72,12 +71,12 @@ fn laid_out(alloc: Global, flows: &Flows, front: Text, most: u64) -> Result<Opti
 /// fit.
 fn write_result(alloc: Global, flows: &Flows) -> Result<Option<Text>, NoMemory>
     ensures text { IfOk result (λ found. IfSome found (λ text. text ≡ result_text flows.now)) }
-    ensures short { IfOk result (λ found. IfSome found (λ text. length text ≤ RESULT_LIMIT)) }
-    ensures long { IfOk result (λ found. found ≡ None → RESULT_LIMIT < length (result_text flows.now)) }
+    ensures short { IfOk result (λ found. IfSome found (λ text. length text ≤ text_limit)) }
+    ensures long { IfOk result (λ found. found ≡ None → text_limit < length (result_text flows.now)) }
 {
     let mut first = Text::new(alloc);
     first.extend(FIRST_LINE)?;
-    laid_out(alloc, flows, first, RESULT_LIMIT)
+    laid_out(alloc, flows, first, TEXT_LIMIT)
 }
 
 /// The result of flows, refused where it is too long.
@@ -87,10 +86,6 @@ pub fn print(alloc: Global, flows: &Flows) -> Result<Text, Refusal>
 {
     match write_result(alloc, flows)? {
         Some(text) => Ok(text),
-        None => Err(Refusal::Limit {
-            name: LimitName::Result,
-            reached: RESULT_LIMIT + 1,
-            limit: RESULT_LIMIT,
-        }),
+        None => Err(too_long()),
     }
 }

@@ -25,6 +25,7 @@ use std::alloc::Global;
 pub enum WordsFault {
     /// They aren't taken.
     Refused,
+    /// Out of memory.
     NoMemory,
 }
 
@@ -44,9 +45,10 @@ fn are_plain(words: &[String]) -> bool
     words.iter().all(|word| is_plain(word.as_str()))
 }
 
-/// What the words after the program's name ask for.
+/// What the words after the program's name ask for (this project's own); lengths are in units.
 ///
-/// The command that `specs/Words.antt` says comes with `Ok`, and `Refused` only where there is none.
+/// The command that `specs/Words.antt` says comes with `Ok`, and `Refused` only where there is none. The other fault is out of
+/// memory.
 #[tactic(auto, using(crate::proofs::Taken::word_lemmas))]
 pub fn read_words<'a>(alloc: Global, words: &'a [String]) -> Result<Command<'a>, WordsFault>
     ensures ok { IfOk result (λ command. command_of (map string_bytes words.now) ≡ Some (asked command)) }

@@ -21,7 +21,8 @@ fn draw_text(alloc: Global, flows: &Flows, rule: Units) -> Result<Text, NoMemory
     write_drawing(alloc, &drawing)
 }
 
-/// The drawing of the layout, with column rules of this width in units.
+/// The drawing of the layout as SVG (SVG 2, sections 8.2 and 10.2), with column rules of this width in units (Multi-column, section
+/// 4). A text of more than `TEXT_LIMIT` bytes is refused by the limit of results; the other error is out of memory.
 pub fn draw_result(alloc: Global, flows: &Flows, rule: Units) -> Result<Text, Refusal>
     ensures ok { IfOk result (IsView (draw_text rule) (λ d. d ≡ flows.now)) }
     ensures err { IfErr result (λ refusal. (refusal ≡ Refusal.NoMemory)

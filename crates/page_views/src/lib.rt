@@ -13,5 +13,6 @@ mod point;
 mod summary;
 
 pub use drawing::draw_result;
+pub use limit::{TEXT_LIMIT, too_long};
 pub use point::hit_result;
 pub use summary::summary_result;

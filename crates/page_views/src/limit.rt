@@ -6,7 +6,18 @@ ghost use Rattle.page_views.specs.Shown.{text_limit};
 use mc_base::{LimitName, Refusal, Text};
 
 /// How many bytes the text of a result may have.
-const TEXT_LIMIT: u64 = 268_435_456;
+pub const TEXT_LIMIT: u64 = 268_435_456;
+
+/// That a text is too long.
+pub fn too_long() -> Refusal
+    ensures { result ≡ Refusal.Limit LimitName.Result (text_limit + 1) text_limit }
+{
+    Refusal::Limit {
+        name: LimitName::Result,
+        reached: TEXT_LIMIT + 1,
+        limit: TEXT_LIMIT,
+    }
+}
 
 /// This text, refused where it is too long.
 pub fn limited(text: Text) -> Result<Text, Refusal>
@@ -16,11 +27,7 @@ pub fn limited(text: Text) -> Result<Text, Refusal>
     ensures told { IfErr result (λ refusal. refusal ≡ Refusal.Limit LimitName.Result (text_limit + 1) text_limit) }
 {
     if text.len() as u64 > TEXT_LIMIT {
-        return Err(Refusal::Limit {
-            name: LimitName::Result,
-            reached: TEXT_LIMIT + 1,
-            limit: TEXT_LIMIT,
-        });
+        return Err(too_long());
     }
     Ok(text)
 }

@@ -60,7 +60,8 @@ fn point_text(alloc: Global, lines: &List<TreeLine>, x: Units, y: Units) -> Resu
 }
 
 /// What stands at a point of the layout, in units from the document's top left: the lines of the tree from stack 0 to the last
-/// leaf that holds the point, or `none`.
+/// leaf that holds the point, or `none` (this project's own). A text of more than `TEXT_LIMIT` bytes is refused by the limit of
+/// results; the other error is out of memory.
 #[tactic(auto, unfolding(crate::specs::Views::hit_text))]
 pub fn hit_result(alloc: Global, flows: &Flows, x: Units, y: Units) -> Result<Text, Refusal>
     ensures ok { IfOk result (IsView (hit_text x y) (λ d. d ≡ flows.now)) }

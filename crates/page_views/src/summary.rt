@@ -106,7 +106,7 @@ fn summary_text(alloc: Global, flows: &Flows, elements: u64) -> Result<Text, NoM
 }
 
 /// A line with counts: the elements of the document that the flows are of, the items of all flows, the columns of the layout,
-/// and the height of stack 0 in units.
+/// and the height of stack 0 in units (this project's own). The one error is out of memory, or the limit of results.
 pub fn summary_result(alloc: Global, flows: &Flows, elements: u64) -> Result<Text, Refusal>
     ensures ok { IfOk result (IsView (summary_text elements) (λ d. d ≡ flows.now)) }
     ensures err { IfErr result (λ refusal. (refusal ≡ Refusal.NoMemory)

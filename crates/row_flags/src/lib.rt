@@ -151,8 +151,8 @@ fn no_flags(alloc: Global, count: u32) -> Result<Vec<bool>, NoMemory>
     Ok(flags)
 }
 
-/// For each row whether the innermost box that is open at its item has `column-fill: balance-all`; false for a row at which no
-/// box is open. `boxes` are those that the flows name, and `styles` those of their elements.
+/// For each row whether the innermost box that is open at its item has `column-fill: balance-all` (Multi-column, section 7.1);
+/// false for a row at which no box is open. `boxes` are those that the flows name, and `styles` those of their elements.
 pub fn flags(
     alloc: Global,
     flows: &Flows,

@@ -4,7 +4,6 @@ use Rattle.flow_list.specs.ResultText.{certificate_lines}
 use Rattle.flow_list.specs.Tree.{tree_of}
 use Rattle.flow_list.specs.TreeText.{tree_text}
 use Rattle.result_laws.specs.Given.{ended_lines}
-use Rattle.mc_run.specs.Printed.{result_text}
 use Rattle.mc_run.proofs.Texts.{by-parts}
 use Rattle.mc_run.proofs.printing.write_result.Goals as goal
 
