@@ -8,7 +8,7 @@ use Rattle.mc_run.specs.FlowResult.{IsFlowResult, RefusesBytes, IsPageView, Refu
 use Rattle.mc_run.specs.Inputs.{NamedInput, page_texts, Contents, reads, AreHeld, AreTold, AreShort, IsTooLong, byte_limit}
 use Rattle.mc_run.specs.Outcome.{Yields, Denies, HasResult, IsRefused}
 use Rattle.flow_list.specs.Data.{FlowsData}
-use Rattle.mc_run.specs.Printed.{result_text}
+use Rattle.result_writer.specs.Printed.{result_text}
 use Rattle.page_views.specs.Views.{hit_text, draw_text}
 use Rattle.mc_words.specs.Words.{Command, Page, rows, gen, trial, layout, hit, draw}
 

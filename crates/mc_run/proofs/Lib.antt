@@ -7,4 +7,3 @@ pub mod Pieces
 pub mod Reading
 pub mod Results
 pub mod Stopping
-mod Texts

@@ -20,7 +20,7 @@ use Rattle.flow_text.proofs.Unique.{one_file}
 use Rattle.flow_list.specs.Data.{FlowsData}
 use Rattle.flow_list.specs.FileFlows.{IsFile, RefusesText, flows_of, limit_of}
 use Rattle.mc_run.specs.FlowResult.{FlowSays, IsNoFlowFile, IsFlowResult, HasLongResult, RefusesBytes}
-use Rattle.mc_run.specs.Printed.{result_text}
+use Rattle.result_writer.specs.Printed.{result_text}
 use Rattle.mc_run.proofs.Results.{short_or_long}
 
 abbrev read_as : List Line → Result (List Line) Fault

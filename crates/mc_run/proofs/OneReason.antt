@@ -7,7 +7,7 @@ use Rattle.mc_base.specs.declared.refusal.Refusal.{Refusal}
 use Rattle.mc_run.specs.Inputs.{NamedInput, Contents, reads, AreShort, IsTooLong}
 use Rattle.mc_run.specs.Outcome.{Yields, Denies, HasResult, IsRefused, Gives, Refuses, RefusesTold, Accepts}
 use Rattle.mc_words.specs.Words.{Command, rows, gen, trial, layout, hit, draw}
-use Rattle.mc_run.specs.Printed.{result_text}
+use Rattle.result_writer.specs.Printed.{result_text}
 use Rattle.page_views.specs.Views.{hit_text, draw_text}
 use Rattle.mc_run.proofs.Agree.{held_told, result_along, refused_along}
 use Rattle.mc_run.proofs.OneDocument.{one_of_texts, texts_or_refusal}

@@ -7,7 +7,7 @@ use Rattle.flow_list.specs.FileFlows.{IsFile, RefusesText, flows_of, limit_of}
 use Rattle.mc_base.specs.declared.refusal.Refusal.{Refusal}
 use Rattle.mc_base.specs.declared.refusal.Refusal.TheVariants.{Grammar, Construct, Limit, NoMemory}
 use Rattle.page_views.specs.Shown.{IsView, HasLongView}
-use Rattle.mc_run.specs.Printed.{result_text}
+use Rattle.result_writer.specs.Printed.{result_text}
 
 -- ---- flows that an input says
 

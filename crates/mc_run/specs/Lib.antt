@@ -2,7 +2,6 @@ pub mod Commands
 pub mod FlowResult
 pub mod Inputs
 pub mod Outcome
-pub mod Printed
 pub mod Reading
 pub mod Stops
 pub mod Told

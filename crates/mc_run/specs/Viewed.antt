@@ -3,7 +3,7 @@ use Rattle.std.specs.Prelude.{ℕ, List}
 use Rattle.flow_list.specs.Data.{FlowsData}
 use Rattle.mc_run.specs.declared.pages.View.{View}
 use Rattle.mc_run.specs.declared.pages.View.TheVariants.{Tree, Point, Drawing}
-use Rattle.mc_run.specs.Printed.{result_text}
+use Rattle.result_writer.specs.Printed.{result_text}
 use Rattle.mc_words.specs.Words.{Command, Page, layout, hit, draw}
 use Rattle.page_views.specs.Views.{hit_text, draw_text}
 

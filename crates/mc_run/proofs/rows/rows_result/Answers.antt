@@ -2,7 +2,7 @@
 use Rattle.std.proofs.lemmas.Result.{err_from_is_err_and}
 use Rattle.mc_run.specs.FlowResult.{FlowSays}
 use Rattle.mc_run.proofs.OneFlow.{reader_result, bytes_err}
-use Rattle.mc_run.specs.Printed.{result_text}
+use Rattle.result_writer.specs.Printed.{result_text}
 use Rattle.mc_run.proofs.Results.{said_ok, said_err}
 use Rattle.mc_run.proofs.rows.rows_result.Goals as goal
 
