@@ -1,10 +1,11 @@
 //! The commands of mcol, from their words to the bytes of the result.
 //!
-//! It stands on mc_words for the words, on the readers of flow files and of documents, the layout, the text of its tree and the
-//! generated document.
-//! Its one call, `run`, promises which status comes when, that the sink gets exactly the result of the command, and that the
-//! line of a refusal tells its cause. All that it promises is said of any command; a command adds which inputs it reads, what
-//! its result is, and what it refuses.
+//! It stands on mc_words for the words, on the readers of flow files and of documents, on result_writer and page_views for what is
+//! shown of their layout, and on doc_gen for the generated document.
+//! Its call `run` promises which status comes when, that the sink gets exactly the result of the command, and that the line of
+//! a refusal tells its cause. All that it promises is said of any command; a command adds which inputs it reads, what its result
+//! is, and what it refuses. How `run` reads an input, and how it tells why it stops, is there for other programs too:
+//! `read_input` and `read_texts`, and `tell` and `status`.
 #![tactic(auto)]
 
 ghost use Rattle.std.specs.Prelude.{◌≡◌, ◌≢◌, ℕ, ◌≤◌, List, map, None, string_bytes};
@@ -30,10 +31,10 @@ mod rows;
 mod stop;
 
 use doc_flows::documents_have_one_answer;
+pub use inputs::{Texts, read_input, read_texts};
 use mc_base::{Files, Sink};
 use std::alloc::Global;
-pub use stop::Stop;
-use stop::{status, tell};
+pub use stop::{Stop, status, tell};
 
 /// Runs the command that the words after the program's name ask for, `layout`, `rows`, `gen`, `hit` or `draw`, and answers the
 /// exit status.
