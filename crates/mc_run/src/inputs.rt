@@ -60,8 +60,8 @@ fn stop_for(input: Input, fault: FileFault) -> Stop
 
 /// Reads an input by its name: its bytes, where the read doesn't fail and they are no more than the input may have.
 ///
-/// Else the answer is why a command stops: the read failed, and the count of faults of that name rose; the bytes are more than the
-/// limit; or memory ran out. No content changes, and no other name's count of faults.
+/// Else the answer is why a command stops: the read failed, and the count of faults of that name rose; the bytes are more than
+/// the limit; or memory ran out. No content changes, and no other name's count of faults.
 pub fn read_input<F: Files>(
     alloc: Global,
     files: &mut F,
@@ -90,8 +90,8 @@ pub struct Texts {
     pub metrics: Vec<u8>,
 }
 
-/// Reads a document, a style sheet and a table of metrics, in this order, up to the first that isn't read: then the answer is that
-/// of `read_input`.
+/// Reads a document, a style sheet and a table of metrics, in this order, up to the first that isn't read: then the answer is
+/// that of `read_input`.
 pub fn read_texts<F: Files>(alloc: Global, files: &mut F, page: Page<'_>) -> Result<Texts, Stop>
     ensures content { (other : List ℕ) → F.held files.new other ≡ F.held files.old other }
     ensures others { OnlyThese (F.faults files.old) (F.faults files.new)

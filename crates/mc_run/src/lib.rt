@@ -1,7 +1,7 @@
 //! The commands of mcol, from their words to the bytes of the result.
 //!
-//! It stands on mc_words for the words, on the readers of flow files and of documents, on result_writer and page_views for what is
-//! shown of their layout, and on doc_gen for the generated document.
+//! It stands on mc_words for the words, on the readers of flow files and of documents, on result_writer and page_views for what
+//! is shown of their layout, and on doc_gen for the generated document.
 //! Its call `run` promises which status comes when, that the sink gets exactly the result of the command, and that the line of
 //! a refusal tells its cause. All that it promises is said of any command; a command adds which inputs it reads, what its result
 //! is, and what it refuses. How `run` reads an input, and how it tells why it stops, is there for other programs too:

@@ -22,8 +22,9 @@ pub enum Stop {
     Refused { refusal: Refusal },
 }
 
-/// The exit status of a command that stopped: 1 where the words aren't taken, 2 after a read fault, 3 after a write fault, 4 where
-/// an input is off its grammar, 5 where it has a construct that isn't laid out, 6 where a limit is passed, 7 when out of memory.
+/// The exit status of a command that stopped: 1 where the words aren't taken, 2 after a read fault, 3 after a write fault, 4
+/// where an input is off its grammar, 5 where it has a construct that isn't laid out, 6 where a limit is passed, 7 when out of
+/// memory.
 pub fn status(stop: Stop) -> u8
     ensures { result ≡ stops.status_of stop }
 {

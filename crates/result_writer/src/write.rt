@@ -73,8 +73,8 @@ fn parts_after(
 /// The result of a layout, or None where it has more than `most` bytes: then no line is put after the first of the tree that
 /// doesn't fit.
 ///
-/// Conditions: `laid` is the layout of the flows, its ids live in the pool, and `book` and the rows of `laid` make its certificate.
-/// The error is out of memory.
+/// Conditions: `laid` is the layout of the flows, its ids live in the pool, and `book` and the rows of `laid` make its
+/// certificate. The error is out of memory.
 pub fn write_result_within(
     alloc: Global,
     flows: &Flows,
