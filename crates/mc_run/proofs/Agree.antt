@@ -4,13 +4,14 @@ use Rattle.std.specs.Prelude.{IfSome}
 use Rattle.std.specs.List.{AllByRecursion}
 use Rattle.mc_base.specs.declared.refusal.Refusal.{Refusal}
 use Rattle.mc_base.specs.declared.refusal.Input.TheVariants.{Document, Sheet, Metrics}
+use Rattle.mc_run.specs.AllResult.{IsAllResult, RefusesAll}
 use Rattle.mc_run.specs.FlowResult.{IsFlowResult, RefusesBytes, IsPageView, RefusesPageView}
 use Rattle.mc_run.specs.Inputs.{NamedInput, page_texts, Contents, reads, AreHeld, AreTold, AreShort, IsTooLong, byte_limit}
 use Rattle.mc_run.specs.Outcome.{Yields, Denies, HasResult, IsRefused}
 use Rattle.flow_list.specs.Data.{FlowsData}
 use Rattle.result_writer.specs.Printed.{result_text}
 use Rattle.page_views.specs.Views.{hit_text, draw_text}
-use Rattle.mc_words.specs.Words.{Command, Page, rows, gen, trial, layout, hit, draw}
+use Rattle.mc_words.specs.Words.{Command, Page, rows, gen, trial, layout, all, hit, draw, check, rows_check}
 
 abbrev pub Agree : Contents → Contents → List NamedInput → Type 0
 Agree a b inputs = AllByRecursion (λ i. a i.input ≡ b i.input) inputs
@@ -39,13 +40,19 @@ long_along a b (i ∷ inputs) refusal same (inr later) =
     inr
     (subst (λ bytes. length bytes ≤ byte_limit i.input) same.0 later.0, long_along a b inputs refusal same.1 later.1)
 
+-- what is said of the three texts of a page
+texts_along : (P : List ℕ → List ℕ → List ℕ → Type 0) (page : Page) (a b : Contents) → Agree a b (page_texts page)
+    → P (a Document) (a Sheet) (a Metrics) → P (b Document) (b Sheet) (b Metrics)
+texts_along P page a b same h =
+    subst (λ bytes. P bytes (b Sheet) (b Metrics)) same.0
+    (subst (λ bytes. P (a Document) bytes (b Metrics)) same.1.0
+    (subst (λ bytes. P (a Document) (a Sheet) bytes) same.1.1.0 h))
+
 view_along : (view : FlowsData → List ℕ) (page : Page) (a b : Contents) (text : List ℕ) → Agree a b (page_texts page)
     → IsPageView view (a Document) (a Sheet) (a Metrics) page.width page.height text
     → IsPageView view (b Document) (b Sheet) (b Metrics) page.width page.height text
 view_along view page a b text same yields =
-    subst (λ bytes. IsPageView view bytes (b Sheet) (b Metrics) page.width page.height text) same.0
-    (subst (λ bytes. IsPageView view (a Document) bytes (b Metrics) page.width page.height text) same.1.0
-    (subst (λ bytes. IsPageView view (a Document) (a Sheet) bytes page.width page.height text) same.1.1.0 yields))
+    texts_along (λ d s m. IsPageView view d s m page.width page.height text) page a b same yields
 
 yields_along : (command : Command) (a b : Contents) (text : List ℕ) → Agree a b (reads command) → Yields command a text
     → Yields command b text
@@ -53,16 +60,26 @@ yields_along (rows flow) a b text same yields = subst (λ bytes. IsFlowResult by
 yields_along (gen start count) a b text same yields = yields
 yields_along (trial start count) a b text same yields = yields
 yields_along (layout page) a b text same yields = view_along result_text page a b text same yields
+yields_along (all page) a b text same yields =
+    texts_along (λ d s m. IsAllResult d s m page.width page.height text) page a b same yields
 yields_along (hit page x y) a b text same yields = view_along (hit_text x y) page a b text same yields
 yields_along (draw page rule) a b text same yields = view_along (draw_text rule) page a b text same yields
+yields_along (check page printed) a b text same yields = yields
+yields_along (rows_check flow printed) a b text same yields = yields
 
-no_view_along : (view : FlowsData → List ℕ) (page : Page) (a b : Contents) (refusal : Refusal) → Agree a b (page_texts page)
+no_-- what is said of the three texts of a page
+texts_along : (P : List ℕ → List ℕ → List ℕ → Type 0) (page : Page) (a b : Contents) → Agree a b (page_texts page)
+    → P (a Document) (a Sheet) (a Metrics) → P (b Document) (b Sheet) (b Metrics)
+texts_along P page a b same h =
+    subst (λ bytes. P bytes (b Sheet) (b Metrics)) same.0
+    (subst (λ bytes. P (a Document) bytes (b Metrics)) same.1.0
+    (subst (λ bytes. P (a Document) (a Sheet) bytes) same.1.1.0 h))
+
+view_along : (view : FlowsData → List ℕ) (page : Page) (a b : Contents) (refusal : Refusal) → Agree a b (page_texts page)
     → RefusesPageView view (a Document) (a Sheet) (a Metrics) page.width page.height refusal
     → RefusesPageView view (b Document) (b Sheet) (b Metrics) page.width page.height refusal
 no_view_along view page a b refusal same denies =
-    subst (λ bytes. RefusesPageView view bytes (b Sheet) (b Metrics) page.width page.height refusal) same.0
-    (subst (λ bytes. RefusesPageView view (a Document) bytes (b Metrics) page.width page.height refusal) same.1.0
-    (subst (λ bytes. RefusesPageView view (a Document) (a Sheet) bytes page.width page.height refusal) same.1.1.0 denies))
+    texts_along (λ d s m. RefusesPageView view d s m page.width page.height refusal) page a b same denies
 
 denies_along : (command : Command) (a b : Contents) (refusal : Refusal) → Agree a b (reads command) → Denies command a refusal
     → Denies command b refusal
@@ -70,8 +87,12 @@ denies_along (rows flow) a b refusal same denies = subst (λ bytes. RefusesBytes
 denies_along (gen start count) a b refusal same denies = denies
 denies_along (trial start count) a b refusal same denies = denies
 denies_along (layout page) a b refusal same denies = no_view_along result_text page a b refusal same denies
+denies_along (all page) a b refusal same denies =
+    texts_along (λ d s m. RefusesAll d s m page.width page.height refusal) page a b same denies
 denies_along (hit page x y) a b refusal same denies = no_view_along (hit_text x y) page a b refusal same denies
 denies_along (draw page rule) a b refusal same denies = no_view_along (draw_text rule) page a b refusal same denies
+denies_along (check page printed) a b refusal same denies = denies
+denies_along (rows_check flow printed) a b refusal same denies = denies
 
 pub result_along : (command : Command) (a b : Contents) (text : List ℕ) → Agree a b (reads command) → HasResult command a text
     → HasResult command b text

@@ -1,8 +1,10 @@
 pub mod Agree
 pub mod Causes
+pub mod OneAll
 pub mod OneDocument
 pub mod OneFlow
 pub mod OneReason
+pub mod OneTrial
 pub mod Pieces
 pub mod Reading
 pub mod Results

@@ -9,7 +9,7 @@ use Rattle.mc_base.specs.declared.refusal.LimitName.TheVariants.{Sheet as SheetB
 use Rattle.mc_base.specs.declared.refusal.LimitName.TheVariants.{Script as ScriptBytes, Result as ResultBytes}
 use Rattle.mc_base.specs.declared.refusal.Refusal.{Refusal}
 use Rattle.mc_base.specs.declared.refusal.Refusal.TheVariants.{Limit}
-use Rattle.mc_words.specs.Words.{Command, Page, rows, gen, trial, layout, hit, draw}
+use Rattle.mc_words.specs.Words.{Command, Page, rows, gen, trial, layout, all, hit, draw, check, rows_check}
 
 -- an input, and the name that the words give for it
 pub record NamedInput : Type 0 where
@@ -31,8 +31,13 @@ reads (rows flow) = record { input = Flow; name = flow } ∷ []
 reads (gen start count) = []
 reads (trial start count) = []
 reads (layout page) = page_texts page
+reads (all page) = page_texts page
 reads (hit page x y) = page_texts page
 reads (draw page rule) = page_texts page
+reads (check page printed) =
+    record { input = Document; name = page.document } ∷ record { input = Sheet; name = page.sheet }
+    ∷ record { input = Metrics; name = page.metrics } ∷ record { input = Result; name = printed } ∷ []
+reads (rows_check flow printed) = record { input = Flow; name = flow } ∷ record { input = Result; name = printed } ∷ []
 
 -- the inputs that are read, if the words are taken
 abbrev pub inputs_of : Option Command → List NamedInput

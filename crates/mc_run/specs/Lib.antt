@@ -1,3 +1,4 @@
+pub mod AllResult
 pub mod Commands
 pub mod FlowResult
 pub mod Inputs
@@ -5,4 +6,5 @@ pub mod Outcome
 pub mod Reading
 pub mod Stops
 pub mod Told
+pub mod Trial
 pub mod Viewed

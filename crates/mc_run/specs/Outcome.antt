@@ -10,11 +10,13 @@ use Rattle.mc_base.specs.declared.refusal.Refusal.{Refusal}
 use Rattle.mc_base.specs.declared.refusal.Refusal.TheVariants.{Limit, NoMemory}
 use Rattle.mc_run.specs.declared.stop.Stop.{Stop}
 use Rattle.mc_run.specs.declared.stop.Stop.TheVariants.{Usage, Read, Write, Refused}
+use Rattle.mc_run.specs.AllResult.{IsAllResult, RefusesAll}
+use Rattle.mc_run.specs.Trial.{IsTrial, RefusesTrial}
 use Rattle.mc_run.specs.FlowResult.{IsFlowResult, RefusesBytes, IsPageView, RefusesPageView}
 use Rattle.result_writer.specs.Printed.{result_text}
 use Rattle.page_views.specs.Views.{hit_text, draw_text}
 use Rattle.mc_run.specs.Inputs.{Contents, reads, inputs_of, AreHeld, AreTold, AreShort, IsTooLong, HasFault}
-use Rattle.mc_words.specs.Words.{Command, rows, gen, trial, layout, hit, draw}
+use Rattle.mc_words.specs.Words.{Command, rows, gen, trial, layout, all, hit, draw, check, rows_check}
 
 -- ---- each command
 
@@ -22,25 +24,33 @@ use Rattle.mc_words.specs.Words.{Command, rows, gen, trial, layout, hit, draw}
 abbrev pub Yields : Command → Contents → List ℕ → Type 0
 Yields (rows flow) contents text = IsFlowResult (contents Flow) text
 Yields (gen start count) contents text = (count ≤ 5000) × (text ≡ document start count)
-Yields (trial start count) contents text = ⊥
+Yields (trial start count) contents text = IsTrial start count text
 Yields (layout page) contents text =
     IsPageView result_text (contents Document) (contents Sheet) (contents Metrics) page.width page.height text
+Yields (all page) contents text =
+    IsAllResult (contents Document) (contents Sheet) (contents Metrics) page.width page.height text
 Yields (hit page x y) contents text =
     IsPageView (hit_text x y) (contents Document) (contents Sheet) (contents Metrics) page.width page.height text
 Yields (draw page rule) contents text =
     IsPageView (draw_text rule) (contents Document) (contents Sheet) (contents Metrics) page.width page.height text
+Yields (check page printed) contents text = ⊥
+Yields (rows_check flow printed) contents text = ⊥
 
 -- a command whose inputs hold this, none of them too long, is refused for this reason
 abbrev pub Denies : Command → Contents → Refusal → Type 0
 Denies (rows flow) contents refusal = RefusesBytes (contents Flow) refusal
 Denies (gen start count) contents refusal = (5000 < count) × (refusal ≡ Limit Paragraphs 5001 5000)
-Denies (trial start count) contents refusal = ⊥
+Denies (trial start count) contents refusal = RefusesTrial start count refusal
 Denies (layout page) contents refusal =
     RefusesPageView result_text (contents Document) (contents Sheet) (contents Metrics) page.width page.height refusal
+Denies (all page) contents refusal =
+    RefusesAll (contents Document) (contents Sheet) (contents Metrics) page.width page.height refusal
 Denies (hit page x y) contents refusal =
     RefusesPageView (hit_text x y) (contents Document) (contents Sheet) (contents Metrics) page.width page.height refusal
 Denies (draw page rule) contents refusal =
     RefusesPageView (draw_text rule) (contents Document) (contents Sheet) (contents Metrics) page.width page.height refusal
+Denies (check page printed) contents refusal = ⊥
+Denies (rows_check flow printed) contents refusal = ⊥
 
 -- ---- all commands
 
