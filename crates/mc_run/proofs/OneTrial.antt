@@ -1,10 +1,11 @@
 -- A generated document is refused for one reason at most, and then it has no summary.
 use Rattle.std.proofs.Common.{◌≡◌, inl, inr, ℕ, List, [], None, sym, ◌∙◌, arith}
 use Rattle.doc_flows.specs.Laws.{OneAnswer}
-use Rattle.doc_gen.specs.Document.{document, elements_in}
+use Rattle.doc_gen.specs.Document.{document}
+use Rattle.doc_gen.specs.Trial.{elements_in, trial_metrics}
 use Rattle.mc_base.specs.declared.refusal.Refusal.{Refusal}
 use Rattle.page_views.specs.Views.{summary_text}
-use Rattle.mc_run.specs.Trial.{IsTrial, RefusesTrial, trial_metrics, trial_width}
+use Rattle.mc_run.specs.Trial.{IsTrial, RefusesTrial, trial_width}
 use Rattle.mc_run.proofs.OneDocument.{one_of_texts, texts_or_refusal}
 
 pub one_of_trial : OneAnswer → (start count : ℕ) (a b : Refusal) → RefusesTrial start count a → RefusesTrial start count b
