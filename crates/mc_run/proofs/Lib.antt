@@ -1,6 +1,5 @@
 pub mod Agree
 pub mod Causes
-pub mod OneAll
 pub mod OneDocument
 pub mod OneFlow
 pub mod OneReason

@@ -1,4 +1,3 @@
-pub mod AllResult
 pub mod Commands
 pub mod FlowResult
 pub mod Inputs
