@@ -1,6 +1,6 @@
 //! The result of flows: the text of their layout and of its certificate.
 
-ghost use Rattle.std.specs.Prelude.{◌≡◌, ◌++◌, ◌<◌, ◌≤◌, length, None, IfOk, IfSome};
+ghost use Rattle.std.specs.Prelude.{◌≡◌, ◌++◌, ◌<◌, ◌≤◌, codes, length, None, IfOk, IfSome};
 ghost use Rattle.flow_list.specs.ResultText.{certificate_lines};
 ghost use Rattle.flow_list.specs.Tree.{tree_of};
 ghost use Rattle.flow_list.specs.TreeText.{tree_text};
@@ -42,6 +42,15 @@ fn joined(mut front: Text, back: &[u8], most: u64) -> Result<Option<Text>, NoMem
     }
     front.extend(back)?;
     Ok(Some(front))
+}
+
+/// The first line, or None where it has more than `most` bytes.
+fn first_line(alloc: Global, most: u64) -> Result<Option<Text>, NoMemory>
+    ensures text { IfOk result (λ found. IfSome found (λ text. text ≡ codes "mcol 2\n")) }
+    ensures short { IfOk result (λ found. IfSome found (λ text. length text ≤ most)) }
+    ensures long { IfOk result (λ found. found ≡ None → most < length (codes "mcol 2\n")) }
+{
+    joined(Text::new(alloc), FIRST_LINE, most)
 }
 
 /// The tree of a layout and its certificate after `front`, or None where all have more than `most` bytes.
@@ -89,10 +98,10 @@ pub fn write_result_within(
     ensures short { IfOk result (λ found. IfSome found (λ text. length text ≤ most)) }
     ensures long { IfOk result (λ found. found ≡ None → most < length (result_text flows.now)) }
 {
-    let Some(first) = joined(Text::new(alloc), FIRST_LINE, most)? else {
-        return Ok(None);
-    };
-    parts_after(alloc, flows, laid, book, pool, first, most)
+    match first_line(alloc, most)? {
+        Some(first) => parts_after(alloc, flows, laid, book, pool, first, most),
+        None => Ok(None),
+    }
 }
 
 /// The result of flows, which are laid out for it, or None where it has more than `most` bytes. The error is out of memory.
