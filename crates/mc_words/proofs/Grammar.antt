@@ -21,7 +21,8 @@ abbrev pub made : App
 made = record {
   top = record program.top { is_leaf = false; is_built = true };
   subs = leaf (codes "rows") 1 ∷ leaf (codes "gen") 2 ∷ leaf (codes "trial") 2 ∷ leaf (codes "layout") 5
-      ∷ leaf (codes "hit") 7 ∷ leaf (codes "draw") 6 ∷ [];
+      ∷ leaf (codes "all") 5 ∷ leaf (codes "hit") 7 ∷ leaf (codes "draw") 6 ∷ leaf (codes "check") 6
+      ∷ leaf (codes "rows-check") 2 ∷ [];
 }
 
 built_is : built grammar ≡ made

@@ -29,6 +29,7 @@ program = record {
 -- the program with its commands
 abbrev pub grammar : App
 grammar =
-    with_subcommand (with_subcommand (with_subcommand (with_subcommand (with_subcommand (with_subcommand program
-    (counted (codes "rows") 1)) (counted (codes "gen") 2)) (counted (codes "trial") 2)) (counted (codes "layout") 5))
-    (counted (codes "hit") 7)) (counted (codes "draw") 6)
+    with_subcommand (with_subcommand (with_subcommand (with_subcommand (with_subcommand (with_subcommand (with_subcommand
+    (with_subcommand (with_subcommand program (counted (codes "rows") 1)) (counted (codes "gen") 2)) (counted (codes "trial") 2))
+    (counted (codes "layout") 5)) (counted (codes "all") 5)) (counted (codes "hit") 7)) (counted (codes "draw") 6))
+    (counted (codes "check") 6)) (counted (codes "rows-check") 2)

@@ -59,8 +59,11 @@ fn grammar<'a>(alloc: Global) -> Result<Program<'a>, AllocError>
     let program = with_command(alloc, program, "gen", 2)?;
     let program = with_command(alloc, program, "trial", 2)?;
     let program = with_command(alloc, program, "layout", 5)?;
+    let program = with_command(alloc, program, "all", 5)?;
     let program = with_command(alloc, program, "hit", 7)?;
-    with_command(alloc, program, "draw", 6)
+    let program = with_command(alloc, program, "draw", 6)?;
+    let program = with_command(alloc, program, "check", 6)?;
+    with_command(alloc, program, "rows-check", 2)
 }
 
 /// Why words weren't parsed.
