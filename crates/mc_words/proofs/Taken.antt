@@ -205,29 +205,30 @@ by_name name words own here plain next = go (bytes_eq name own) refl
 
 abbrev picked : (a b c d e f g h k : Bool) (words : List Text) → Option Command
 picked a b c d e f g h k words =
-    if a then flow_of words else (if b then gen_of words else (if c then trial_of words
-    else (if d then layout_of words else (if e then whole_of words else (if f then hit_of words
-    else (if g then draw_of words else (if h then check_of words else (if k then rows_check_of words else None))))))))
+    if a then flow_of words else (if b then rows_check_of words else (if c then gen_of words
+    else (if d then trial_of words else (if e then layout_of words else (if f then check_of words
+    else (if g then whole_of words else (if h then hit_of words else (if k then draw_of words else None))))))))
 
 abbrev found : (a b c d e f g h k : Bool) → Option (Text × List Text)
 found a b c d e f g h k =
-    if a || false then Some (codes "rows", []) else (if b || false then Some (codes "gen", [])
-    else (if c || false then Some (codes "trial", []) else (if d || false then Some (codes "layout", [])
-    else (if e || false then Some (codes "all", []) else (if f || false then Some (codes "hit", [])
-    else (if g || false then Some (codes "draw", []) else (if h || false then Some (codes "check", [])
-    else (if k || false then Some (codes "rows-check", []) else None))))))))
+    if a || false then Some (codes "rows", []) else (if b || false then Some (codes "rows-check", [])
+    else (if c || false then Some (codes "gen", []) else (if d || false then Some (codes "trial", [])
+    else (if e || false then Some (codes "layout", []) else (if f || false then Some (codes "check", [])
+    else (if g || false then Some (codes "all", []) else (if h || false then Some (codes "hit", [])
+    else (if k || false then Some (codes "draw", []) else None))))))))
 
 unnamed : (c : ℕ) (cs : Text) (words : List Text) → (c == 45) ≡ false → bytes_eq (c ∷ cs) (codes "rows") ≡ false
-    → bytes_eq (c ∷ cs) (codes "gen") ≡ false → bytes_eq (c ∷ cs) (codes "trial") ≡ false
-    → bytes_eq (c ∷ cs) (codes "layout") ≡ false → bytes_eq (c ∷ cs) (codes "all") ≡ false
-    → bytes_eq (c ∷ cs) (codes "hit") ≡ false → bytes_eq (c ∷ cs) (codes "draw") ≡ false
-    → bytes_eq (c ∷ cs) (codes "check") ≡ false → bytes_eq (c ∷ cs) (codes "rows-check") ≡ false → IsJudged (c ∷ cs) words
+    → bytes_eq (c ∷ cs) (codes "rows-check") ≡ false → bytes_eq (c ∷ cs) (codes "gen") ≡ false
+    → bytes_eq (c ∷ cs) (codes "trial") ≡ false → bytes_eq (c ∷ cs) (codes "layout") ≡ false
+    → bytes_eq (c ∷ cs) (codes "check") ≡ false → bytes_eq (c ∷ cs) (codes "all") ≡ false
+    → bytes_eq (c ∷ cs) (codes "hit") ≡ false → bytes_eq (c ∷ cs) (codes "draw") ≡ false → IsJudged (c ∷ cs) words
 unnamed c cs words plain e1 e2 e3 e4 e5 e6 e7 e8 e9 =
     let name = c ∷ cs in
     let none : find (answers_to name) (names_of made) ≡ None =
-    λ i. found (other_way name (codes "rows") e1 i) (other_way name (codes "gen") e2 i) (other_way name (codes "trial") e3 i)
-    (other_way name (codes "layout") e4 i) (other_way name (codes "all") e5 i) (other_way name (codes "hit") e6 i)
-    (other_way name (codes "draw") e7 i) (other_way name (codes "check") e8 i) (other_way name (codes "rows-check") e9 i) in
+    λ i. found (other_way name (codes "rows") e1 i) (other_way name (codes "rows-check") e2 i)
+    (other_way name (codes "gen") e3 i) (other_way name (codes "trial") e4 i) (other_way name (codes "layout") e5 i)
+    (other_way name (codes "check") e6 i) (other_way name (codes "all") e7 i) (other_way name (codes "hit") e8 i)
+    (other_way name (codes "draw") e9 i) in
     inr (
       λ ok. let bad : kind.UnknownArgument ∷ kind.InvalidSubcommand ∷ [] ≡ [] =
           sym (stray_fault c cs plain none words) ∙ ok in cc,
@@ -240,14 +241,14 @@ words_judged (c ∷ cs) words plain =
     let parts = plain_head c cs words plain in
     let name = c ∷ cs in
     by_name name words (codes "rows") rows_judged parts.1 (λ e1.
-    by_name name words (codes "gen") gen_judged parts.1 (λ e2.
-    by_name name words (codes "trial") trial_judged parts.1 (λ e3.
-    by_name name words (codes "layout") layout_judged parts.1 (λ e4.
-    by_name name words (codes "all") all_judged parts.1 (λ e5.
-    by_name name words (codes "hit") hit_judged parts.1 (λ e6.
-    by_name name words (codes "draw") draw_judged parts.1 (λ e7.
-    by_name name words (codes "check") check_judged parts.1 (λ e8.
-    by_name name words (codes "rows-check") rows_check_judged parts.1 (λ e9.
+    by_name name words (codes "rows-check") rows_check_judged parts.1 (λ e2.
+    by_name name words (codes "gen") gen_judged parts.1 (λ e3.
+    by_name name words (codes "trial") trial_judged parts.1 (λ e4.
+    by_name name words (codes "layout") layout_judged parts.1 (λ e5.
+    by_name name words (codes "check") check_judged parts.1 (λ e6.
+    by_name name words (codes "all") all_judged parts.1 (λ e7.
+    by_name name words (codes "hit") hit_judged parts.1 (λ e8.
+    by_name name words (codes "draw") draw_judged parts.1 (λ e9.
     unnamed c cs words parts.0 e1 e2 e3 e4 e5 e6 e7 e8 e9)))))))))
 
 -- words with no fault are what their command says

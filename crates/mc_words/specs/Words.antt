@@ -158,14 +158,14 @@ is_plain (c ∷ cs) = not (c == 45)
 abbrev pub command_named : List ℕ → List (List ℕ) → Option Command
 command_named name words =
     if bytes_eq name (codes "rows") then rows_of words
+    else (if bytes_eq name (codes "rows-check") then rows_check_of words
     else (if bytes_eq name (codes "gen") then gen_of words
     else (if bytes_eq name (codes "trial") then trial_of words
     else (if bytes_eq name (codes "layout") then layout_of words
+    else (if bytes_eq name (codes "check") then check_of words
     else (if bytes_eq name (codes "all") then all_of words
     else (if bytes_eq name (codes "hit") then hit_of words
-    else (if bytes_eq name (codes "draw") then draw_of words
-    else (if bytes_eq name (codes "check") then check_of words
-    else (if bytes_eq name (codes "rows-check") then rows_check_of words else None))))))))
+    else (if bytes_eq name (codes "draw") then draw_of words else None))))))))
 
 abbrev pub plain_command : List (List ℕ) → Option Command
 plain_command [] = None

@@ -182,6 +182,9 @@ pub fn command_named<'a>(name: &str, words: &[&'a str]) -> Option<Command<'a>>
     if name == "rows" {
         return rows_of(words);
     }
+    if name == "rows-check" {
+        return rows_check_of(words);
+    }
     if name == "gen" {
         return gen_of(words);
     }
@@ -191,6 +194,9 @@ pub fn command_named<'a>(name: &str, words: &[&'a str]) -> Option<Command<'a>>
     if name == "layout" {
         return layout_of(words);
     }
+    if name == "check" {
+        return check_of(words);
+    }
     if name == "all" {
         return all_of(words);
     }
@@ -199,12 +205,6 @@ pub fn command_named<'a>(name: &str, words: &[&'a str]) -> Option<Command<'a>>
     }
     if name == "draw" {
         return draw_of(words);
-    }
-    if name == "check" {
-        return check_of(words);
-    }
-    if name == "rows-check" {
-        return rows_check_of(words);
     }
     None
 }
