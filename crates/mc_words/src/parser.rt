@@ -51,10 +51,7 @@ fn with_command<'a>(
 }
 
 /// The commands that lay out no page.
-fn with_plain_commands<'a>(
-    alloc: Global,
-    program: Program<'a>,
-) -> Result<Program<'a>, AllocError>
+fn with_plain_commands<'a>(alloc: Global, program: Program<'a>) -> Result<Program<'a>, AllocError>
     ensures { IfOk result (λ command. app_of command ≡ stated.with_plain_commands (app_of program.entry)) }
 {
     let program = with_command(alloc, program, "rows", 1)?;
@@ -64,10 +61,7 @@ fn with_plain_commands<'a>(
 }
 
 /// The commands that lay a page out.
-fn with_page_commands<'a>(
-    alloc: Global,
-    program: Program<'a>,
-) -> Result<Program<'a>, AllocError>
+fn with_page_commands<'a>(alloc: Global, program: Program<'a>) -> Result<Program<'a>, AllocError>
     ensures { IfOk result (λ command. app_of command ≡ stated.with_page_commands (app_of program.entry)) }
 {
     let program = with_command(alloc, program, "layout", 5)?;
