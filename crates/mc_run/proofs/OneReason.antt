@@ -7,6 +7,7 @@ use Rattle.mc_base.specs.declared.refusal.Refusal.{Refusal}
 use Rattle.mc_run.specs.Inputs.{NamedInput, Contents, reads, AreShort, IsTooLong}
 use Rattle.mc_run.specs.Outcome.{Yields, Denies, HasResult, IsRefused, Gives, Refuses, RefusesTold, Accepts}
 use Rattle.mc_words.specs.Words.{Command, rows, gen, trial, layout, hit, draw}
+use Rattle.mc_words.specs.Words.{all, check, rows_check}
 use Rattle.mc_run.specs.Printed.{result_text}
 use Rattle.page_views.specs.Views.{hit_text, draw_text}
 use Rattle.mc_run.proofs.Agree.{held_told, result_along, refused_along}
@@ -39,6 +40,9 @@ denied_once : OneAnswer → (command : Command) (contents : Contents) (a b : Ref
 denied_once law (rows flow) contents a b h k = one_of_bytes (contents Flow) a b h k
 denied_once law (gen start count) contents a b h k = h.1 ∙ sym k.1
 denied_once law (trial start count) contents a b h k = absurd h
+denied_once law (all page) contents a b h k = absurd h
+denied_once law (check page printed) contents a b h k = absurd h
+denied_once law (rows_check flow printed) contents a b h k = absurd h
 denied_once law (layout page) contents a b h k =
     one_of_texts law result_text (contents Document) (contents Sheet) (contents Metrics) page.width page.height a b h k
 denied_once law (hit page x y) contents a b h k =
@@ -51,6 +55,9 @@ yields_or_denies : OneAnswer → (command : Command) (contents : Contents) (text
 yields_or_denies law (rows flow) contents text refusal h k = result_or_refusal (contents Flow) text refusal h k
 yields_or_denies law (gen start count) contents text refusal h k = let few = h.0 in let many = k.0 in omega (arith, few, many)
 yields_or_denies law (trial start count) contents text refusal h k = h
+yields_or_denies law (all page) contents text refusal h k = h
+yields_or_denies law (check page printed) contents text refusal h k = h
+yields_or_denies law (rows_check flow printed) contents text refusal h k = h
 yields_or_denies law (layout page) contents text refusal h k =
     texts_or_refusal law result_text (contents Document) (contents Sheet) (contents Metrics) page.width page.height text
     refusal h k

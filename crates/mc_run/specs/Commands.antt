@@ -1,6 +1,7 @@
 -- The commands that there are.
 use Rattle.std.specs.Prelude.{ℕ, List, Option, None, Some, option_and_then}
 use Rattle.mc_words.specs.Words.{Command, rows, gen, trial, layout, hit, draw, command_of as words_ask}
+use Rattle.mc_words.specs.Words.{all, check, rows_check}
 
 -- a command, where it is built
 abbrev pub built : Command → Option Command
@@ -10,6 +11,9 @@ built (trial start count) = None
 built (layout page) = Some (layout page)
 built (hit page x y) = Some (hit page x y)
 built (draw page rule) = Some (draw page rule)
+built (all page) = None
+built (check page printed) = None
+built (rows_check flow printed) = None
 
 -- what the words after the program's name ask for
 abbrev pub command_of : List (List ℕ) → Option Command

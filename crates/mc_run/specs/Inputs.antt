@@ -10,6 +10,7 @@ use Rattle.mc_base.specs.declared.refusal.LimitName.TheVariants.{Script as Scrip
 use Rattle.mc_base.specs.declared.refusal.Refusal.{Refusal}
 use Rattle.mc_base.specs.declared.refusal.Refusal.TheVariants.{Limit}
 use Rattle.mc_words.specs.Words.{Command, Page, rows, gen, trial, layout, hit, draw}
+use Rattle.mc_words.specs.Words.{all, check, rows_check}
 
 -- an input, and the name that the words give for it
 pub record NamedInput : Type 0 where
@@ -33,6 +34,9 @@ reads (trial start count) = []
 reads (layout page) = page_texts page
 reads (hit page x y) = page_texts page
 reads (draw page rule) = page_texts page
+reads (all page) = []
+reads (check page printed) = []
+reads (rows_check flow printed) = []
 
 -- the inputs that are read, if the words are taken
 abbrev pub inputs_of : Option Command → List NamedInput

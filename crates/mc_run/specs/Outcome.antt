@@ -15,6 +15,7 @@ use Rattle.mc_run.specs.Printed.{result_text}
 use Rattle.page_views.specs.Views.{hit_text, draw_text}
 use Rattle.mc_run.specs.Inputs.{Contents, reads, inputs_of, AreHeld, AreTold, AreShort, IsTooLong, HasFault}
 use Rattle.mc_words.specs.Words.{Command, rows, gen, trial, layout, hit, draw}
+use Rattle.mc_words.specs.Words.{all, check, rows_check}
 
 -- ---- each command
 
@@ -23,6 +24,9 @@ abbrev pub Yields : Command → Contents → List ℕ → Type 0
 Yields (rows flow) contents text = IsFlowResult (contents Flow) text
 Yields (gen start count) contents text = (count ≤ 5000) × (text ≡ document start count)
 Yields (trial start count) contents text = ⊥
+Yields (all page) contents text = ⊥
+Yields (check page printed) contents text = ⊥
+Yields (rows_check flow printed) contents text = ⊥
 Yields (layout page) contents text =
     IsPageView result_text (contents Document) (contents Sheet) (contents Metrics) page.width page.height text
 Yields (hit page x y) contents text =
@@ -35,6 +39,9 @@ abbrev pub Denies : Command → Contents → Refusal → Type 0
 Denies (rows flow) contents refusal = RefusesBytes (contents Flow) refusal
 Denies (gen start count) contents refusal = (5000 < count) × (refusal ≡ Limit Paragraphs 5001 5000)
 Denies (trial start count) contents refusal = ⊥
+Denies (all page) contents refusal = ⊥
+Denies (check page printed) contents refusal = ⊥
+Denies (rows_check flow printed) contents refusal = ⊥
 Denies (layout page) contents refusal =
     RefusesPageView result_text (contents Document) (contents Sheet) (contents Metrics) page.width page.height refusal
 Denies (hit page x y) contents refusal =

@@ -84,6 +84,9 @@ fn result_of<F: Files>(alloc: Global, command: Command<'_>, files: &mut F) -> Re
         Command::Hit { page, x, y } => answer_page(alloc, page, View::Point { x, y }, files),
         Command::Draw { page, rule } => answer_page(alloc, page, View::Drawing { rule }, files),
         Command::Trial { .. } => Err(Stop::Usage),
+        Command::All { .. } => Err(Stop::Usage),
+        Command::Check { .. } => Err(Stop::Usage),
+        Command::RowsCheck { .. } => Err(Stop::Usage),
     }
 }
 
