@@ -182,7 +182,8 @@ rows_check_judged : (words : List Text) → list_all is_plain words ≡ true →
 unfolding clap_on_literals
 rows_check_judged words plain =
     judged (codes "rows-check") 2 words (judges_several (codes "rows-check") 2 refl refl refl (omega arith) words plain)
-    (fault_is (codes "rows-check") 2 refl refl refl words) (given_is (codes "rows-check") 2 refl refl refl words) (rows_check_wants words)
+    (fault_is (codes "rows-check") 2 refl refl refl words)
+    (given_is (codes "rows-check") 2 refl refl refl words) (rows_check_wants words)
 
 -- ---- any first word
 
