@@ -1,6 +1,6 @@
 //! The whole document.
 
-ghost use Rattle.std.specs.Prelude.{◌≡◌, ◌<◌, ◌≤◌, IfOk, IsErrOf, IsOkUnless};
+ghost use Rattle.std.specs.Prelude.{◌≡◌, ◌<◌, ◌≤◌, length, IfOk, IsErrOf, IsOkUnless};
 ghost use Rattle.doc_gen.specs.Document.{document};
 
 use crate::page::Page;
@@ -12,10 +12,12 @@ const MOST: u32 = 5_000;
 
 /// The generated document of so many paragraphs: the same text for the same start, in ASCII.
 ///
-/// Above 5,000 paragraphs the answer is the limit `paragraphs`; else it is the text, or out of memory.
-#[tactic(auto, using(crate::proofs::Steps::part_steps))]
+/// Above 5,000 paragraphs the answer is the limit `paragraphs`; else it is the text, which is no longer than a document that is
+/// read may be, or out of memory.
+#[tactic(auto, using(crate::proofs::Steps::part_steps, crate::proofs::Sizes::document_long))]
 pub fn generate(alloc: Global, start: u64, paragraphs: u32) -> Result<Text, Refusal>
     ensures text { IfOk result (λ text. text ≡ document start paragraphs) }
+    ensures short { IfOk result (λ text. length text ≤ 4194304) }
     ensures within { paragraphs ≤ 5000 → IsOkUnless result Refusal.NoMemory }
     ensures limit { 5000 < paragraphs → IsErrOf result (Refusal.Limit LimitName.Paragraphs 5001 5000) }
 {

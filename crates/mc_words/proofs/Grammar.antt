@@ -20,18 +20,24 @@ use Rattle.mc_words.proofs.Leaves.{fault_other, leaf, met_other}
 abbrev pub made : App
 made = record {
   top = record program.top { is_leaf = false; is_built = true };
-  subs = leaf (codes "rows") 1 ∷ leaf (codes "gen") 2 ∷ leaf (codes "trial") 2 ∷ leaf (codes "layout") 5
-      ∷ leaf (codes "hit") 7 ∷ leaf (codes "draw") 6 ∷ [];
+  subs = leaf (codes "rows") 1 ∷ leaf (codes "rows-check") 2 ∷ leaf (codes "gen") 2 ∷ leaf (codes "trial") 2
+      ∷ leaf (codes "layout") 5 ∷ leaf (codes "check") 6 ∷ leaf (codes "all") 5 ∷ leaf (codes "hit") 7 ∷ leaf (codes "draw") 6
+      ∷ [];
 }
 
 built_is : built grammar ≡ made
+unfolding grammar
 built_is = refl
 
 pub grammar_simple : is_simple grammar ≡ true
+unfolding grammar
 grammar_simple = refl
 
 pub grammar_free : is_simple_and_free grammar ≡ true
+unfolding grammar
 grammar_free = refl
+
+pub ruleset grammar_is = (grammar_simple, grammar_free)
 
 abbrev begun : Walk
 begun = walk_from nothing_held
@@ -44,6 +50,7 @@ level words w = or_else (walk_fault made.top (names_of made) begun words)
     (check_fault made.top (finished [] w.held) (is_some (entered made w.stopped))))))
 
 fault_level : (words : List Text) → fault_of grammar words ≡ level words (walk [] (names_of made) nothing_held words)
+unfolding grammar
 fault_level words = refl
 
 -- ---- the words after the name of a command
@@ -79,6 +86,7 @@ module _ (name : Text) (n : ℕ) (step : walked [] (names_of made) begun name �
       ∙ (λ i. or_else (below_is words i) (check_fault made.top [] (is_some (entered_is words i))))
 
   pub given_is : (words : List Text) → subcommand_of grammar (name ∷ words) ≡ Some (rows_at (leaf name n) words)
+  unfolding grammar
   given_is words = ap (λ (w : Walk). entered made w.stopped) (walk_is words) ∙ entered_is words
 
 -- ---- a first word that names no command
@@ -104,5 +112,5 @@ module _ (c : ℕ) (cs : Text) (plain : (c == 45) ≡ false) (unnamed : find (an
       (check_fault made.top (finished [] w.held) (is_some (entered made w.stopped))))))) stray
 
 pub nothing_fault : fault_of grammar [] ≡ kind.MissingSubcommand ∷ []
-unfolding clap_on_literals
+unfolding clap_on_literals grammar
 nothing_fault = refl

@@ -22,8 +22,9 @@ use Rattle.clap.proofs.WalkLemmas.{raw_values-rows}
 use Rattle.clap.specs.declared.error.kind.ErrorKind.TheVariants as kind
 use Rattle.clap.proofs.OnLiterals.{clap_on_literals}
 use Rattle.mc_words.specs.Grammar.{grammar}
-use Rattle.mc_words.specs.Words.{Command, is_plain, command_named, command_of, draw_of, gen_of, hit_of, layout_of}
-use Rattle.mc_words.specs.Words.{plain_command, trial_of, rows_of as flow_of}
+use Rattle.mc_words.specs.Words.{Command, is_plain, check_of, command_named, command_of, draw_of, gen_of, hit_of, layout_of}
+use Rattle.mc_words.specs.Words.{plain_command, plain_session, rows_check_of, session_of, trial_of}
+use Rattle.mc_words.specs.Words.{all_of as whole_of, rows_of as flow_of}
 use Rattle.mc_words.specs.Given.{Gives}
 use Rattle.mc_words.proofs.Grammar.{fault_is, given_is, made, nothing_fault, stray_fault}
 use Rattle.mc_words.proofs.Leaves.{Judges, judges_one, judges_several, leaf, plain_head}
@@ -65,6 +66,15 @@ layout_wants (a ∷ b ∷ c ∷ d ∷ []) apart = refl
 layout_wants (a ∷ b ∷ c ∷ d ∷ e ∷ []) apart = absurd (apart refl)
 layout_wants (a ∷ b ∷ c ∷ d ∷ e ∷ f ∷ words) apart = refl
 
+all_wants : Wants whole_of 5
+all_wants [] apart = refl
+all_wants (a ∷ []) apart = refl
+all_wants (a ∷ b ∷ []) apart = refl
+all_wants (a ∷ b ∷ c ∷ []) apart = refl
+all_wants (a ∷ b ∷ c ∷ d ∷ []) apart = refl
+all_wants (a ∷ b ∷ c ∷ d ∷ e ∷ []) apart = absurd (apart refl)
+all_wants (a ∷ b ∷ c ∷ d ∷ e ∷ f ∷ words) apart = refl
+
 hit_wants : Wants hit_of 7
 hit_wants [] apart = refl
 hit_wants (a ∷ []) apart = refl
@@ -85,6 +95,22 @@ draw_wants (a ∷ b ∷ c ∷ d ∷ []) apart = refl
 draw_wants (a ∷ b ∷ c ∷ d ∷ e ∷ []) apart = refl
 draw_wants (a ∷ b ∷ c ∷ d ∷ e ∷ f ∷ []) apart = absurd (apart refl)
 draw_wants (a ∷ b ∷ c ∷ d ∷ e ∷ f ∷ g ∷ words) apart = refl
+
+check_wants : Wants check_of 6
+check_wants [] apart = refl
+check_wants (a ∷ []) apart = refl
+check_wants (a ∷ b ∷ []) apart = refl
+check_wants (a ∷ b ∷ c ∷ []) apart = refl
+check_wants (a ∷ b ∷ c ∷ d ∷ []) apart = refl
+check_wants (a ∷ b ∷ c ∷ d ∷ e ∷ []) apart = refl
+check_wants (a ∷ b ∷ c ∷ d ∷ e ∷ f ∷ []) apart = absurd (apart refl)
+check_wants (a ∷ b ∷ c ∷ d ∷ e ∷ f ∷ g ∷ words) apart = refl
+
+rows_check_wants : Wants rows_check_of 2
+rows_check_wants [] apart = refl
+rows_check_wants (a ∷ []) apart = refl
+rows_check_wants (a ∷ b ∷ []) apart = absurd (apart refl)
+rows_check_wants (a ∷ b ∷ c ∷ words) apart = refl
 
 -- what is said of a command's own words is said of all
 judged : (name : Text) (n : ℕ) (words : List Text) → Judges name n words
@@ -128,6 +154,12 @@ layout_judged words plain =
     judged (codes "layout") 5 words (judges_several (codes "layout") 5 refl refl refl (omega arith) words plain)
     (fault_is (codes "layout") 5 refl refl refl words) (given_is (codes "layout") 5 refl refl refl words) (layout_wants words)
 
+all_judged : (words : List Text) → list_all is_plain words ≡ true → IsJudged (codes "all") words
+unfolding clap_on_literals
+all_judged words plain =
+    judged (codes "all") 5 words (judges_several (codes "all") 5 refl refl refl (omega arith) words plain)
+    (fault_is (codes "all") 5 refl refl refl words) (given_is (codes "all") 5 refl refl refl words) (all_wants words)
+
 hit_judged : (words : List Text) → list_all is_plain words ≡ true → IsJudged (codes "hit") words
 unfolding clap_on_literals
 hit_judged words plain =
@@ -139,6 +171,19 @@ unfolding clap_on_literals
 draw_judged words plain =
     judged (codes "draw") 6 words (judges_several (codes "draw") 6 refl refl refl (omega arith) words plain)
     (fault_is (codes "draw") 6 refl refl refl words) (given_is (codes "draw") 6 refl refl refl words) (draw_wants words)
+
+check_judged : (words : List Text) → list_all is_plain words ≡ true → IsJudged (codes "check") words
+unfolding clap_on_literals
+check_judged words plain =
+    judged (codes "check") 6 words (judges_several (codes "check") 6 refl refl refl (omega arith) words plain)
+    (fault_is (codes "check") 6 refl refl refl words) (given_is (codes "check") 6 refl refl refl words) (check_wants words)
+
+rows_check_judged : (words : List Text) → list_all is_plain words ≡ true → IsJudged (codes "rows-check") words
+unfolding clap_on_literals
+rows_check_judged words plain =
+    judged (codes "rows-check") 2 words (judges_several (codes "rows-check") 2 refl refl refl (omega arith) words plain)
+    (fault_is (codes "rows-check") 2 refl refl refl words)
+    (given_is (codes "rows-check") 2 refl refl refl words) (rows_check_wants words)
 
 -- ---- any first word
 
@@ -159,30 +204,36 @@ by_name name words own here plain next = go (bytes_eq name own) refl
     go true e = subst (λ n. IsJudged n words) (sym ((bytes_eq-Decides name own).0 e)) (here words plain)
     go false e = next e
 
-abbrev picked : (a b c d e f : Bool) (words : List Text) → Option Command
-picked a b c d e f words =
-    if a then flow_of words else (if b then gen_of words else (if c then trial_of words
-    else (if d then layout_of words else (if e then hit_of words else (if f then draw_of words else None)))))
+abbrev picked : (a b c d e f g h k : Bool) (words : List Text) → Option Command
+picked a b c d e f g h k words =
+    if a then flow_of words else (if b then rows_check_of words else (if c then gen_of words
+    else (if d then trial_of words else (if e then layout_of words else (if f then check_of words
+    else (if g then whole_of words else (if h then hit_of words else (if k then draw_of words else None))))))))
 
-abbrev found : (a b c d e f : Bool) → Option (Text × List Text)
-found a b c d e f =
-    if a || false then Some (codes "rows", []) else (if b || false then Some (codes "gen", [])
-    else (if c || false then Some (codes "trial", []) else (if d || false then Some (codes "layout", [])
-    else (if e || false then Some (codes "hit", []) else (if f || false then Some (codes "draw", []) else None)))))
+abbrev found : (a b c d e f g h k : Bool) → Option (Text × List Text)
+found a b c d e f g h k =
+    if a || false then Some (codes "rows", []) else (if b || false then Some (codes "rows-check", [])
+    else (if c || false then Some (codes "gen", []) else (if d || false then Some (codes "trial", [])
+    else (if e || false then Some (codes "layout", []) else (if f || false then Some (codes "check", [])
+    else (if g || false then Some (codes "all", []) else (if h || false then Some (codes "hit", [])
+    else (if k || false then Some (codes "draw", []) else None))))))))
 
 unnamed : (c : ℕ) (cs : Text) (words : List Text) → (c == 45) ≡ false → bytes_eq (c ∷ cs) (codes "rows") ≡ false
-    → bytes_eq (c ∷ cs) (codes "gen") ≡ false → bytes_eq (c ∷ cs) (codes "trial") ≡ false
-    → bytes_eq (c ∷ cs) (codes "layout") ≡ false → bytes_eq (c ∷ cs) (codes "hit") ≡ false
-    → bytes_eq (c ∷ cs) (codes "draw") ≡ false → IsJudged (c ∷ cs) words
-unnamed c cs words plain e1 e2 e3 e4 e5 e6 =
+    → bytes_eq (c ∷ cs) (codes "rows-check") ≡ false → bytes_eq (c ∷ cs) (codes "gen") ≡ false
+    → bytes_eq (c ∷ cs) (codes "trial") ≡ false → bytes_eq (c ∷ cs) (codes "layout") ≡ false
+    → bytes_eq (c ∷ cs) (codes "check") ≡ false → bytes_eq (c ∷ cs) (codes "all") ≡ false
+    → bytes_eq (c ∷ cs) (codes "hit") ≡ false → bytes_eq (c ∷ cs) (codes "draw") ≡ false → IsJudged (c ∷ cs) words
+unnamed c cs words plain e1 e2 e3 e4 e5 e6 e7 e8 e9 =
     let name = c ∷ cs in
     let none : find (answers_to name) (names_of made) ≡ None =
-    λ i. found (other_way name (codes "rows") e1 i) (other_way name (codes "gen") e2 i) (other_way name (codes "trial") e3 i)
-    (other_way name (codes "layout") e4 i) (other_way name (codes "hit") e5 i) (other_way name (codes "draw") e6 i) in
+    λ i. found (other_way name (codes "rows") e1 i) (other_way name (codes "rows-check") e2 i)
+    (other_way name (codes "gen") e3 i) (other_way name (codes "trial") e4 i) (other_way name (codes "layout") e5 i)
+    (other_way name (codes "check") e6 i) (other_way name (codes "all") e7 i) (other_way name (codes "hit") e8 i)
+    (other_way name (codes "draw") e9 i) in
     inr (
       λ ok. let bad : kind.UnknownArgument ∷ kind.InvalidSubcommand ∷ [] ≡ [] =
           sym (stray_fault c cs plain none words) ∙ ok in cc,
-      λ i. picked (e1 i) (e2 i) (e3 i) (e4 i) (e5 i) (e6 i) words,
+      λ i. picked (e1 i) (e2 i) (e3 i) (e4 i) (e5 i) (e6 i) (e7 i) (e8 i) (e9 i) words,
     )
 
 pub words_judged : (name : Text) (words : List Text) → list_all is_plain (name ∷ words) ≡ true → IsJudged name words
@@ -191,12 +242,15 @@ words_judged (c ∷ cs) words plain =
     let parts = plain_head c cs words plain in
     let name = c ∷ cs in
     by_name name words (codes "rows") rows_judged parts.1 (λ e1.
-    by_name name words (codes "gen") gen_judged parts.1 (λ e2.
-    by_name name words (codes "trial") trial_judged parts.1 (λ e3.
-    by_name name words (codes "layout") layout_judged parts.1 (λ e4.
-    by_name name words (codes "hit") hit_judged parts.1 (λ e5.
-    by_name name words (codes "draw") draw_judged parts.1 (λ e6.
-    unnamed c cs words parts.0 e1 e2 e3 e4 e5 e6))))))
+    by_name name words (codes "rows-check") rows_check_judged parts.1 (λ e2.
+    by_name name words (codes "gen") gen_judged parts.1 (λ e3.
+    by_name name words (codes "trial") trial_judged parts.1 (λ e4.
+    by_name name words (codes "layout") layout_judged parts.1 (λ e5.
+    by_name name words (codes "check") check_judged parts.1 (λ e6.
+    by_name name words (codes "all") all_judged parts.1 (λ e7.
+    by_name name words (codes "hit") hit_judged parts.1 (λ e8.
+    by_name name words (codes "draw") draw_judged parts.1 (λ e9.
+    unnamed c cs words parts.0 e1 e2 e3 e4 e5 e6 e7 e8 e9)))))))))
 
 -- words with no fault are what their command says
 pub plain_ok : (words : List Text) → list_all is_plain words ≡ true → fault_of grammar words ≡ []
@@ -278,3 +332,17 @@ is_plain_command words plain =
     ap (λ b. if b then plain_command (map string_bytes words) else None) (sym (each_plain words) ∙ plain)
 
 pub ruleset word_lemmas = (all_plain, not_taken, is_plain_command)
+
+-- ---- the words of a session
+
+pub no_session : (words : List (String Global)) → list_all (λ word. is_plain (string_bytes word)) words ≡ false
+    → session_of (map string_bytes words) ≡ None
+no_session words other =
+    ap (λ b. if b then plain_session (map string_bytes words) else None) (sym (each_plain words) ∙ other)
+
+pub is_plain_session : (words : List (String Global)) → list_all (λ word. is_plain (string_bytes word)) words ≡ true
+    → session_of (map string_bytes words) ≡ plain_session (map string_bytes words)
+is_plain_session words plain =
+    ap (λ b. if b then plain_session (map string_bytes words) else None) (sym (each_plain words) ∙ plain)
+
+pub ruleset session_lemmas = (no_session, is_plain_session)

@@ -26,9 +26,16 @@ program = record {
   subs = [];
 }
 
+-- the commands that lay out no page, and those that do
+abbrev pub with_plain_commands : App → App
+with_plain_commands app = with_subcommand (with_subcommand (with_subcommand (with_subcommand app
+    (counted (codes "rows") 1)) (counted (codes "rows-check") 2)) (counted (codes "gen") 2)) (counted (codes "trial") 2)
+
+abbrev pub with_page_commands : App → App
+with_page_commands app = with_subcommand (with_subcommand (with_subcommand (with_subcommand (with_subcommand app
+    (counted (codes "layout") 5)) (counted (codes "check") 6)) (counted (codes "all") 5)) (counted (codes "hit") 7))
+    (counted (codes "draw") 6)
+
 -- the program with its commands
-abbrev pub grammar : App
-grammar =
-    with_subcommand (with_subcommand (with_subcommand (with_subcommand (with_subcommand (with_subcommand program
-    (counted (codes "rows") 1)) (counted (codes "gen") 2)) (counted (codes "trial") 2)) (counted (codes "layout") 5))
-    (counted (codes "hit") 7)) (counted (codes "draw") 6)
+unfoldable pub grammar : App
+grammar = with_page_commands (with_plain_commands program)

@@ -25,10 +25,21 @@ pub data Command : Type 0 where
   trial : (start count : ℕ) → Command
   -- the result of a document
   layout : (page : Page) → Command
+  -- its layout with each cut piece of a row as low as it can be, where the row's `column-fill` is `balance-all`
+  all : (page : Page) → Command
   -- what stands at a point of it
   hit : (page : Page) (x y : ℕ) → Command
   -- its drawing, with a rule this wide between columns
   draw : (page : Page) (rule : ℕ) → Command
+  -- whether a file, by its name, holds the result of a document
+  check : (page : Page) (printed : List ℕ) → Command
+  -- whether it holds the result of a flow file
+  rows_check : (flow printed : List ℕ) → Command
+
+-- a document to lay out, and a script of edits of it, by its name
+pub record Session : Type 0 where
+  pub page : Page
+  pub script : List ℕ
 
 -- ---- numbers
 
@@ -62,6 +73,11 @@ abbrev pub rows_of : List (List ℕ) → Option Command
 rows_of (flow ∷ []) = Some (rows flow)
 rows_of words = None
 
+-- the word `rows-check` takes one more
+abbrev pub rows_check_of : List (List ℕ) → Option Command
+rows_check_of (flow ∷ printed ∷ []) = Some (rows_check flow printed)
+rows_check_of words = None
+
 -- the words `gen` and `trial` take two more, a start below 2^64 and a count below 2^32
 abbrev pub numbers_with : Option ℕ → Option ℕ → Option (ℕ × ℕ)
 numbers_with (Some start) (Some count) = Some (start, count)
@@ -91,11 +107,16 @@ page_with document sheet metrics width height = None
 abbrev pub page_of : (document sheet metrics width height : List ℕ) → Option Page
 page_of document sheet metrics width height = page_with document sheet metrics (units_of width) (height_of height)
 
--- the word `layout` takes these five
+-- the words `layout` and `all` take these five
 abbrev pub layout_of : List (List ℕ) → Option Command
 layout_of (document ∷ sheet ∷ metrics ∷ width ∷ height ∷ []) =
     option_map (λ page. layout page) (page_of document sheet metrics width height)
 layout_of words = None
+
+abbrev pub all_of : List (List ℕ) → Option Command
+all_of (document ∷ sheet ∷ metrics ∷ width ∷ height ∷ []) =
+    option_map (λ page. all page) (page_of document sheet metrics width height)
+all_of words = None
 
 abbrev pub point_with : Option ℕ → Option ℕ → Option (ℕ × ℕ)
 point_with (Some x) (Some y) = Some (x, y)
@@ -121,6 +142,12 @@ draw_of (document ∷ sheet ∷ metrics ∷ width ∷ height ∷ rule ∷ []) =
     draw_with (page_of document sheet metrics width height) (units_of rule)
 draw_of words = None
 
+-- the word `check` takes one name more
+abbrev pub check_of : List (List ℕ) → Option Command
+check_of (document ∷ sheet ∷ metrics ∷ width ∷ height ∷ printed ∷ []) =
+    option_map (λ page. check page printed) (page_of document sheet metrics width height)
+check_of words = None
+
 -- ---- all words
 
 -- a word that isn't empty and doesn't begin with `-`, 45
@@ -131,11 +158,14 @@ is_plain (c ∷ cs) = not (c == 45)
 abbrev pub command_named : List ℕ → List (List ℕ) → Option Command
 command_named name words =
     if bytes_eq name (codes "rows") then rows_of words
+    else (if bytes_eq name (codes "rows-check") then rows_check_of words
     else (if bytes_eq name (codes "gen") then gen_of words
     else (if bytes_eq name (codes "trial") then trial_of words
     else (if bytes_eq name (codes "layout") then layout_of words
+    else (if bytes_eq name (codes "check") then check_of words
+    else (if bytes_eq name (codes "all") then all_of words
     else (if bytes_eq name (codes "hit") then hit_of words
-    else (if bytes_eq name (codes "draw") then draw_of words else None)))))
+    else (if bytes_eq name (codes "draw") then draw_of words else None))))))))
 
 abbrev pub plain_command : List (List ℕ) → Option Command
 plain_command [] = None
@@ -144,3 +174,14 @@ plain_command (name ∷ words) = command_named name words
 -- what the words after the program's name ask for: no word is empty or begins with `-`, and the first names a command
 abbrev pub command_of : List (List ℕ) → Option Command
 command_of words = if list_all is_plain words then plain_command words else None
+
+-- ---- the words of a session of edits
+
+abbrev pub plain_session : List (List ℕ) → Option Session
+plain_session (document ∷ sheet ∷ metrics ∷ width ∷ height ∷ script ∷ []) =
+    option_map (λ page. record { page = page; script = script }) (page_of document sheet metrics width height)
+plain_session words = None
+
+-- what the words of a session ask for: they are six, and none is empty or begins with `-`
+abbrev pub session_of : List (List ℕ) → Option Session
+session_of words = if list_all is_plain words then plain_session words else None

@@ -29,10 +29,16 @@ pub enum Command<'a> {
     Trial { start: u64, count: u32 },
     /// The result of a document.
     Layout { page: Page<'a> },
+    /// Its layout with each cut piece of a row as low as it can be, where the row's `column-fill` is `balance-all`.
+    All { page: Page<'a> },
     /// What stands at a point of a document that is laid out.
     Hit { page: Page<'a>, x: Units, y: Units },
     /// The drawing of a document that is laid out, with a rule this wide between columns.
     Draw { page: Page<'a>, rule: Units },
+    /// Whether a file, by its name, holds the result of a document.
+    Check { page: Page<'a>, printed: &'a str },
+    /// Whether it holds the result of a flow file.
+    RowsCheck { flow: &'a str, printed: &'a str },
 }
 
 fn rows_of<'a>(words: &[&'a str]) -> Option<Command<'a>>
@@ -42,6 +48,15 @@ fn rows_of<'a>(words: &[&'a str]) -> Option<Command<'a>>
         return None;
     };
     Some(Command::Rows { flow })
+}
+
+fn rows_check_of<'a>(words: &[&'a str]) -> Option<Command<'a>>
+    ensures { option_map asked result ≡ stated.rows_check_of (map (λ word. word.now) words.now) }
+{
+    let [flow, printed] = words else {
+        return None;
+    };
+    Some(Command::RowsCheck { flow, printed })
 }
 
 /// A start and a count.
@@ -71,7 +86,7 @@ fn trial_of<'a>(words: &[&'a str]) -> Option<Command<'a>>
 }
 
 /// A document to lay out, by the names of its files, its width and its available height.
-fn page_of<'a>(
+pub fn page_of<'a>(
     document: &'a str,
     sheet: &'a str,
     metrics: &'a str,
@@ -113,6 +128,17 @@ fn layout_of<'a>(words: &[&'a str]) -> Option<Command<'a>>
     Some(Command::Layout { page })
 }
 
+fn all_of<'a>(words: &[&'a str]) -> Option<Command<'a>>
+    ensures asked { option_map asked result ≡ stated.all_of (map (λ word. word.now) words.now) }
+    ensures narrow { IfSome result IsNarrow }
+{
+    let [document, sheet, metrics, width, height] = words else {
+        return None;
+    };
+    let page = page_of(document, sheet, metrics, width, height)?;
+    Some(Command::All { page })
+}
+
 fn hit_of<'a>(words: &[&'a str]) -> Option<Command<'a>>
     ensures asked { option_map asked result ≡ stated.hit_of (map (λ word. word.now) words.now) }
     ensures narrow { IfSome result IsNarrow }
@@ -137,6 +163,17 @@ fn draw_of<'a>(words: &[&'a str]) -> Option<Command<'a>>
     Some(Command::Draw { page, rule })
 }
 
+fn check_of<'a>(words: &[&'a str]) -> Option<Command<'a>>
+    ensures asked { option_map asked result ≡ stated.check_of (map (λ word. word.now) words.now) }
+    ensures narrow { IfSome result IsNarrow }
+{
+    let [document, sheet, metrics, width, height, printed] = words else {
+        return None;
+    };
+    let page = page_of(document, sheet, metrics, width, height)?;
+    Some(Command::Check { page, printed })
+}
+
 /// What the command of this name asks for with these words, if their count and their forms are right.
 pub fn command_named<'a>(name: &str, words: &[&'a str]) -> Option<Command<'a>>
     ensures asked { option_map asked result ≡ stated.command_named name.now (map (λ word. word.now) words.now) }
@@ -144,6 +181,9 @@ pub fn command_named<'a>(name: &str, words: &[&'a str]) -> Option<Command<'a>>
 {
     if name == "rows" {
         return rows_of(words);
+    }
+    if name == "rows-check" {
+        return rows_check_of(words);
     }
     if name == "gen" {
         return gen_of(words);
@@ -153,6 +193,12 @@ pub fn command_named<'a>(name: &str, words: &[&'a str]) -> Option<Command<'a>>
     }
     if name == "layout" {
         return layout_of(words);
+    }
+    if name == "check" {
+        return check_of(words);
+    }
+    if name == "all" {
+        return all_of(words);
     }
     if name == "hit" {
         return hit_of(words);

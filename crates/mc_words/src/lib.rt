@@ -1,23 +1,27 @@
 //! The words of the command line.
 //!
 //! It stands on clap, which reads the name of a command and counts its words, and on mc_base for decimals. `specs/Words.antt`
-//! says which words ask for what. `read_words` is proved to answer just that command, and to refuse just the words that are none.
+//! says which words ask for what. `read_words` is proved to answer just that command, and to refuse just the words that are none;
+//! `read_session_words` is proved so of the words of a session of edits, which name no command.
 #![tactic(auto)]
 
-ghost use Rattle.std.specs.Prelude.{◌≡◌, None, Some, map, string_bytes, IfOk, IfErr};
+ghost use Rattle.std.specs.Prelude.{◌≡◌, ◌^◌, ◌<◌, None, Some, map, option_map, string_bytes, IfOk, IfErr, IfSome};
 ghost use Rattle.std.specs.List.{list_all};
-ghost use Rattle.mc_words.specs.Asked.{asked, IsNarrow};
+ghost use Rattle.mc_words.specs.Asked.{asked, session_asked, IsNarrow};
 ghost use Rattle.mc_words.specs.Words as stated;
-ghost use Rattle.mc_words.specs.Words.{command_of};
+ghost use Rattle.mc_words.specs.Words.{command_of, session_of};
 
 mod command;
 mod numbers;
 mod parser;
+mod session;
 #[cfg(test)]
 mod tests;
 
 pub use command::{Command, Page};
 use parser::read_plain;
+pub use session::SessionWords;
+use session::plain_session;
 use std::alloc::Global;
 
 /// Why words aren't read.
@@ -59,4 +63,18 @@ pub fn read_words<'a>(alloc: Global, words: &'a [String]) -> Result<Command<'a>,
         return Err(WordsFault::Refused);
     }
     read_plain(alloc, words)
+}
+
+/// What the words after the program's name ask for, where the program applies edits (this project's own); lengths are in units.
+///
+/// `None` comes just where `specs/Words.antt` says that they aren't taken. It takes no memory.
+#[tactic(auto, using(crate::proofs::Taken::session_lemmas))]
+pub fn read_session_words<'a>(words: &'a [String]) -> Option<SessionWords<'a>>
+    ensures asked { option_map session_asked result ≡ session_of (map string_bytes words.now) }
+    ensures narrow { IfSome result (λ session. session.page.width < 2 ^ 60) }
+{
+    if !are_plain(words) {
+        return None;
+    }
+    plain_session(words)
 }

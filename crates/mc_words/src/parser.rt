@@ -50,17 +50,34 @@ fn with_command<'a>(
     program.subcommand(command)
 }
 
+/// The commands that lay out no page.
+fn with_plain_commands<'a>(alloc: Global, program: Program<'a>) -> Result<Program<'a>, AllocError>
+    ensures { IfOk result (λ command. app_of command ≡ stated.with_plain_commands (app_of program.entry)) }
+{
+    let program = with_command(alloc, program, "rows", 1)?;
+    let program = with_command(alloc, program, "rows-check", 2)?;
+    let program = with_command(alloc, program, "gen", 2)?;
+    with_command(alloc, program, "trial", 2)
+}
+
+/// The commands that lay a page out.
+fn with_page_commands<'a>(alloc: Global, program: Program<'a>) -> Result<Program<'a>, AllocError>
+    ensures { IfOk result (λ command. app_of command ≡ stated.with_page_commands (app_of program.entry)) }
+{
+    let program = with_command(alloc, program, "layout", 5)?;
+    let program = with_command(alloc, program, "check", 6)?;
+    let program = with_command(alloc, program, "all", 5)?;
+    let program = with_command(alloc, program, "hit", 7)?;
+    with_command(alloc, program, "draw", 6)
+}
+
 /// The program with its commands.
+#[tactic(auto, unfolding(crate::specs::Grammar::grammar))]
 fn grammar<'a>(alloc: Global) -> Result<Program<'a>, AllocError>
     ensures { IfOk result (λ command. app_of command ≡ stated.grammar) }
 {
-    let program = program(alloc);
-    let program = with_command(alloc, program, "rows", 1)?;
-    let program = with_command(alloc, program, "gen", 2)?;
-    let program = with_command(alloc, program, "trial", 2)?;
-    let program = with_command(alloc, program, "layout", 5)?;
-    let program = with_command(alloc, program, "hit", 7)?;
-    with_command(alloc, program, "draw", 6)
+    let program = with_plain_commands(alloc, program(alloc))?;
+    with_page_commands(alloc, program)
 }
 
 /// Why words weren't parsed.
@@ -74,6 +91,7 @@ fn fault_for(kind: ErrorKind) -> WordsFault
 }
 
 /// The matches of the words. They are refused only where clap finds a fault in them.
+#[tactic(auto, using(crate::proofs::Grammar::grammar_is))]
 fn parse<'a>(alloc: Global, words: &'a [String]) -> Result<ArgMatches<'a>, WordsFault>
     ensures ok { IfOk result (λ matches. (fault_of stated.grammar (map string_bytes words.now) ≡ [])
         × (subcommand_rows_of matches ≡ subcommand_of stated.grammar (map string_bytes words.now))) }
