@@ -58,9 +58,6 @@ yields_along : (command : Command) (a b : Contents) (text : List ℕ) → Agree 
 yields_along (rows flow) a b text same yields = subst (λ bytes. IsFlowResult bytes text) same.0 yields
 yields_along (gen start count) a b text same yields = yields
 yields_along (trial start count) a b text same yields = yields
-yields_along (all page) a b text same yields = yields
-yields_along (check page printed) a b text same yields = yields
-yields_along (rows_check flow printed) a b text same yields = yields
 yields_along (layout page) a b text same yields = view_along result_text page a b text same yields
 yields_along (all page) a b text same yields = yields
 yields_along (hit page x y) a b text same yields = view_along (hit_text x y) page a b text same yields
@@ -87,9 +84,6 @@ denies_along : (command : Command) (a b : Contents) (refusal : Refusal) → Agre
 denies_along (rows flow) a b refusal same denies = subst (λ bytes. RefusesBytes bytes refusal) same.0 denies
 denies_along (gen start count) a b refusal same denies = denies
 denies_along (trial start count) a b refusal same denies = denies
-denies_along (all page) a b refusal same denies = denies
-denies_along (check page printed) a b refusal same denies = denies
-denies_along (rows_check flow printed) a b refusal same denies = denies
 denies_along (layout page) a b refusal same denies = no_view_along result_text page a b refusal same denies
 denies_along (all page) a b refusal same denies = denies
 denies_along (hit page x y) a b refusal same denies = no_view_along (hit_text x y) page a b refusal same denies
