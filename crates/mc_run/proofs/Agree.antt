@@ -65,15 +65,7 @@ yields_along (draw page rule) a b text same yields = view_along (draw_text rule)
 yields_along (check page printed) a b text same yields = yields
 yields_along (rows_check flow printed) a b text same yields = yields
 
-no_-- what is said of the three texts of a page
-texts_along : (P : List ℕ → List ℕ → List ℕ → Type 0) (page : Page) (a b : Contents) → Agree a b (page_texts page)
-    → P (a Document) (a Sheet) (a Metrics) → P (b Document) (b Sheet) (b Metrics)
-texts_along P page a b same h =
-    subst (λ bytes. P bytes (b Sheet) (b Metrics)) same.0
-    (subst (λ bytes. P (a Document) bytes (b Metrics)) same.1.0
-    (subst (λ bytes. P (a Document) (a Sheet) bytes) same.1.1.0 h))
-
-view_along : (view : FlowsData → List ℕ) (page : Page) (a b : Contents) (refusal : Refusal) → Agree a b (page_texts page)
+no_view_along : (view : FlowsData → List ℕ) (page : Page) (a b : Contents) (refusal : Refusal) → Agree a b (page_texts page)
     → RefusesPageView view (a Document) (a Sheet) (a Metrics) page.width page.height refusal
     → RefusesPageView view (b Document) (b Sheet) (b Metrics) page.width page.height refusal
 no_view_along view page a b refusal same denies =

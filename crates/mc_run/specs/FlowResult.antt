@@ -1,5 +1,5 @@
 -- The result of the flows of a flow file or a document, or why there is none.
-use Rattle.std.specs.Prelude.{◌≡◌, ℕ, ◌<◌, ◌≤◌, ◌+◌, ◌⊎◌, List, length, Option, None}
+use Rattle.std.specs.Prelude.{◌≡◌, ℕ, ◌⊎◌, List, Option, None}
 use Rattle.doc_flows.specs.Documents.{DocumentSays, RefusesDocument}
 use Rattle.flow_text.specs.Grammar.{FlowFile}
 use Rattle.flow_list.specs.Data.{FlowsData}
