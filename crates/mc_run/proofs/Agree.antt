@@ -4,6 +4,7 @@ use Rattle.std.specs.Prelude.{IfSome}
 use Rattle.std.specs.List.{AllByRecursion}
 use Rattle.mc_base.specs.declared.refusal.Refusal.{Refusal}
 use Rattle.mc_base.specs.declared.refusal.Input.TheVariants.{Document, Sheet, Metrics}
+use Rattle.mc_run.specs.AllResult.{IsAllResult, RefusesAll}
 use Rattle.mc_run.specs.FlowResult.{IsFlowResult, RefusesBytes, IsPageView, RefusesPageView}
 use Rattle.mc_run.specs.Inputs.{NamedInput, page_texts, Contents, reads, AreHeld, AreTold, AreShort, IsTooLong, byte_limit}
 use Rattle.mc_run.specs.Outcome.{Yields, Denies, HasResult, IsRefused}
@@ -59,7 +60,8 @@ yields_along (rows flow) a b text same yields = subst (λ bytes. IsFlowResult by
 yields_along (gen start count) a b text same yields = yields
 yields_along (trial start count) a b text same yields = yields
 yields_along (layout page) a b text same yields = view_along result_text page a b text same yields
-yields_along (all page) a b text same yields = yields
+yields_along (all page) a b text same yields =
+    texts_along (λ d s m. IsAllResult d s m page.width page.height text) page a b same yields
 yields_along (hit page x y) a b text same yields = view_along (hit_text x y) page a b text same yields
 yields_along (draw page rule) a b text same yields = view_along (draw_text rule) page a b text same yields
 yields_along (check page printed) a b text same yields = yields
@@ -77,7 +79,8 @@ denies_along (rows flow) a b refusal same denies = subst (λ bytes. RefusesBytes
 denies_along (gen start count) a b refusal same denies = denies
 denies_along (trial start count) a b refusal same denies = denies
 denies_along (layout page) a b refusal same denies = no_view_along result_text page a b refusal same denies
-denies_along (all page) a b refusal same denies = denies
+denies_along (all page) a b refusal same denies =
+    texts_along (λ d s m. RefusesAll d s m page.width page.height refusal) page a b same denies
 denies_along (hit page x y) a b refusal same denies = no_view_along (hit_text x y) page a b refusal same denies
 denies_along (draw page rule) a b refusal same denies = no_view_along (draw_text rule) page a b refusal same denies
 denies_along (check page printed) a b refusal same denies = denies

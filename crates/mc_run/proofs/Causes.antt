@@ -14,7 +14,7 @@ use Rattle.mc_run.specs.Stops.{status_of, refusal_status}
 use Rattle.mc_words.specs.Words.{Command}
 use Rattle.mc_run.specs.Inputs.{NamedInput, inputs_of, HasFault, AreRead}
 use Rattle.mc_run.specs.Outcome.{Gives, Refuses, RefusesTold, Accepts, IsCause}
-use Rattle.doc_flows.specs.Laws.{OneAnswer}
+use Rattle.mc_run.proofs.OneAll.{Laws}
 use Rattle.mc_run.proofs.OneReason.{no_result, not_refused, reason_is}
 
 -- the statuses that there are
@@ -94,7 +94,7 @@ no_fault before now (i ∷ inputs) input (inl here) read = let rose = here.1 in 
 no_fault before now (i ∷ inputs) input (inr later) read = no_fault before now inputs input later read.1
 
 -- nothing but out of memory stops a command whose inputs are accepted, where no count rose
-pub complete : OneAnswer → (command : Option Command) (held : List ℕ → Option (List ℕ)) (before now : List ℕ → ℕ) (ob on : ℕ)
+pub complete : Laws → (command : Option Command) (held : List ℕ → Option (List ℕ)) (before now : List ℕ → ℕ) (ob on : ℕ)
     (stop : Stop) → IsCause command held before now ob on stop → Accepts command held → AreRead before now (inputs_of command)
     → (HasRisen ob on → ⊥) → status_of stop ≢ 7 → ⊥
 complete law command held before now ob on Usage cause accepts read calm memory = subst (λ c. Accepts c held) cause accepts
@@ -106,7 +106,7 @@ complete law command held before now ob on (Refused refusal) cause accepts read 
     (full command held refusal (λ none. memory (ap refusal_status none)) cause)
 
 -- a command that is refused and whose inputs were read stops for that reason
-pub stops_for : OneAnswer → (command : Option Command) (held : List ℕ → Option (List ℕ)) (before now : List ℕ → ℕ) (ob on : ℕ)
+pub stops_for : Laws → (command : Option Command) (held : List ℕ → Option (List ℕ)) (before now : List ℕ → ℕ) (ob on : ℕ)
     (stop : Stop) (b : Refusal)
     → IsCause command held before now ob on stop → (stop ≡ Write → (text : List ℕ) × Gives command held text)
     → RefusesTold command held b → AreRead before now (inputs_of command) → status_of stop ≢ 7 → stop ≡ Refused b

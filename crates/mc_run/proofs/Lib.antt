@@ -1,5 +1,6 @@
 pub mod Agree
 pub mod Causes
+pub mod OneAll
 pub mod OneDocument
 pub mod OneFlow
 pub mod OneReason

@@ -7,6 +7,7 @@ use Rattle.mc_base.specs.declared.refusal.LimitName.TheVariants.{Paragraphs}
 use Rattle.mc_base.specs.declared.refusal.Refusal.TheVariants.{Limit, NoMemory}
 use Rattle.mc_run.specs.declared.stop.Stop.{Stop}
 use Rattle.mc_run.specs.declared.stop.Stop.TheVariants.{Usage, Read, Write, Refused}
+use Rattle.mc_run.specs.AllResult.{IsAllResult, RefusesAll}
 use Rattle.mc_run.specs.Trial.{IsTrial, RefusesTrial}
 use Rattle.mc_run.specs.FlowResult.{IsFlowResult, RefusesBytes, IsPageView, RefusesPageView}
 use Rattle.mc_run.specs.Viewed.{view_text, page_command}
@@ -15,7 +16,7 @@ use Rattle.mc_run.specs.declared.pages.View.TheVariants.{Tree, Point, Drawing}
 use Rattle.mc_run.specs.Inputs.{AreHeld, AreShort, HasFault, IsTooLong, OnlyThese, byte_limit, page_texts, reads}
 use Rattle.mc_run.specs.Outcome.{Gives, IsCause, Denies, Yields}
 use Rattle.mc_run.specs.Reading.{IsReadCause, IsReadingCause, IsContent}
-use Rattle.mc_words.specs.Words.{Command, Page, rows, gen, trial}
+use Rattle.mc_words.specs.Words.{Command, Page, rows, gen, trial, all}
 use Rattle.mc_run.proofs.Reading.{long_bytes, texts}
 
 -- ---- a flow file
@@ -143,6 +144,27 @@ view_refused view page held before now d s m refusal are why =
     go (inl none) = inl none
     go (inr is) = inr (view_denies view page d s m refusal is)
 
+-- ---- a document whose pieces are lowered
+
+pub all_unread : (page : Page) (held : List ℕ → Option (List ℕ)) (before now : List ℕ → ℕ) (stop : Stop)
+    → IsReadingCause (page_texts page) held before now stop → IsCause (Some (all page)) held before now 0 0 stop
+all_unread page held before now stop cause = page_unread (all page) page refl held before now stop cause
+
+pub all_alone : (page : Page) (before now : List ℕ → ℕ) → OnlyThese before now (page_texts page)
+    → OnlyThese before now (reads (all page))
+all_alone page before now others = others
+
+pub all_gives : (page : Page) (held : List ℕ → Option (List ℕ)) (d s m text : List ℕ)
+    → AreContents page.document page.sheet page.metrics held d s m → IsAllResult d s m page.width page.height text
+    → Gives (Some (all page)) held text
+all_gives page held d s m text are is = page_text (all page) page refl held d s m text are is
+
+pub all_refused : (page : Page) (held : List ℕ → Option (List ℕ)) (before now : List ℕ → ℕ) (d s m : List ℕ)
+    (refusal : Refusal) → AreContents page.document page.sheet page.metrics held d s m
+    → (refusal ≡ NoMemory) ⊎ RefusesAll d s m page.width page.height refusal
+    → IsCause (Some (all page)) held before now 0 0 (Refused refusal)
+all_refused page held before now d s m refusal are why = page_refused (all page) page refl held before now d s m refusal are why
+
 -- ---- a generated document
 
 pub gen_result : (start count : ℕ) (held : List ℕ → Option (List ℕ)) (text : List ℕ) → Yields (gen start count) (λ _. []) text
@@ -177,4 +199,4 @@ pub trial_refused : (start count : ℕ) (held : List ℕ → Option (List ℕ)) 
 trial_refused start count held before now refusal (inl none) = inl none
 trial_refused start count held before now refusal (inr refused) = inr (λ _. [], tt, inr (tt, refused))
 
-pub ruleset flow_lemmas = (flow_unread, flow_alone, view_unread, view_alone)
+pub ruleset flow_lemmas = (flow_unread, flow_alone, view_unread, view_alone, all_unread, all_alone)

@@ -1,3 +1,4 @@
+pub mod AllResult
 pub mod Commands
 pub mod FlowResult
 pub mod Inputs

@@ -10,6 +10,7 @@ use Rattle.mc_base.specs.declared.refusal.Refusal.{Refusal}
 use Rattle.mc_base.specs.declared.refusal.Refusal.TheVariants.{Limit, NoMemory}
 use Rattle.mc_run.specs.declared.stop.Stop.{Stop}
 use Rattle.mc_run.specs.declared.stop.Stop.TheVariants.{Usage, Read, Write, Refused}
+use Rattle.mc_run.specs.AllResult.{IsAllResult, RefusesAll}
 use Rattle.mc_run.specs.Trial.{IsTrial, RefusesTrial}
 use Rattle.mc_run.specs.FlowResult.{IsFlowResult, RefusesBytes, IsPageView, RefusesPageView}
 use Rattle.result_writer.specs.Printed.{result_text}
@@ -26,7 +27,8 @@ Yields (gen start count) contents text = (count ≤ 5000) × (text ≡ document 
 Yields (trial start count) contents text = IsTrial start count text
 Yields (layout page) contents text =
     IsPageView result_text (contents Document) (contents Sheet) (contents Metrics) page.width page.height text
-Yields (all page) contents text = ⊥
+Yields (all page) contents text =
+    IsAllResult (contents Document) (contents Sheet) (contents Metrics) page.width page.height text
 Yields (hit page x y) contents text =
     IsPageView (hit_text x y) (contents Document) (contents Sheet) (contents Metrics) page.width page.height text
 Yields (draw page rule) contents text =
@@ -41,7 +43,8 @@ Denies (gen start count) contents refusal = (5000 < count) × (refusal ≡ Limit
 Denies (trial start count) contents refusal = RefusesTrial start count refusal
 Denies (layout page) contents refusal =
     RefusesPageView result_text (contents Document) (contents Sheet) (contents Metrics) page.width page.height refusal
-Denies (all page) contents refusal = ⊥
+Denies (all page) contents refusal =
+    RefusesAll (contents Document) (contents Sheet) (contents Metrics) page.width page.height refusal
 Denies (hit page x y) contents refusal =
     RefusesPageView (hit_text x y) (contents Document) (contents Sheet) (contents Metrics) page.width page.height refusal
 Denies (draw page rule) contents refusal =

@@ -95,7 +95,8 @@ line_feed = 10 ∷ []
 unfoldable pub usage_text : List ℕ
 usage_text =
     codes "usage: mcol layout DOC SHEET METRICS WIDTH HEIGHT, check DOC SHEET METRICS WIDTH HEIGHT RESULT, rows FLOW, "
-    ++ codes "rows-check FLOW RESULT, gen START COUNT or trial START COUNT"
+    ++ codes "rows-check FLOW RESULT, gen START COUNT, trial START COUNT, all DOC SHEET METRICS WIDTH HEIGHT, "
+    ++ codes "hit DOC SHEET METRICS WIDTH HEIGHT X Y or draw DOC SHEET METRICS WIDTH HEIGHT RULE"
 
 abbrev pub refusal_line : Refusal → List ℕ
 refusal_line (Grammar input offset rule) =

@@ -5,10 +5,11 @@ ghost use Rattle.mc_run.specs.Inputs.{reads, inputs_of, OnlyThese};
 ghost use Rattle.mc_base.specs.declared.refusal.Refusal.TheVariants.{NoMemory};
 ghost use Rattle.mc_run.specs.Commands.{built, command_of};
 ghost use Rattle.mc_words.specs.Asked.{asked, page_asked, IsNarrow};
-ghost use Rattle.mc_words.specs.Words.{rows, gen, trial};
+ghost use Rattle.mc_words.specs.Words.{rows, gen, trial, all};
 ghost use Rattle.mc_run.specs.Viewed.{page_command};
 ghost use Rattle.mc_run.specs.Outcome.{Gives, IsCause, GetsResult, GetsPart};
 
+use crate::all::all_result;
 use crate::inputs::{read_input, read_texts};
 use crate::pages::{View, page_result};
 use crate::rows::rows_result;
@@ -59,6 +60,24 @@ fn answer_trial(alloc: Global, start: u64, count: u32) -> Result<Text, Stop>
     }
 }
 
+/// The layout of a document with each cut piece of a row as low as it can be, where the row asks for it. Its inputs are all read
+/// before any is judged.
+#[tactic(auto, using(crate::proofs::Stopping::flow_lemmas))]
+fn answer_all<F: Files>(alloc: Global, page: Page<'_>, files: &mut F) -> Result<Text, Stop>
+    requires { page.width < 2 ^ 60 }
+    ensures content { (other : List ℕ) → F.held files.new other ≡ F.held files.old other }
+    ensures others { OnlyThese (F.faults files.old) (F.faults files.new) (reads (all (page_asked page.entry))) }
+    ensures ok { IfOk result (Gives (Some (all (page_asked page.entry))) (F.held files.old)) }
+    ensures err { IfErr result (IsCause (Some (all (page_asked page.entry))) (F.held files.old)
+        (F.faults files.old) (F.faults files.new) 0 0) }
+{
+    let texts = read_texts(alloc, files, page)?;
+    match all_result(alloc, &texts, page.width, page.height) {
+        Ok(text) => Ok(text),
+        Err(refusal) => Err(Stop::Refused { refusal }),
+    }
+}
+
 /// What is shown of a document that is laid out. Its inputs are all read before any is judged.
 #[tactic(auto, using(crate::proofs::Stopping::flow_lemmas))]
 fn answer_page<F: Files>(
@@ -95,7 +114,7 @@ fn result_of<F: Files>(alloc: Global, command: Command<'_>, files: &mut F) -> Re
         Command::Gen { start, count } => answer_gen(alloc, start, count),
         Command::Trial { start, count } => answer_trial(alloc, start, count),
         Command::Layout { page } => answer_page(alloc, page, View::Tree, files),
-        Command::All { .. } => Err(Stop::Usage),
+        Command::All { page } => answer_all(alloc, page, files),
         Command::Hit { page, x, y } => answer_page(alloc, page, View::Point { x, y }, files),
         Command::Draw { page, rule } => answer_page(alloc, page, View::Drawing { rule }, files),
         Command::Check { .. } => Err(Stop::Usage),

@@ -23,6 +23,7 @@ ghost use Rattle.mc_run.specs.Commands.{command_of};
 ghost use Rattle.mc_run.specs.Inputs.{inputs_of, HasFault, AreRead, OnlyThese};
 ghost use Rattle.mc_run.specs.Outcome.{Refuses, RefusesTold, Accepts, IsCause, GetsResult, GetsPart};
 
+mod all;
 mod answer;
 mod inputs;
 mod pages;
@@ -31,13 +32,13 @@ mod rows;
 mod stop;
 mod trial;
 
-use doc_flows::documents_have_one_answer;
+use doc_flows::{documents_have_one_answer, rows_have_one_flagging};
 pub use inputs::{Texts, read_input, read_texts};
 use mc_base::{Files, Sink};
 use std::alloc::Global;
 pub use stop::{Stop, status, tell};
 
-/// Runs the command that the words after the program's name ask for, `layout`, `rows`, `gen`, `trial`, `hit` or `draw`, and
+/// Runs the command that the words after the program's name ask for, `layout`, `rows`, `gen`, `trial`, `all`, `hit` or `draw`, and
 /// answers the exit status.
 ///
 /// `files` are read by name; the result is put to `out` in one call after it is whole, and the line of a refusal to
@@ -103,6 +104,7 @@ pub fn run<F: Files, K: Sink, E: Sink>(
         (HasRisen (K.faults out.old) (K.faults out.new) → ⊥) → result ≢ 7 → result ≡ 0 }
 {
     documents_have_one_answer();
+    rows_have_one_flagging();
     let Err(stop) = answer::answer(alloc, words, files, out) else {
         return 0;
     };

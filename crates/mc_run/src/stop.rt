@@ -129,7 +129,8 @@ fn usage_text() -> &'static [u8]
     ensures { result.now ≡ stops.usage_text }
 {
     b"usage: mcol layout DOC SHEET METRICS WIDTH HEIGHT, check DOC SHEET METRICS WIDTH HEIGHT RESULT, \
-rows FLOW, rows-check FLOW RESULT, gen START COUNT or trial START COUNT"
+rows FLOW, rows-check FLOW RESULT, gen START COUNT, trial START COUNT, all DOC SHEET METRICS WIDTH HEIGHT, \
+hit DOC SHEET METRICS WIDTH HEIGHT X Y or draw DOC SHEET METRICS WIDTH HEIGHT RULE"
 }
 
 /// Puts the pieces of a line in turn, up to the first that fails.

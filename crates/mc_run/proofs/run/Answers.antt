@@ -26,20 +26,20 @@ returns-clause-statuses g c = subst (λ n. n ≤ 7) (sym c.status.ensures) (stat
 
 pub returns-clause-complete : goal.returns-clause-complete
 returns-clause-complete g c = λ accepts read calm memory.
-    absurd (complete c.documents_have_one_answer.ensures _ _ _ _ _ _ _ c.in-Err.ensures.err accepts read calm
+    absurd (complete (c.documents_have_one_answer.ensures, c.rows_have_one_flagging.ensures) _ _ _ _ _ _ _ c.in-Err.ensures.err accepts read calm
     (subst (λ n. n ≢ 7) c.status.ensures memory))
 
 pub returns-in_default-clause-refused : goal.returns-in_default-clause-refused
 returns-in_default-clause-refused g c = λ refusal told read memory.
     let got = c.in_default.ensures.ok in
-    absurd (no_result c.documents_have_one_answer.ensures (command_of (map string_bytes c.args.words.now))
+    absurd (no_result (c.documents_have_one_answer.ensures, c.rows_have_one_flagging.ensures) (command_of (map string_bytes c.args.words.now))
     (g.F.Files.held c.args.files.now) got.0 refusal got.1 told)
 
 pub returns-clause-refused : goal.returns-clause-refused
 returns-clause-refused g c = λ refusal told read memory.
     let part = c.in-Err.ensures.part in
     let is : c.in-Err.stop ≡ Refused refusal =
-    stops_for c.documents_have_one_answer.ensures (command_of (map string_bytes c.args.words.now))
+    stops_for (c.documents_have_one_answer.ensures, c.rows_have_one_flagging.ensures) (command_of (map string_bytes c.args.words.now))
     (g.F.Files.held c.args.files.now)
     (g.F.Files.faults c.args.files.now) (g.F.Files.faults c.answer.new.files)
     (g.K.Sink.faults c.args.out.now) (g.K.Sink.faults c.answer.new.out) c.in-Err.stop refusal c.in-Err.ensures.err
