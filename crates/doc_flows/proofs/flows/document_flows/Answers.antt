@@ -1,5 +1,5 @@
 use Rattle.doc_flows.specs.Parts.{read_as}
-use Rattle.doc_flows.proofs.Read.{attributes_are_read}
+use Rattle.doc_flows.proofs.ReadTexts.{attributes_are_read}
 use Rattle.doc_flows.proofs.Laid.{document_refused}
 use Rattle.doc_flows.proofs.flows.document_flows.Goals as goal
 

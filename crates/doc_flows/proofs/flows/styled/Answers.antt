@@ -1,4 +1,4 @@
-use Rattle.doc_flows.proofs.Read.{only_memory}
+use Rattle.doc_flows.proofs.ReadTexts.{only_memory}
 use Rattle.doc_flows.proofs.flows.styled.Goals as goal
 
 pub returns-clause-memory : goal.returns-clause-memory

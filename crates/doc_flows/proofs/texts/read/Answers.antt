@@ -1,8 +1,8 @@
 use Rattle.std.proofs.Common.{refl}
 use Rattle.html_grammar.specs.Whole.{dom_of}
 use Rattle.doc_flows.specs.Reading.{with_dom, read_of}
-use Rattle.doc_flows.proofs.Read.{step, refused_step}
-use Rattle.doc_flows.proofs.reading.read.Goals as goal
+use Rattle.doc_flows.proofs.ReadTexts.{step, refused_step}
+use Rattle.doc_flows.proofs.texts.read.Goals as goal
 
 pub returns-in-Ok-clause-read : goal.returns-in-Ok-clause-read
 unfolding read_of

@@ -21,7 +21,7 @@ use Rattle.doc_sheets.specs.declared.part.Part.{Part}
 use Rattle.doc_sheets.specs.Own.{checked, kind_part, node_part, joined, own_from, own_of}
 use Rattle.font_table.specs.declared.fonts.Face.{Face}
 use Rattle.font_table.specs.Reading.{Fails, refusal, all_of}
-use Rattle.doc_flows.specs.declared.reading.Reading.{Reading}
+use Rattle.doc_flows.specs.declared.texts.Reading.{Reading}
 use Rattle.doc_flows.specs.Reading.{Read, construct_in, unless, with_faces, with_sheet, with_own, with_dom, read_of}
 use Rattle.doc_flows.specs.Parts.{IsReading}
 
