@@ -105,11 +105,12 @@ module _ (dom : Dom) (sheets : List Sheet) (faces : List Face) (width : ℕ) (he
       flows_one faces x.styles width height x.tree c d x.flows
       (carried (λ styles tree. HasFlows faces styles width height tree d) x.styles y.styles x.tree y.tree same y.flows)
 
-  pub tree_reason_one : (c d : Refusal) → RefusesTree dom sheets faces width height c → RefusesTree dom sheets faces width height d
-      → c ≡ d
+  pub tree_reason_one : (c d : Refusal) → RefusesTree dom sheets faces width height c
+      → RefusesTree dom sheets faces width height d → c ≡ d
   tree_reason_one c d (construct styles tree is found has e) (construct others other also again too f) =
       let same = styled_one dom sheets styles others tree other is also in
-      let there = carried (λ styles tree. first_construct (styles_in styles) tree ≡ Some again) styles others tree other same too in
+      let there = carried (λ styles tree. first_construct (styles_in styles) tree ≡ Some again) styles others tree other same too
+      in
       let one = some_one (first_construct (styles_in styles) tree) found again has there in
       e ∙ (ap (λ found. Construct Document found.offset found.name) one ∙ sym f)
   tree_reason_one c d (construct styles tree is found has e) (limit others other also laid passes) =
@@ -140,8 +141,8 @@ module _ (dom : Dom) (sheets : List Sheet) (faces : List Face) (width : ℕ) (he
   tree_reason_known (construct styles tree is found has e) = absurd cc
   tree_reason_known (limit styles tree is laid passes) = only_limits faces styles width height tree NoMemory passes
 
-  tree_no_grammar : (input : Input) (offset : ℕ) (rule : Rule) → RefusesTree dom sheets faces width height (Grammar input offset rule)
-      → ⊥
+  tree_no_grammar : (input : Input) (offset : ℕ) (rule : Rule)
+      → RefusesTree dom sheets faces width height (Grammar input offset rule) → ⊥
   tree_no_grammar input offset rule (construct styles tree is found has e) = absurd cc
   tree_no_grammar input offset rule (limit styles tree is laid passes) =
       only_limits faces styles width height tree (Grammar input offset rule) passes

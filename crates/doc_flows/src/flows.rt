@@ -18,9 +18,9 @@ use std::alloc::Global;
 /// Each text has at most 2^28 bytes, and the width is below 2^60. The author's sheet comes before those of the document's style
 /// elements in the cascade (CSS Cascade 4, section 6). The first of these steps that refuses decides: the document, its style
 /// attributes and style elements, the sheet and the metrics, by `Refusal::Grammar` or `Refusal::Limit`; then
-/// `Refusal::Construct` for what isn't laid out in the document, in its style elements, in the sheet, and at an element that makes
-/// a box; then `Refusal::Limit` for a computed or used length above the limit, and for the heights, columns and counts of the
-/// flows. Out of memory may be answered for every document.
+/// `Refusal::Construct` for what isn't laid out in the document, in its style elements, in the sheet, and at an element that
+/// makes a box; then `Refusal::Limit` for a computed or used length above the limit, and for the heights, columns and counts of
+/// the flows. Out of memory may be answered for every document.
 pub fn document_flows(
     alloc: Global,
     document: &[u8],
