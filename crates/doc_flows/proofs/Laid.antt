@@ -20,7 +20,10 @@ use Rattle.box_style.specs.Styles.{styles_in}
 use Rattle.flow_build.specs.Build.{AreBoxesOf, HasFlows, PassesLimit}
 use Rattle.css_data.specs.declared.rule.Sheet.{Sheet}
 use Rattle.doc_flows.specs.declared.trees.BoxedFlows.{BoxedFlows}
+use Rattle.doc_flows.specs.declared.flagged.FlaggedFlows.{FlaggedFlows}
 use Rattle.doc_flows.specs.Reading.{Read, read_of}
+use Rattle.doc_flows.specs.Flags.{HasFlags, HasTreeFlags}
+use Rattle.row_flags.specs.Asking.{AreFlags, asking_rows, box_asks}
 use Rattle.doc_flows.specs.Trees as trees
 use Rattle.doc_flows.specs.Trees.{IsStyledTree, TreeSays, RefusesTree}
 use Rattle.doc_flows.specs.Documents.{sheets_of, DocumentSays, RefusesDocument, laying}
@@ -77,6 +80,28 @@ module _ (dom : Dom) (sheets : List Sheet) (faces : List Face) (width : ℕ) (he
   tree_refused styles tree e is (construct found there same) = inr (trees.construct styles tree is found there same)
   tree_refused styles tree e is (limit laid passes) = inr (trees.limit styles tree is laid passes)
 
+  pub flagged_says : (styles : List (Option NodeStyle)) (tree : Forest) (all : BoxedFlows) (r : Result FlaggedFlows Refusal)
+      → IsStyledTree dom sheets styles tree → AreLaid faces styles width height tree all
+      → IfOk r (λ flagged. flagged.flows ≡ all.flows)
+      → IfOk r (λ flagged. TreeSays dom sheets faces width height flagged.flows)
+  flagged_says styles tree all (Ok flagged) is h same =
+      subst (TreeSays dom sheets faces width height) (sym same) (tree_says styles tree all is h)
+  flagged_says styles tree all (Err e) is h same = tt
+
+  pub flagged_flags : (styles : List (Option NodeStyle)) (tree : Forest) (all : BoxedFlows) (r : Result FlaggedFlows Refusal)
+      → IsStyledTree dom sheets styles tree → AreLaid faces styles width height tree all
+      → IfOk r (λ flagged. flagged.flows ≡ all.flows)
+      → IfOk r (λ flagged. AreFlags all.flows (asking_rows (box_asks styles all.boxes.nodes) all.flows) flagged.flags)
+      → IfOk r (λ flagged. HasTreeFlags dom sheets flagged.flows flagged.flags)
+  flagged_flags styles tree all (Ok flagged) is h same flags =
+      let at_boxes : AreFlags all.flows (asking_rows (box_asks styles (tree_of (styles_in styles) tree).nodes) all.flows)
+          flagged.flags =
+      subst (λ (boxes : BoxTree). AreFlags all.flows (asking_rows (box_asks styles boxes.nodes) all.flows) flagged.flags) h.boxes
+      flags in
+      subst (λ d. HasTreeFlags dom sheets d flagged.flags) (sym same)
+      (record { styles = styles; tree = tree; is = is; asked = at_boxes })
+  flagged_flags styles tree all (Err e) is h same flags = tt
+
 -- ---- and what the tree of a document says, the document does
 
 module _ (document sheet metrics : List ℕ) (width : ℕ) (height : Option ℕ) (r : Read)
@@ -93,3 +118,9 @@ module _ (document sheet metrics : List ℕ) (width : ℕ) (height : Option ℕ)
   document_refused (Ok x) h = tt
   document_refused (Err e) (inl same) = inl same
   document_refused (Err e) (inr refused) = inr (laying r read refused)
+
+pub document_flags : (document sheet metrics : List ℕ) (r : Read) → read_of document sheet metrics ≡ Ok r
+    → (answer : Result FlaggedFlows Refusal) → IfOk answer (λ all. HasTreeFlags r.dom (sheets_of r) all.flows all.flags)
+    → IfOk answer (λ all. HasFlags document sheet metrics all.flows all.flags)
+document_flags document sheet metrics r read (Ok all) h = record { r = r; read = read; tree = h }
+document_flags document sheet metrics r read (Err e) h = tt

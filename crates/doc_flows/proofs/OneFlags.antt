@@ -35,8 +35,8 @@ one_of_tree dom sheets d a b x y =
     let asking : List (Option NodeStyle) → Forest → List ℕ =
     λ styles tree. asking_rows (box_asks styles (tree_of (styles_in styles) tree).nodes) d in
     let same = styled_one dom sheets x.styles y.styles x.tree y.tree x.is y.is in
-    one_of_rows d (asking x.styles x.tree) a b x.flags
-    (carried (λ styles tree. AreFlags d (asking styles tree) b) x.styles y.styles x.tree y.tree same y.flags)
+    one_of_rows d (asking x.styles x.tree) a b x.asked
+    (carried (λ styles tree. AreFlags d (asking styles tree) b) x.styles y.styles x.tree y.tree same y.asked)
 
 one_of_document : (document sheet metrics : List ℕ) (d : FlowsData) (a b : List Bool) → HasFlags document sheet metrics d a
     → HasFlags document sheet metrics d b → a ≡ b

@@ -17,7 +17,7 @@ pub record HasTreeFlags (dom : Dom) (sheets : List Sheet) (d : FlowsData) (flags
   pub styles : List (Option NodeStyle)
   pub tree : Forest
   pub is : IsStyledTree dom sheets styles tree
-  pub flags : AreFlags d (asking_rows (box_asks styles (tree_of (styles_in styles) tree).nodes) d) flags
+  pub asked : AreFlags d (asking_rows (box_asks styles (tree_of (styles_in styles) tree).nodes) d) flags
 
 -- These are the flags of the rows of flows that a document with this sheet and these metrics has.
 pub record HasFlags (document sheet metrics : List ℕ) (d : FlowsData) (flags : List Bool) : Type 0 where

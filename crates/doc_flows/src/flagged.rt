@@ -18,7 +18,7 @@ use flow_build::PlainLiner;
 use flow_list::Flows;
 use font_table::Fonts;
 use html_grammar::Dom;
-use mc_base::{List, NoMemory, Refusal, Units};
+use mc_base::{List, Refusal, Units};
 use row_flags::flags;
 use std::alloc::Global;
 
@@ -30,10 +30,11 @@ pub struct FlaggedFlows {
 }
 
 /// Flows with the flags of their rows, by the boxes that they were made of and the styles of these.
-fn with_flags(alloc: Global, all: BoxedFlows, styles: &Styles) -> Result<FlaggedFlows, NoMemory>
+fn with_flags(alloc: Global, all: BoxedFlows, styles: &Styles) -> Result<FlaggedFlows, Refusal>
     ensures same { IfOk result (λ flagged. flagged.flows ≡ all.flows) }
     ensures flags { IfOk result (λ flagged. AreFlags all.flows (asking_rows (box_asks styles.now all.boxes.nodes) all.flows)
         flagged.flags) }
+    ensures memory { IfErr result (λ e. e ≡ refusals.NoMemory) }
 {
     let BoxedFlows { boxes, flows } = all;
     let flags = flags(alloc, &flows, &boxes, styles)?;
@@ -58,7 +59,7 @@ fn flagged_tree(
 {
     let styles = styled(alloc, dom, sheets)?;
     match laid_out(alloc, dom, &styles, fonts, width, height, &mut PlainLiner) {
-        Ok(all) => Ok(with_flags(alloc, all, &styles)?),
+        Ok(all) => with_flags(alloc, all, &styles),
         Err(refusal) => Err(refusal),
     }
 }

@@ -8,8 +8,8 @@ returns-in-Ok-clause-flows g c =
     c.in-Ok.all
     (record { styled = c.in_ok-styles.ensures.styles; nodes = formed.nodes }) (c.in-Ok.ensures.flows formed.tree formed.nodes)
 
-pub returns-in-Err-clause-refused : goal.returns-in-Err-clause-refused
-returns-in-Err-clause-refused g c =
+pub returns-clause-refused : goal.returns-clause-refused
+returns-clause-refused g c =
     let formed = c.requires.formed in
     tree_refused c.args.dom.now c.args.sheets.now c.args.fonts.now c.args.width c.args.height c.in_ok-styles.styles formed.tree
     c.in-Err.refusal (record { styled = c.in_ok-styles.ensures.styles; nodes = formed.nodes })
