@@ -1,5 +1,5 @@
 -- The boxes of a well-formed document are what the builder of flows asks for, and what it answers is of the document.
-use Rattle.std.proofs.Common.{◌≡◌, ◌⊎◌, inl, inr, ℕ, ◌+◌, ◌≤◌, ◌^◌, List, length, sum_by, refl, sym, ap, subst, ◌∙◌, Option, Some, None, Result, Ok, Err, IfOk, IfErr}
+use Rattle.std.proofs.Common.{◌≡◌, ◌⊎◌, inl, inr, ℕ, ◌+◌, ◌≤◌, ◌^◌, List, length, sum_by, sym, ap, subst, ◌∙◌, Option, Some, None, Result, Ok, Err, IfOk, IfErr}
 use Rattle.std.specs.List.{AllByRecursion}
 use Rattle.mc_base.specs.declared.refusal.Found.{Found}
 use Rattle.mc_base.specs.declared.refusal.Refusal.{Refusal}
@@ -95,7 +95,7 @@ module _ (dom : Dom) (sheets : List Sheet) (faces : List Face) (width : ℕ) (he
       → IfOk r (λ flagged. HasTreeFlags dom sheets flagged.flows flagged.flags)
   flagged_flags styles tree all (Ok flagged) is h same flags =
       let at_boxes : AreFlags all.flows (asking_rows (box_asks styles (tree_of (styles_in styles) tree).nodes) all.flows)
-          flagged.flags =
+      flagged.flags =
       subst (λ (boxes : BoxTree). AreFlags all.flows (asking_rows (box_asks styles boxes.nodes) all.flows) flagged.flags) h.boxes
       flags in
       subst (λ d. HasTreeFlags dom sheets d flagged.flags) (sym same)

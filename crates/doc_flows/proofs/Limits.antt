@@ -1,5 +1,5 @@
 -- What passes a limit is refused by that limit, and for nothing else.
-use Rattle.std.proofs.Common.{◌≡◌, ℕ, Bool, true, false, List, sym, subst, Option, Some, None, nat_lt, flat_map}
+use Rattle.std.proofs.Common.{◌≡◌, ℕ, Bool, true, false, List, subst, Option, Some, None, nat_lt, flat_map}
 use Rattle.std.specs.List.{list_any}
 use Rattle.mc_base.specs.declared.refusal.LimitName.{LimitName}
 use Rattle.mc_base.specs.declared.refusal.LimitName.TheVariants as limits

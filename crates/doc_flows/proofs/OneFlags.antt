@@ -1,5 +1,5 @@
 -- The rows of a document's flows have one list of flags.
-use Rattle.std.proofs.Common.{◌≡◌, ℕ, zero, suc, ◌<◌, ◌∷◌, [], Bool, false, List, length, get_or, refl, sym, subst, ◌∙◌, Option, Result, Ok, arith}
+use Rattle.std.proofs.Common.{◌≡◌, ℕ, suc, ◌<◌, ◌∷◌, [], Bool, false, List, length, get_or, refl, sym, subst, ◌∙◌, Option, arith}
 use Rattle.html_grammar.specs.declared.dom.Dom.{Dom}
 use Rattle.html_grammar.specs.Tree.{Forest}
 use Rattle.css_data.specs.declared.rule.Sheet.{Sheet}

@@ -1,6 +1,5 @@
 -- A document's tree has one answer: its styles, its tree and its lines are one, and all else follows from these.
-use Rattle.std.proofs.Common.{◌≡◌, ℕ, List, [], refl, sym, ap, subst, ◌∙◌, Option, Some, None, Result, Ok, Err}
-use Rattle.mc_base.specs.declared.refusal.Found.{Found}
+use Rattle.std.proofs.Common.{◌≡◌, ℕ, List, [], sym, ap, subst, ◌∙◌, Option, Some, None}
 use Rattle.mc_base.specs.declared.refusal.Refusal.{Refusal}
 use Rattle.mc_base.specs.declared.refusal.Refusal.TheVariants.{Construct, Grammar, NoMemory}
 use Rattle.mc_base.specs.declared.refusal.Input.{Input}
@@ -16,7 +15,7 @@ use Rattle.css_cascade.proofs.OneStyling.{one_styling}
 use Rattle.line_breaker.specs.declared.line.Line.{Line}
 use Rattle.font_table.specs.declared.fonts.Face.{Face}
 use Rattle.flow_data.specs.declared.data.FlowsData.{FlowsData}
-use Rattle.box_data.specs.BoxTree.{in_order, shown_from, first_construct, or_else}
+use Rattle.box_data.specs.BoxTree.{in_order, shown_from, first_construct}
 use Rattle.box_data.specs.Content.{content_of}
 use Rattle.box_data.specs.Limits.{long, all_used_lengths}
 use Rattle.box_style.specs.Styles.{styles_in}

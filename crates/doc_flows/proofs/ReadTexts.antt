@@ -3,10 +3,7 @@ use Rattle.std.proofs.Common.{IfOk, IfErr, ◌≡◌, ◌⊎◌, inl, inr, ℕ, 
 use Rattle.mc_base.specs.declared.refusal.Refusal.{Refusal}
 use Rattle.mc_base.specs.declared.refusal.Refusal.TheVariants as refusals
 use Rattle.mc_base.specs.declared.refusal.Rule.{Rule}
-use Rattle.mc_base.specs.declared.refusal.Input.{Input}
-use Rattle.mc_base.specs.declared.refusal.Input.TheVariants as inputs
 use Rattle.mc_base.specs.declared.read_error.Fault.{Fault}
-use Rattle.mc_base.specs.Reading.{fault}
 use Rattle.html_grammar.specs.declared.dom.Dom.{Dom}
 use Rattle.html_grammar.specs.declared.dom.DomNode.{DomNode}
 use Rattle.css_data.specs.declared.rule.Sheet.{Sheet}

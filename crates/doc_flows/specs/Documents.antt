@@ -1,5 +1,5 @@
 -- The flows of a document with a style sheet and a table of metrics, for a width and an available height, or why it has none.
-use Rattle.std.specs.Prelude.{◌≡◌, ℕ, List, ◌∷◌, Option, Result, Ok, Err}
+use Rattle.std.specs.Prelude.{◌≡◌, ℕ, List, ◌∷◌, Option, Ok, Err}
 use Rattle.mc_base.specs.declared.refusal.Refusal.{Refusal}
 use Rattle.css_data.specs.declared.rule.Sheet.{Sheet}
 use Rattle.flow_data.specs.declared.data.FlowsData.{FlowsData}

@@ -1,5 +1,5 @@
 -- Which rows of a document ask for each of their pieces to be as low as it can be (`column-fill: balance-all`).
-use Rattle.std.specs.Prelude.{◌≡◌, ℕ, Bool, List, Option, Result, Ok}
+use Rattle.std.specs.Prelude.{◌≡◌, ℕ, Bool, List, Option, Ok}
 use Rattle.html_grammar.specs.declared.dom.Dom.{Dom}
 use Rattle.html_grammar.specs.Tree.{Forest}
 use Rattle.css_data.specs.declared.rule.Sheet.{Sheet}
