@@ -1,15 +1,14 @@
 -- A run has few pieces: at most eight for each byte of the texts and of the names of elements.
-use Rattle.std.proofs.Common.{◌≡◌, ℕ, zero, suc, ◌+◌, ◌-◌, ◌*◌, ◌≤◌, ◌<◌, ◌^◌, Bool, true, false, List, [], ◌∷◌, ◌++◌, map, length, refl, sym, ap, subst, ◌∙◌, Option, Some, None, arith}
+use Rattle.std.proofs.Common.{ℕ, zero, suc, ◌+◌, ◌-◌, ◌*◌, ◌≤◌, ◌<◌, ◌^◌, Bool, true, false, List, [], ◌∷◌, ◌++◌, map, length, Option, Some, None, arith}
 use Rattle.std.specs.Prelude.{◌==◌, ◌&&◌, not, if◌then◌else◌, codes, replicate, sum_by, IfSome}
 use Rattle.std.specs.List.{AllByRecursion}
 use Rattle.std.specs.Str.{chars, chars_after, continuation_len, lead_bits}
 use Rattle.std.proofs.lemmas.List.{length-append, length-map}
 use Rattle.std.proofs.lemmas.List.Sums.{sum_by-cons, sum_by-append}
 use Rattle.html_grammar.specs.declared.dom.Attribute.{Attribute}
-use Rattle.html_grammar.specs.declared.dom.DomNode.{DomNode}
 use Rattle.html_grammar.specs.Names.{same}
 use Rattle.html_grammar.specs.Tree.{Forest, Nil, Element, Words, nodes_from, element_node, words_node}
-use Rattle.html_subset.specs.WellFormed.{attribute_bytes, node_bytes}
+use Rattle.html_subset.specs.WellFormed.{node_bytes}
 use Rattle.inline_text.specs.declared.content.Piece.{Piece}
 use Rattle.inline_text.specs.declared.content.Piece.TheVariants as pieces
 use Rattle.inline_text.specs.declared.content.RunStyle.{RunStyle}

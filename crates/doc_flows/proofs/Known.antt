@@ -1,11 +1,9 @@
 -- Want of memory is no reason why a document is refused.
-use Rattle.std.proofs.Common.{◌≡◌, ℕ, zero, suc, Bool, true, false, List, [], ◌∷◌, length, refl, sym, ap, subst, ◌∙◌, Option, Some, None, Result, Ok, Err, find, nat_lt, flat_map}
+use Rattle.std.proofs.Common.{◌≡◌, ℕ, suc, Bool, true, false, List, [], ◌∷◌, refl, ap, Option, Some, None, Result, Ok, Err, find, nat_lt}
 use Rattle.std.specs.Prelude.{if◌then◌else◌}
-use Rattle.std.specs.List.{list_any}
 use Rattle.mc_base.specs.declared.refusal.Found.{Found}
 use Rattle.mc_base.specs.declared.refusal.Input.{Input}
 use Rattle.mc_base.specs.declared.refusal.Input.TheVariants as inputs
-use Rattle.mc_base.specs.declared.refusal.LimitName.{LimitName}
 use Rattle.mc_base.specs.declared.refusal.LimitName.TheVariants as limits
 use Rattle.mc_base.specs.declared.refusal.Refusal.{Refusal}
 use Rattle.mc_base.specs.declared.refusal.Refusal.TheVariants.{Grammar, Construct, Limit, NoMemory}
@@ -34,12 +32,7 @@ use Rattle.doc_sheets.specs.Parts.{refusal_at, part_by, text_part, words_part, w
 use Rattle.doc_sheets.specs.Own.{no_part, is_style as is_style_name, element_part, kind_part, checked, node_part, joined, own_from, own_of}
 use Rattle.font_table.specs.declared.fonts.Face.{Face}
 use Rattle.font_table.specs.Reading.{all_of}
-use Rattle.flow_data.specs.declared.data.FlowsData.{FlowsData}
-use Rattle.flow_data.specs.Soundness.{item_total}
 use Rattle.box_data.specs.BoxTree.{or_else}
-use Rattle.box_data.specs.Content.{Content}
-use Rattle.box_data.specs.declared.placed.Placed.{Placed}
-use Rattle.box_data.specs.Limits.{first_above, greatest_length, item_heights, column_counts, nesting, inner_counts, passed, long, wide, when, late_limit}
 use Rattle.doc_flows.specs.Reading.{Read, found_in, construct_in, unless, with_faces, with_sheet, with_own, with_dom, read_of}
 
 -- the answer isn't want of memory
@@ -49,41 +42,15 @@ IsKnown answer = answer ≡ Err NoMemory → ⊥
 abbrev pub IsReason : Option Refusal → Type 0
 IsReason refused = refused ≡ Some NoMemory → ⊥
 
--- ---- limits and constructs
+-- ---- constructs
 
-pub or_reason : (a b : Option Refusal) → IsReason a → IsReason b → IsReason (or_else a b)
+or_reason : (a b : Option Refusal) → IsReason a → IsReason b → IsReason (or_else a b)
 or_reason None b x y e = y e
 or_reason (Some a) b x y e = x e
 
 found_reason : (input : Input) (found : Option Found) → IsReason (found_in input found)
 found_reason input None e = absurd cc
 found_reason input (Some found) e = absurd cc
-
-passed_reason : (name : LimitName) (limit : ℕ) (n : Option ℕ) → IsReason (passed n (λ n. Limit name n limit))
-passed_reason name limit None e = absurd cc
-passed_reason name limit (Some n) e = absurd cc
-
-when_reason : (name : LimitName) (reached limit : ℕ) (passes : Bool) → IsReason (when passes (Limit name reached limit))
-when_reason name reached limit true e = absurd cc
-when_reason name reached limit false e = absurd cc
-
-pub long_reason : (lengths : List ℕ) → IsReason (long lengths)
-long_reason lengths = passed_reason limits.Length greatest_length (first_above greatest_length lengths)
-
-pub late_reason : (places : List Placed) (content : Content) (d : FlowsData) → IsReason (late_limit places content d)
-late_reason places content d =
-    let nest = when (nat_lt 3 (nesting 0 content)) (Limit limits.Nest 4 3) in
-    let items = when (nat_lt 100000 (item_total d)) (Limit limits.Items 100001 100000) in
-    let inner = when (list_any (λ n. nat_lt 2000 n) (inner_counts false content)) (Limit limits.InnerItems 2001 2000) in
-    or_reason (long (item_heights d)) (or_else (wide places) (or_else nest (or_else items inner)))
-    (long_reason (item_heights d))
-    (or_reason (wide places) (or_else nest (or_else items inner))
-    (passed_reason limits.Columns 32 (first_above 32 (flat_map column_counts places)))
-    (or_reason nest (or_else items inner)
-    (when_reason limits.Nest 4 3 (nat_lt 3 (nesting 0 content)))
-    (or_reason items inner
-    (when_reason limits.Items 100001 100000 (nat_lt 100000 (item_total d)))
-    (when_reason limits.InnerItems 2001 2000 (list_any (λ n. nat_lt 2000 n) (inner_counts false content))))))
 
 -- ---- documents
 

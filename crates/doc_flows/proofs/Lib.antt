@@ -1,6 +1,9 @@
 mod Few
-mod Read
+mod ReadTexts
 mod Laid
 mod OneLines
 mod Known
+mod Limits
+mod OneTree
 mod OneAnswer
+mod OneFlags

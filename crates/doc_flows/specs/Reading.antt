@@ -1,6 +1,6 @@
--- What a document, a style sheet and a table of metrics are read as. The first of the steps that refuses decides: the document, its
--- style attributes and style elements, the sheet, the metrics; then what isn't laid out in the document, in its style elements and
--- in the sheet. The order is this project's own.
+-- What a document, a style sheet and a table of metrics are read as. The first of the steps that refuses decides: the document,
+-- its style attributes and style elements, the sheet, the metrics; then what isn't laid out in the document, in its style
+-- elements and in the sheet. The order is this project's own.
 use Rattle.std.specs.Prelude.{ℕ, List, Option, Some, None, Result, Ok, Err}
 use Rattle.std.specs.Option.{option_map}
 use Rattle.mc_base.specs.declared.refusal.Found.{Found}

@@ -1,7 +1,8 @@
 //! What a document, a style sheet and a table of metrics say.
 
-ghost use Rattle.std.specs.Prelude.{◌≡◌, ◌≤◌, ◌^◌, length, IfOk};
+ghost use Rattle.std.specs.Prelude.{◌≡◌, ◌≤◌, ◌^◌, length, None, IfOk};
 ghost use Rattle.html_subset.specs.WellFormed.{IsWellFormed};
+ghost use Rattle.css_cascade.specs.Attributes.{AllAreRead};
 ghost use Rattle.css_syntax.specs.Sheets as sheets;
 ghost use Rattle.doc_sheets.specs.Own as owning;
 ghost use Rattle.font_table.specs.Reading as tables;
@@ -148,6 +149,10 @@ pub fn read(
     requires metrics { length metrics.now ≤ 2 ^ 28 }
     ensures read { IsReading result (spec.read_of document.now sheet.now metrics.now) }
     ensures formed { IfOk result (λ r. IsWellFormed r.dom) }
+    // Its style attributes are on their grammar.
+    ensures attributes { IfOk result (λ r. AllAreRead r.dom.nodes) }
+    // Nothing in it isn't laid out, as far as its texts tell.
+    ensures constructs { IfOk result (λ r. spec.construct_in (read_as r) ≡ None) }
 {
     match parse(alloc, document) {
         Ok(dom) => with_own(alloc, document, sheet, metrics, dom),

@@ -1,12 +1,9 @@
 -- What the steps of reading answer.
-use Rattle.std.proofs.Common.{IfErr, ◌≡◌, ◌⊎◌, inl, inr, ℕ, zero, suc, List, [], ◌∷◌, refl, sym, ap, subst, ◌∙◌, Option, Some, None, Result, Ok, Err, IsOk, slice_get}
+use Rattle.std.proofs.Common.{IfOk, IfErr, ◌≡◌, ◌⊎◌, inl, inr, ℕ, zero, suc, List, [], ◌∷◌, refl, sym, ap, subst, ◌∙◌, Option, Some, None, Result, Ok, Err, IsOk, slice_get}
 use Rattle.mc_base.specs.declared.refusal.Refusal.{Refusal}
 use Rattle.mc_base.specs.declared.refusal.Refusal.TheVariants as refusals
 use Rattle.mc_base.specs.declared.refusal.Rule.{Rule}
-use Rattle.mc_base.specs.declared.refusal.Input.{Input}
-use Rattle.mc_base.specs.declared.refusal.Input.TheVariants as inputs
 use Rattle.mc_base.specs.declared.read_error.Fault.{Fault}
-use Rattle.mc_base.specs.Reading.{fault}
 use Rattle.html_grammar.specs.declared.dom.Dom.{Dom}
 use Rattle.html_grammar.specs.declared.dom.DomNode.{DomNode}
 use Rattle.css_data.specs.declared.rule.Sheet.{Sheet}
@@ -21,9 +18,9 @@ use Rattle.doc_sheets.specs.declared.part.Part.{Part}
 use Rattle.doc_sheets.specs.Own.{checked, kind_part, node_part, joined, own_from, own_of}
 use Rattle.font_table.specs.declared.fonts.Face.{Face}
 use Rattle.font_table.specs.Reading.{Fails, refusal, all_of}
-use Rattle.doc_flows.specs.declared.reading.Reading.{Reading}
+use Rattle.doc_flows.specs.declared.texts.Reading.{Reading}
 use Rattle.doc_flows.specs.Reading.{Read, construct_in, unless, with_faces, with_sheet, with_own, with_dom, read_of}
-use Rattle.doc_flows.specs.Parts.{IsReading}
+use Rattle.doc_flows.specs.Parts.{IsReading, read_as}
 
 -- ---- answers
 
@@ -143,6 +140,50 @@ dom_ok document sheet metrics (Ok dom) r h =
     subst (λ (dom : Dom). AllAreRead dom.nodes) both.0 (all_are_read document dom.nodes r.own both.1)
 dom_ok document sheet metrics (Err e) r h = absurd cc
 
-pub attributes_are_read : (document sheet metrics : List ℕ) (r : Read) → read_of document sheet metrics ≡ Ok r → AllAreRead r.dom.nodes
+attributes_are_read : (document sheet metrics : List ℕ) (r : Read) → read_of document sheet metrics ≡ Ok r → AllAreRead r.dom.nodes
 unfolding read_of
 attributes_are_read document sheet metrics r h = dom_ok document sheet metrics (dom_of document) r h
+
+-- ---- and what it has no construct of
+
+unless_none : (refused : Option Refusal) (a r : Read) → unless refused a ≡ Ok r → refused ≡ None
+unless_none None a r h = refl
+unless_none (Some e) a r h = absurd cc
+
+faces_none : (dom : Dom) (own : OwnSheets) (author : Sheet) (faces : Result (List Face) Fault) (r : Read)
+    → with_faces dom own author faces ≡ Ok r → construct_in r ≡ None
+faces_none dom own author (Ok faces) r h =
+    let a : Read = record { dom = dom; own = own; author = author; faces = faces } in
+    subst (λ r. construct_in r ≡ None) (unless_ok (construct_in a) a r h) (unless_none (construct_in a) a r h)
+faces_none dom own author (Err f) r h = absurd cc
+
+sheet_none : (metrics : List ℕ) (dom : Dom) (own : OwnSheets) (author : Result Sheet Refusal) (r : Read)
+    → with_sheet metrics dom own author ≡ Ok r → construct_in r ≡ None
+sheet_none metrics dom own (Ok author) r h = faces_none dom own author (all_of metrics) r h
+sheet_none metrics dom own (Err e) r h = absurd cc
+
+own_none : (sheet metrics : List ℕ) (dom : Dom) (own : Result OwnSheets Refusal) (r : Read)
+    → with_own sheet metrics dom own ≡ Ok r → construct_in r ≡ None
+own_none sheet metrics dom (Ok own) r h = sheet_none metrics dom own (sheet_of sheet) r h
+own_none sheet metrics dom (Err e) r h = absurd cc
+
+dom_none : (document sheet metrics : List ℕ) (dom : Result Dom Refusal) (r : Read) → with_dom document sheet metrics dom ≡ Ok r
+    → construct_in r ≡ None
+dom_none document sheet metrics (Ok dom) r h = own_none sheet metrics dom (own_of document dom.nodes) r h
+dom_none document sheet metrics (Err e) r h = absurd cc
+
+constructs_are_none : (document sheet metrics : List ℕ) (r : Read) → read_of document sheet metrics ≡ Ok r → construct_in r ≡ None
+unfolding read_of
+constructs_are_none document sheet metrics r h = dom_none document sheet metrics (dom_of document) r h
+
+-- ---- what an answer has
+
+pub answer_attributes : (document sheet metrics : List ℕ) (answer : Result Reading Refusal)
+    → IsReading answer (read_of document sheet metrics) → IfOk answer (λ r. AllAreRead r.dom.nodes)
+answer_attributes document sheet metrics (Ok r) h = attributes_are_read document sheet metrics (read_as r) h
+answer_attributes document sheet metrics (Err e) h = tt
+
+pub answer_constructs : (document sheet metrics : List ℕ) (answer : Result Reading Refusal)
+    → IsReading answer (read_of document sheet metrics) → IfOk answer (λ r. construct_in (read_as r) ≡ None)
+answer_constructs document sheet metrics (Ok r) h = constructs_are_none document sheet metrics (read_as r) h
+answer_constructs document sheet metrics (Err e) h = tt
