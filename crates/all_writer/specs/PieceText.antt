@@ -8,7 +8,7 @@ use Rattle.flow_list.specs.TreeText.{token_text, tree_text}
 use Rattle.piece_data.specs.LoweredText.{unfit_line}
 use Rattle.piece_finder.specs.Telling.{told_range}
 use Rattle.piece_finder.specs.declared.reasons.PieceRange.{PieceRange}
-use Rattle.row_all.specs.declared.out.PieceLine.{PieceLine}
+use Rattle.row_all.specs.declared.answer.PieceLine.{PieceLine}
 
 abbrev pub range_text : PieceRange → List ℕ
 range_text range = unfit_line (told_range range) ++ 10 ∷ []

@@ -3,7 +3,8 @@
 ghost use Rattle.std.specs.Prelude.{◌≡◌, ◌<◌, ◌≤◌, ◌++◌, ◌×◌, None, length, IfOk, IfSome};
 ghost use Rattle.piece_data.specs.Lowering.{Flags};
 ghost use Rattle.tree_lines.specs.Lines.{lines_of};
-ghost use Rattle.all_writer.specs.AllText.{IsAnswer, all_text};
+ghost use Rattle.all_writer.specs.AllText.{all_text};
+ghost use Rattle.row_all.specs.Answered.{IsLowered};
 ghost use Rattle.all_writer.specs.PieceText.{answer_text};
 
 use crate::pieces::write_pieces;
@@ -64,11 +65,11 @@ pub fn write_all(
     pool: &Pool,
     most: u64,
 ) -> Result<Option<Text>, NoMemory>
-    requires { (flags : Flags) × IsAnswer flows.now flags all.now pool.now }
-    ensures text { (flags : Flags) → IsAnswer flows.now flags all.now pool.now →
+    requires { (flags : Flags) × IsLowered flows.now flags pool.now all.now }
+    ensures text { (flags : Flags) → IsLowered flows.now flags pool.now all.now →
         IfOk result (λ found. IfSome found (λ text. text ≡ all_text flows.now flags)) }
     ensures short { IfOk result (λ found. IfSome found (λ text. length text ≤ most)) }
-    ensures long { (flags : Flags) → IsAnswer flows.now flags all.now pool.now →
+    ensures long { (flags : Flags) → IsLowered flows.now flags pool.now all.now →
         IfOk result (λ found. found ≡ None → most < length (all_text flows.now flags)) }
 {
     let lines = lines_of_layout(alloc, flows, &all.laid, pool)?;
