@@ -65,7 +65,7 @@ module _ (d : FlowsData) (sound : IsSound d) (r : ℕ) (lt : r < length d.rows) 
   -- ---- what a column of a row may reach
 
   rises : (k m f : ℕ) → total_within d (height_in d) m f ≤ total_within d (height_in d) (k + m) f
-  rises zero m f = omega arith
+  rises zero m f = let e : 0 + m ≡ m = omega arith in rw e (omega arith)
   rises (suc k) m f =
       let a = rises k m f in
       let b = total-rises d (height_in d) (k + m) f in
@@ -113,7 +113,7 @@ module _ (d : FlowsData) (sound : IsSound d) (r : ℕ) (lt : r < length d.rows) 
       → end_of t (columns (all_rows d) d (flow_in d r) n t h) ≡ end_of t (columns (all_rows d) d (flow_in d r) n t k)
   unfolding columns_by
   same-end h k high high' zero t = refl
-  same-end h k high high' (suc n) t = go (is_end (flow_in d r) t) refl
+  same-end h k high high' (suc n) t = go (is_end (flow_in d r) t) refl (same-end h k high high' n)
     where
       c : Column
       c = column (all_rows d) d (flow_in d r) t h
@@ -121,18 +121,21 @@ module _ (d : FlowsData) (sound : IsSound d) (r : ℕ) (lt : r < length d.rows) 
       x : Column
       x = column (all_rows d) d (flow_in d r) t k
 
-      more : c.end ≡ x.end → end_of c.end (columns (all_rows d) d (flow_in d r) n c.end h)
+      more : ((q : Token) → end_of q (columns (all_rows d) d (flow_in d r) n q h)
+          ≡ end_of q (columns (all_rows d) d (flow_in d r) n q k))
+          → c.end ≡ x.end → end_of c.end (columns (all_rows d) d (flow_in d r) n c.end h)
           ≡ end_of x.end (columns (all_rows d) d (flow_in d r) n x.end k)
-      more e =
-          same-end h k high high' n c.end ∙ ap (λ q. end_of q (columns (all_rows d) d (flow_in d r) n q k)) e
+      more same e = same c.end ∙ ap (λ q. end_of q (columns (all_rows d) d (flow_in d r) n q k)) e
 
       go : (b : Bool) → is_end (flow_in d r) t ≡ b →
+          ((q : Token) → end_of q (columns (all_rows d) d (flow_in d r) n q h)
+          ≡ end_of q (columns (all_rows d) d (flow_in d r) n q k)) →
           end_of t (elim b [ true ↦ [] | false ↦ c ∷ columns (all_rows d) d (flow_in d r) n c.end h ])
           ≡ end_of t (elim b [ true ↦ [] | false ↦ x ∷ columns (all_rows d) d (flow_in d r) n x.end k ])
-      go true e = refl
-      go false e =
+      go true e same = refl
+      go false e same =
           let before : item_number t < length (flow_in d r).items = grind (arith, nat_tests) in
-          more (same-column h k high high' t before)
+          more same (same-column h k high high' t before)
 
   -- so all of them do in place of each other
   fine-above : (q : Token) (h : ℕ) → IsHigh h → (cut_piece d r q h).overflow ≡ false
@@ -159,9 +162,6 @@ module _ (d : FlowsData) (sound : IsSound d) (r : ℕ) (lt : r < length d.rows) 
   unfolding IsHigh
   least-small q a = go (cases_lt a (2 ^ 60))
     where
-      no_higher : least_height d r q a ≤ a
-      no_higher = (piece-holds d r q a).no_higher
-
       least : 2 ^ 60 ≤ a → (2 ^ 60 - 1 < least_height d r q a) ⊎ (least_height d r q a ≤ 2 ^ 60 - 1)
           → least_height d r q a < 2 ^ 60
       least high (inr le) = omega arith
@@ -171,5 +171,5 @@ module _ (d : FlowsData) (sound : IsSound d) (r : ℕ) (lt : r < length d.rows) 
           absurd cc
 
       go : (a < 2 ^ 60) ⊎ (2 ^ 60 ≤ a) → least_height d r q a < 2 ^ 60
-      go (inl low) = omega arith
+      go (inl low) = let le = (piece-holds d r q a).no_higher in omega arith
       go (inr high) = least high (cases_lt (2 ^ 60 - 1) (least_height d r q a))

@@ -52,7 +52,7 @@ module _ (d : FlowsData) (sound : IsSound d) where
   -- ---- atoms
 
   -- what is promised of the lines of stacks
-  pub StacksSmall : (ℕ → ℕ → ℕ → ℕ → List TreeLine) → Type 0
+  unfoldable pub StacksSmall : (ℕ → ℕ → ℕ → ℕ → List TreeLine) → Type 0
   StacksSmall stacks = (s depth x y : ℕ) → s < length d.stacks → Stands d sound (stack_of d s).flow 1 x y
       → stack_height d s < 2 ^ 60 → Each EndsBelow (stacks s depth x y)
 
@@ -180,9 +180,9 @@ module _ (d : FlowsData) (sound : IsSound d) where
     -- ---- trees
 
     mutual
+      unfolding lines_of_tree lines_of_trees lines_of_columns lines_of_column IsSettled AreSettled AreColumns IsColumn
       pub tree-small : (f spare depth : ℕ) (frame : Frame) (tree : PlainTree) → IsFrame f spare frame → IsSettled d f tree
           → Each EndsBelow (lines_of_tree d stacks (flow_of d f) depth frame tree)
-      unfolding lines_of_tree lines_of_trees lines_of_columns lines_of_column IsSettled AreSettled AreColumns IsColumn
       tree-small f spare depth frame (atom_tree k y) ok at = atom-small f spare depth k y frame ok at.1 at.3
       tree-small f spare depth frame (piece b starts y bottom kids) ok at =
           let x = x-small d sound f spare frame.x frame.y ok.stands in
@@ -207,7 +207,6 @@ module _ (d : FlowsData) (sound : IsSound d) where
 
       trees-small : (f spare depth : ℕ) (frame : Frame) (trees : PlainTrees) → IsFrame f spare frame → AreSettled d f trees
           → Each EndsBelow (lines_of_trees d stacks (flow_of d f) depth frame trees)
-      unfolding lines_of_tree lines_of_trees lines_of_columns lines_of_column IsSettled AreSettled AreColumns IsColumn
       trees-small f spare depth frame no_trees ok at = tt
       trees-small f spare depth frame (more_trees tree trees) ok at =
           Each-append EndsBelow (lines_of_tree d stacks (flow_of d f) depth frame tree)
@@ -217,7 +216,6 @@ module _ (d : FlowsData) (sound : IsSound d) where
       columns-small : (f spare depth r y height i : ℕ) (frame : Frame) (trees : PlainTrees) → IsFrame f spare frame
           → r < length d.rows → RowIsWithin d f r y → height < 2 ^ 60 → i + count_of trees ≤ 2 ^ 17 → AreColumns d r trees
           → Each EndsBelow (lines_of_columns d stacks (row_of d r) depth frame y height i trees)
-      unfolding lines_of_tree lines_of_trees lines_of_columns lines_of_column IsSettled AreSettled AreColumns IsColumn
       columns-small f spare depth r y height i frame no_trees ok known within low few at = tt
       columns-small f spare depth r y height i frame (more_trees tree trees) ok known within low few at =
           Each-append EndsBelow (lines_of_column d stacks (row_of d r) depth frame y height i tree)
@@ -228,7 +226,6 @@ module _ (d : FlowsData) (sound : IsSound d) where
       column-small : (f spare depth r y height i : ℕ) (frame : Frame) (tree : PlainTree) → IsFrame f spare frame
           → r < length d.rows → RowIsWithin d f r y → height < 2 ^ 60 → i < 2 ^ 17 → IsColumn d r tree
           → Each EndsBelow (lines_of_column d stacks (row_of d r) depth frame y height i tree)
-      unfolding lines_of_tree lines_of_trees lines_of_columns lines_of_column IsSettled AreSettled AreColumns IsColumn
       column-small f spare depth r y height i frame (atom_tree k z) ok known within low lt at = absurd at
       column-small f spare depth r y height i frame (piece b starts z bottom kids) ok known within low lt at = absurd at
       column-small f spare depth r y height i frame (row_piece s from z own cols) ok known within low lt at = absurd at

@@ -168,19 +168,19 @@ module _ (d : FlowsData) (sound : IsSound d) where
   made-few : (dep r : ℕ) (h : Option ℕ) (n : ℕ) (t : Token) → count_of (plain_trees (made_columns dep r h n t)) ≤ n
   unfolding columns_by
   made-few dep r h zero t = omega arith
-  made-few dep r h (suc n) t = go (is_end (flow_in d r) t)
+  made-few dep r h (suc n) t = go (is_end (flow_in d r) t) (made-few dep r h n (column_made (rows_to d dep) d (flow_in d r) h t).end)
     where
       made : Column
       made = column_made (rows_to d dep) d (flow_in d r) h t
 
-      go : (b : Bool) → count_of (plain_trees
+      go : (b : Bool) → count_of (plain_trees (made_columns dep r h n made.end)) ≤ n → count_of (plain_trees
           (fragments_from (fragment_of (row_fragments d dep) (rows_to d dep) d (row_of d r).flow (flow_in d r) h) t
           (elim b [
             | true ↦ []
             | false ↦ made ∷ columns_by (column_made (rows_to d dep) d (flow_in d r) h) (flow_in d r) n made.end
           ]))) ≤ suc n
-      go true = omega arith
-      go false = let more = made-few dep r h n made.end in omega arith
+      go true more = omega arith
+      go false more = omega arith
 
   columns-made : (dep r : ℕ) → dep ≤ length d.rows → r < length d.rows → RowsGood (row_fragments d dep)
       → (h : Option ℕ) (n : ℕ) (t : Token) → AreColumns d r (plain_trees (made_columns dep r h n t))

@@ -85,25 +85,22 @@ module _ (d : FlowsData) where
   -- ---- so they name parts that there are
 
   mutual
-    pub settled-inside : (f : ℕ) (tree : PlainTree) → IsSettled f tree → IsInside d f tree
     unfolding IsSettled AreSettled AreColumns IsColumn IsInside AreInside
+    pub settled-inside : (f : ℕ) (tree : PlainTree) → IsSettled f tree → IsInside d f tree
     settled-inside f (atom_tree k y) ok = (ok.0, ok.1, ok.2)
     settled-inside f (piece b starts y bottom kids) ok = (ok.0, all-inside f kids ok.3)
     settled-inside f (row_piece r from y height cols) ok = (ok.0, columns-inside f r cols ok.4)
     settled-inside f (column_tree number from end extent kids) ok = all-inside number kids ok.2
 
     pub all-inside : (f : ℕ) (trees : PlainTrees) → AreSettled f trees → AreInside d f trees
-    unfolding IsSettled AreSettled AreColumns IsColumn IsInside AreInside
     all-inside f no_trees ok = tt
     all-inside f (more_trees tree trees) ok = (settled-inside f tree ok.0, all-inside f trees ok.1)
 
     columns-inside : (f r : ℕ) (trees : PlainTrees) → AreColumns r trees → AreInside d f trees
-    unfolding IsSettled AreSettled AreColumns IsColumn IsInside AreInside
     columns-inside f r no_trees ok = tt
     columns-inside f r (more_trees tree trees) ok = (column-inside f r tree ok.0, columns-inside f r trees ok.1)
 
     column-inside : (f r : ℕ) (tree : PlainTree) → IsColumn r tree → IsInside d f tree
-    unfolding IsSettled AreSettled AreColumns IsColumn IsInside AreInside
     column-inside f r (atom_tree k y) ok = absurd ok
     column-inside f r (piece b starts y bottom kids) ok = absurd ok
     column-inside f r (row_piece s from y height cols) ok = absurd ok
@@ -123,9 +120,9 @@ module _ (d : FlowsData) where
 
     module _ (good : (r : ℕ) (q : Token) (h : ℕ) → r < length d.rows → AreGood r (inside r q h)) where
       mutual
+        unfolding IsSettled AreSettled AreColumns IsColumn lowered_in all_lowered_in
         pub lowered-settled : (f room : ℕ) (tree : PlainTree) → IsSettled f tree
             → IsSettled f (lowered_in d flags inside room tree)
-        unfolding IsSettled AreSettled AreColumns IsColumn lowered_in all_lowered_in
         lowered-settled f room (atom_tree k y) ok = ok
         lowered-settled f room (piece b starts y bottom kids) ok =
             (ok.0, ok.1, ok.2, all-lowered f (room - (box_of d b).bottom) kids ok.3)
@@ -152,18 +149,15 @@ module _ (d : FlowsData) where
 
         pub all-lowered : (f room : ℕ) (trees : PlainTrees) → AreSettled f trees
             → AreSettled f (all_lowered_in d flags inside room trees)
-        unfolding IsSettled AreSettled AreColumns IsColumn lowered_in all_lowered_in
         all-lowered f room no_trees ok = tt
         all-lowered f room (more_trees tree trees) ok = (lowered-settled f room tree ok.0, all-lowered f room trees ok.1)
 
         pub columns-lowered : (r room : ℕ) (trees : PlainTrees) → AreColumns r trees
             → AreColumns r (all_lowered_in d flags inside room trees)
-        unfolding IsSettled AreSettled AreColumns IsColumn lowered_in all_lowered_in
         columns-lowered r room no_trees ok = tt
         columns-lowered r room (more_trees tree trees) ok = (column-lowered r room tree ok.0, columns-lowered r room trees ok.1)
 
         column-lowered : (r room : ℕ) (tree : PlainTree) → IsColumn r tree → IsColumn r (lowered_in d flags inside room tree)
-        unfolding IsSettled AreSettled AreColumns IsColumn lowered_in all_lowered_in
         column-lowered r room (atom_tree k y) ok = absurd ok
         column-lowered r room (piece b starts y bottom kids) ok = absurd ok
         column-lowered r room (row_piece s from y height cols) ok = absurd ok
