@@ -1,7 +1,7 @@
 -- The least height of a piece of a row is below 2^60: at heights that no column reaches only forced breaks remain, so all of
 -- them do alike.
-use Rattle.std.proofs.Common.{◌≡◌, ℕ, zero, suc, ◌+◌, ◌-◌, ◌<◌, ◌≤◌, ◌^◌, max, Bool, true, false, cond, not, ◌&&◌, ◌||◌, List, []}
-use Rattle.std.proofs.Common.{◌∷◌, length, refl, sym, subst, ap, ◌∙◌, arith, ◌⊎◌, inl, inr}
+use Rattle.std.proofs.Common.{◌≡◌, ℕ, zero, suc, ◌+◌, ◌-◌, ◌<◌, ◌≤◌, ◌^◌, max, Bool, true, false, ◌||◌, List, []}
+use Rattle.std.proofs.Common.{◌∷◌, length, refl, sym, ap, ◌∙◌, arith, ◌⊎◌, inl, inr}
 use Rattle.std.specs.Prelude.{fold, nat_le}
 use Rattle.std.specs.List.{list_any, AllByRecursion as Each}
 use Rattle.std.proofs.lemmas.Bool.{cases_lt}
@@ -13,12 +13,12 @@ use Rattle.flow_list.specs.Tokens.{Token, item_number, is_end}
 use Rattle.flow_list.specs.Certificate.{same_token}
 use Rattle.flow_list.specs.Column.{Column, is_forced, column}
 use Rattle.flow_list.specs.Rows.{reach, columns, columns_by, end_of, fill_in, rows_to, all_rows}
-use Rattle.flow_laws.specs.LeastHeight.{IsLeast, IsNextForced, EndsAtForced}
+use Rattle.flow_laws.specs.LeastHeight.{IsNextForced, EndsAtForced}
 use Rattle.flow_laws.proofs.Exists.{sizes-least}
 use Rattle.flow_laws.proofs.RowHeightBounds.{columns-each}
 use Rattle.flow_laws.proofs.Small.{all-total}
 use Rattle.flow_laws.proofs.SoundRows.{nests-by-number}
-use Rattle.flow_laws.proofs.Totals.{total_within, row_total, height_in, total-rises, total-same, total-le}
+use Rattle.flow_laws.proofs.Totals.{total_within, height_in, total-rises, total-same, total-le}
 use Rattle.piece_data.specs.LeastPiece.{will_do, cut_piece, least_height}
 use Rattle.piece_data.proofs.Pieces.{piece-holds}
 use Rattle.piece_data.proofs.Reasons.{token-itself}

@@ -1,5 +1,5 @@
 -- The lines of settled trees end below 2^63: by where flows stand one in another.
-use Rattle.std.proofs.Common.{◌≡◌, ℕ, zero, suc, ◌+◌, ◌-◌, ◌*◌, ◌<◌, ◌≤◌, ◌^◌, ◌==◌, Bool, true, false, cond, List, [], ◌∷◌}
+use Rattle.std.proofs.Common.{◌≡◌, ℕ, suc, ◌+◌, ◌-◌, ◌*◌, ◌<◌, ◌≤◌, ◌^◌, ◌==◌, Bool, true, false, cond, List, [], ◌∷◌}
 use Rattle.std.proofs.Common.{length, Option, Some, None, refl, sym, subst, ap, arith}
 use Rattle.std.specs.List.{AllByRecursion as Each}
 use Rattle.std.proofs.Math.Nat.{mul-le-mul}
@@ -181,6 +181,7 @@ module _ (d : FlowsData) (sound : IsSound d) where
 
     mutual
       unfolding lines_of_tree lines_of_trees lines_of_columns lines_of_column IsSettled AreSettled AreColumns IsColumn
+
       pub tree-small : (f spare depth : ℕ) (frame : Frame) (tree : PlainTree) → IsFrame f spare frame → IsSettled d f tree
           → Each EndsBelow (lines_of_tree d stacks (flow_of d f) depth frame tree)
       tree-small f spare depth frame (atom_tree k y) ok at = atom-small f spare depth k y frame ok at.1 at.3

@@ -5,19 +5,16 @@ use Rattle.std.specs.List.{AllByRecursion as Each}
 use Rattle.std.proofs.lemmas.Bool.Decides.{nat_tests}
 use Rattle.mc_base.specs.PlainTree.{PlainTree, plain_trees}
 use Rattle.flow_list.specs.Data.{FlowsData, Item, Plain, Line, Void, Image, Bounded, Atom, Row}
-use Rattle.flow_data.specs.Flows.{seam_of, row_of, stack_of, flow_of, flow_in, item_of, no_flow, no_item, no_row}
+use Rattle.flow_data.specs.Flows.{row_of, stack_of, flow_of, flow_in, item_of, no_flow, no_item, no_row}
 use Rattle.flow_data.specs.Soundness.{IsSound, IsSoundItem}
 use Rattle.flow_list.specs.Tokens.{Token, item_number, is_end}
-use Rattle.flow_list.specs.ClonedEdges.{tops}
-use Rattle.flow_list.specs.Strip.{strip_at}
 use Rattle.flow_list.specs.Column.{Column}
 use Rattle.flow_list.specs.Rows.{columns_by, left_in, rows_to, all_rows}
 use Rattle.flow_list.specs.RowHeights.{row_height}
-use Rattle.flow_list.specs.Stacks.{stack_extent}
-use Rattle.flow_list.specs.Placing.{RowLaid, laid_edges, places_from, Placed, opens_at, closes_at, atom_at, row_at}
-use Rattle.flow_list.specs.Fragments.{closes_here, inside_box, behind_box, bottom_of, place_of, trees_of, all_trees, column_made}
+use Rattle.flow_list.specs.Placing.{RowLaid, Placed, opens_at, closes_at, atom_at, row_at}
+use Rattle.flow_list.specs.Fragments.{closes_here, inside_box, behind_box, bottom_of, place_of, trees_of, column_made}
 use Rattle.flow_list.specs.Fragments.{fragment_of, fragments_from, columns_wanted, row_fragments, stack_fragment, places_in}
-use Rattle.flow_list.specs.Fragments.{laid_start, laid_to, stop_of, continued_from, stack_laid, column_fragment}
+use Rattle.flow_list.specs.Fragments.{laid_start, laid_to, stop_of, column_fragment}
 use Rattle.flow_list.proofs.PlaceBounds.{IsNoLower}
 use Rattle.flow_laws.proofs.Descent.{row-known}
 use Rattle.flow_laws.proofs.HeldSums.{height_held, items_held, height-rises, size-held, reach-held, left-held}
@@ -30,7 +27,7 @@ use Rattle.tree_lines.specs.Shown.{ItemIsInside}
 use Rattle.tree_laws.proofs.Named.{IsNamedAt, column-named, stack-named}
 use Rattle.piece_data.specs.Lowering.{columns_at}
 use Rattle.lowered_laws.proofs.LeastSmall.{reach-small}
-use Rattle.lowered_laws.proofs.Settled.{count_of, total, IsWithin, BottomIsWithin, RowIsWithin, HeightIsSmall, AreFew, AreGood}
+use Rattle.lowered_laws.proofs.Settled.{count_of, total, IsWithin, BottomIsWithin, RowIsWithin, HeightIsSmall, AreGood}
 use Rattle.lowered_laws.proofs.Settled.{IsSettled, AreSettled, AreColumns, IsColumn}
 
 module _ (d : FlowsData) (sound : IsSound d) where
@@ -168,7 +165,8 @@ module _ (d : FlowsData) (sound : IsSound d) where
   made-few : (dep r : ℕ) (h : Option ℕ) (n : ℕ) (t : Token) → count_of (plain_trees (made_columns dep r h n t)) ≤ n
   unfolding columns_by
   made-few dep r h zero t = omega arith
-  made-few dep r h (suc n) t = go (is_end (flow_in d r) t) (made-few dep r h n (column_made (rows_to d dep) d (flow_in d r) h t).end)
+  made-few dep r h (suc n) t =
+      go (is_end (flow_in d r) t) (made-few dep r h n (column_made (rows_to d dep) d (flow_in d r) h t).end)
     where
       made : Column
       made = column_made (rows_to d dep) d (flow_in d r) h t
@@ -275,6 +273,9 @@ module _ (d : FlowsData) (sound : IsSound d) where
       let in_flow = (sound.stacks s known).flow in
       let named = stack-named d f (sound.flows g no_flow in_flow) (stack_of d s).bound in
       let put = all-put g _ named
-      (λ n. stack-placed d f (total d n) (stack_of d s).bound (rows_to d 0) (row-height-total n)) in
-      (refl, stack-extent-small d sound s known, trees-settled (row_fragments d (suc (length d.rows)))
-      (rows-good (suc (length d.rows)) (omega arith)) _ g _ in_flow put)
+      (λ n. stack-placed d f (total d n) (stack_of d s).bound (rows_to d 0) (row-height-total n)) in (
+        refl,
+        stack-extent-small d sound s known,
+        trees-settled (row_fragments d (suc (length d.rows)))
+            (rows-good (suc (length d.rows)) (omega arith)) _ g _ in_flow put,
+      )

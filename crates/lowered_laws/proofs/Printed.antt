@@ -1,9 +1,7 @@
 -- A layout whose flagged pieces are lowered is printed: its trees are settled, and so its lines have 64 bits.
-use Rattle.std.proofs.Common.{◌≡◌, ℕ, zero, suc, ◌+◌, ◌-◌, ◌<◌, ◌≤◌, ◌^◌, List, ◌∷◌, All, length, refl, sym, subst, ap, ◌∙◌, arith}
-use Rattle.std.specs.List.{AllByRecursion as Each}
+use Rattle.std.proofs.Common.{◌≡◌, ℕ, zero, suc, ◌+◌, ◌<◌, ◌^◌, List, ◌∷◌, All, length, refl, sym, subst, ap, arith}
 use Rattle.std.proofs.lemmas.List.Elements.{All-from_recursion}
 use mathlib.Core.Path.{fun_ext}
-use Rattle.mc_base.specs.PlainTree.{PlainTree}
 use Rattle.flow_list.specs.Data.{FlowsData}
 use Rattle.flow_data.specs.Flows.{stack_of, flow_of}
 use Rattle.flow_data.specs.Soundness.{IsSound}
@@ -13,11 +11,11 @@ use Rattle.flow_list.specs.Stacks.{stack_extent, stack_height}
 use Rattle.flow_list.specs.Tokens.{Token}
 use Rattle.flow_list.specs.Tree.{TreeLine, Frame, stack, extent_of, lines_of_tree}
 use Rattle.flow_laws.specs.Rectangles.{EndsBelow}
-use Rattle.flow_laws.proofs.Descent.{Stands, first-stands, x-small}
+use Rattle.flow_laws.proofs.Descent.{first-stands, x-small}
 use Rattle.flow_laws.proofs.StackSums.{stack-extent-small}
 use Rattle.frag_pool.specs.Nodes.{Nodes}
 use Rattle.tree_lines.specs.Shown.{Given, stack_lines, Fits, IsInside}
-use Rattle.piece_data.specs.Lowering.{Flags, columns_at, columns_lowered, all_lowered_in, lowered_in, stack_lowered}
+use Rattle.piece_data.specs.Lowering.{Flags, columns_at, columns_lowered, lowered_in, stack_lowered}
 use Rattle.piece_data.specs.Lowering.{lines_of_lowered, lowered_tree}
 use Rattle.lowered_laws.specs.Layout.{IsLoweredLayout, IsLoweredPrinted}
 use Rattle.lowered_laws.proofs.Lines.{IsFrame, StacksSmall, tree-small}

@@ -86,6 +86,7 @@ module _ (d : FlowsData) where
 
   mutual
     unfolding IsSettled AreSettled AreColumns IsColumn IsInside AreInside
+
     pub settled-inside : (f : ℕ) (tree : PlainTree) → IsSettled f tree → IsInside d f tree
     settled-inside f (atom_tree k y) ok = (ok.0, ok.1, ok.2)
     settled-inside f (piece b starts y bottom kids) ok = (ok.0, all-inside f kids ok.3)
@@ -121,6 +122,7 @@ module _ (d : FlowsData) where
     module _ (good : (r : ℕ) (q : Token) (h : ℕ) → r < length d.rows → AreGood r (inside r q h)) where
       mutual
         unfolding IsSettled AreSettled AreColumns IsColumn lowered_in all_lowered_in
+
         pub lowered-settled : (f room : ℕ) (tree : PlainTree) → IsSettled f tree
             → IsSettled f (lowered_in d flags inside room tree)
         lowered-settled f room (atom_tree k y) ok = ok
