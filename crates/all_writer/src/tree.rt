@@ -1,6 +1,6 @@
 //! The lines of the tree.
 
-ghost use Rattle.std.specs.Prelude.{◌≡◌, ◌<◌, ◌++◌, ◌×◌, None, length, IfOk, IfSome};
+ghost use Rattle.std.specs.Prelude.{◌≡◌, ◌<◌, ◌++◌, None, length, IfOk, IfSome};
 ghost use Rattle.flow_list.specs.TreeText.{tree_text};
 ghost use Rattle.piece_data.specs.Lowering.{Flags, lowered_tree};
 ghost use Rattle.lowered_laws.specs.Layout.{IsLoweredLayout};

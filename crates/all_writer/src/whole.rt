@@ -1,6 +1,6 @@
 //! The whole text.
 
-ghost use Rattle.std.specs.Prelude.{◌≡◌, ◌<◌, ◌≤◌, ◌++◌, ◌×◌, None, length, IfOk, IfSome};
+ghost use Rattle.std.specs.Prelude.{◌≡◌, ◌<◌, ◌≤◌, ◌++◌, None, length, IfOk, IfSome};
 ghost use Rattle.piece_data.specs.Lowering.{Flags};
 ghost use Rattle.tree_lines.specs.Lines.{lines_of};
 ghost use Rattle.all_writer.specs.AllText.{all_text};
