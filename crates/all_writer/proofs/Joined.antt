@@ -15,6 +15,7 @@ use Rattle.piece_data.specs.Lowering.{Flags, CutPiece, lowered_tree, lowered_pie
 use Rattle.piece_data.specs.LoweredText.{unfit_line, cut_lines, lowered_lines}
 use Rattle.piece_finder.specs.Telling.{told_range, told_ranges}
 use Rattle.piece_finder.specs.declared.reasons.PieceRange.{PieceRange}
+use Rattle.lowered_laws.specs.Layout.{IsLoweredLayout}
 use Rattle.row_all.specs.Answered.{piece_of, IsTrueLine, IsLowered}
 use Rattle.row_all.specs.declared.answer.AllOut.{AllOut}
 use Rattle.row_all.specs.declared.answer.PieceLine.{PieceLine}
@@ -38,6 +39,19 @@ abbrev head_line : PieceLine → ℕ → List ℕ
 head_line p least =
     line_words (codes "piece" ∷ decimal p.row ∷ token_text p.from ∷ decimal p.height ∷ decimal least ∷ [])
 
+five-parts : (a t b p c : List ℕ) → ((a ++ t) ++ (b ++ p)) ++ c ≡ a ++ (t ++ (b ++ (p ++ c)))
+five-parts a t b p c = simp append_assoc
+
+-- three lines of their own, with lines between them
+three-parts : (tree pieces : List (List ℕ)) →
+    ended ((codes "mcol-all 1" ∷ tree ++ codes "pieces" ∷ pieces) ++ codes "end" ∷ [])
+    ≡ codes "mcol-all 1\n" ++ (ended tree ++ (codes "pieces\n" ++ (ended pieces ++ codes "end\n")))
+three-parts tree pieces =
+    let f : List ℕ → List ℕ = λ line. line ++ 10 ∷ [] in
+    flat_map-append f (codes "mcol-all 1" ∷ tree ++ codes "pieces" ∷ pieces) (codes "end" ∷ [])
+    ∙ ap (λ (s : List ℕ). s ++ codes "end\n") (flat_map-append f (codes "mcol-all 1" ∷ tree) (codes "pieces" ∷ pieces))
+    ∙ five-parts (codes "mcol-all 1\n") (ended tree) (codes "pieces\n") (ended pieces) (codes "end\n")
+
 module _ (d : FlowsData) (nodes : Nodes) where
   piece-ended : (p : PieceLine) → IsTrueLine d nodes p → ended (cut_lines d (piece_of p)) ≡ piece_text p
   piece-ended p is =
@@ -55,13 +69,7 @@ module _ (d : FlowsData) (nodes : Nodes) where
       (piece-ended p (all 0 p (omega arith)))
       ∙ ap (λ (rest : List ℕ). piece_text p ++ rest) (pieces-ended ps (λ k e lt. all (suc k) e (omega arith)))
 
-  -- three lines of their own, with lines between them
-  three-parts : (tree pieces : List (List ℕ)) →
-      ended (codes "mcol-all 1" ∷ tree ++ codes "pieces" ∷ pieces ++ codes "end" ∷ [])
-      ≡ codes "mcol-all 1\n" ++ (ended tree ++ (codes "pieces\n" ++ (ended pieces ++ codes "end\n")))
-  three-parts tree pieces = simp (flat_map-append, append_assoc) refl
-
-  pub answer-ended : (flags : Flags) (all : AllOut) → IsLowered d flags nodes all
+  answer-ended : (flags : Flags) (all : AllOut) → IsLowered d flags nodes all
       → answer_text (lowered_tree d flags) all.pieces ≡ all_text d flags
   unfolding lowered_lines
   answer-ended flags all is = sym (three-parts (map tree_line_words (lowered_tree d flags))
@@ -72,3 +80,16 @@ module _ (d : FlowsData) (nodes : Nodes) where
       ++ (ended (flat_map (cut_lines d) ps) ++ codes "end\n")))) (sym is.pieces)
       ∙ ap (λ (t : List ℕ). codes "mcol-all 1\n" ++ (tree_text (lowered_tree d flags) ++ (codes "pieces\n"
       ++ (t ++ codes "end\n")))) (pieces-ended all.pieces is.lines))
+
+  pub layout-answered : (flags : Flags) (all : AllOut) → IsLowered d flags nodes all → IsLoweredLayout d flags all.laid nodes
+  layout-answered flags all is = record {
+    count = is.count;
+    height = λ s entry there. (is.stacks s entry there).height;
+    stands = λ s entry there. (is.stacks s entry there).frag;
+  }
+
+  -- what is written of these lines
+  pub answer-is : (flags : Flags) (all : AllOut) (lines : List TreeLine) → IsLowered d flags nodes all
+      → lines ≡ lowered_tree d flags → answer_text lines all.pieces ≡ all_text d flags
+  answer-is flags all lines is same =
+      ap (λ (ls : List TreeLine). answer_text ls all.pieces) same ∙ answer-ended flags all is
