@@ -1,5 +1,5 @@
 -- The lines of what was answered are those of the flows with the flagged pieces lowered.
-use Rattle.std.proofs.Common.{◌≡◌, ℕ, suc, ◌+◌, ◌<◌, List, [], ◌∷◌, ◌++◌, All, map, refl, sym, ap}
+use Rattle.std.proofs.Common.{◌≡◌, ℕ, suc, List, [], ◌∷◌, ◌++◌, All, map, refl, sym, ap}
 use Rattle.std.proofs.Common.{◌∙◌, arith, append_assoc}
 use Rattle.std.specs.Prelude.{codes}
 use Rattle.std.specs.List.{flat_map}
@@ -10,7 +10,7 @@ use Rattle.flow_list.specs.ResultText.{line_words}
 use Rattle.flow_list.specs.Tree.{TreeLine}
 use Rattle.flow_list.specs.TreeText.{token_text, tree_line_words, tree_text}
 use Rattle.frag_pool.specs.Nodes.{Nodes}
-use Rattle.piece_data.specs.LeastPiece.{UnfitRange, least_height, unfit_ranges}
+use Rattle.piece_data.specs.LeastPiece.{UnfitRange, unfit_ranges}
 use Rattle.piece_data.specs.Lowering.{Flags, CutPiece, lowered_tree, lowered_pieces}
 use Rattle.piece_data.specs.LoweredText.{unfit_line, cut_lines, lowered_lines}
 use Rattle.piece_finder.specs.Telling.{told_range, told_ranges}

@@ -1,4 +1,3 @@
-use Rattle.std.proofs.Common.{◌∙◌}
 use Rattle.all_writer.proofs.tree.lines_of_layout.Goals as goal
 
 pub tree_lines-requires : goal.tree_lines-requires

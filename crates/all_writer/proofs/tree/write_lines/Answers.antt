@@ -1,7 +1,6 @@
 use Rattle.std.proofs.Common.{◌<◌, ◌++◌, length, subst, arith}
-use Rattle.flow_list.specs.TreeText.{tree_line_text, tree_text}
-use Rattle.tree_lines.specs.declared.line.TreeLine.{TreeLine}
-use Rattle.tree_lines.specs.Lines.{line_of, lines_of}
+use Rattle.flow_list.specs.TreeText.{tree_text}
+use Rattle.tree_lines.specs.Lines.{lines_of}
 use Rattle.all_writer.proofs.Parts.{line-next, line-passes}
 use Rattle.all_writer.proofs.tree.write_lines.Goals as goal
 
