@@ -1,0 +1,3 @@
+pub mod AllText
+pub mod PieceText
+pub mod Words
