@@ -14,9 +14,9 @@ use Rattle.piece_data.specs.Lowering.{Flags}
 -- a document with this sheet and these metrics, laid out this wide and with this available height, has these flows, and their rows
 -- these flags
 pub record SaysFlagged (document sheet metrics : List ℕ) (width : ℕ) (height : Option ℕ) (d : FlowsData) (flags : Flags) : Type 0
-    where
-  pub flows : DocumentSays document sheet metrics width height d
-  pub flags : HasFlags document sheet metrics d flags
+  where
+    pub said : DocumentSays document sheet metrics width height d
+    pub flagged : HasFlags document sheet metrics d flags
 
 -- this text is that of its layout
 abbrev pub IsAllResult : (document sheet metrics : List ℕ) (width : ℕ) (height : Option ℕ) → List ℕ → Type 0

@@ -17,11 +17,7 @@ use row_all::layout_all;
 use std::alloc::Global;
 
 /// The text of the layout of flagged flows, or None where it has more than `most` bytes.
-fn lowered_text(
-    alloc: Global,
-    flagged: &FlaggedFlows,
-    most: u64,
-) -> Result<Option<Text>, NoMemory>
+fn lowered_text(alloc: Global, flagged: &FlaggedFlows, most: u64) -> Result<Option<Text>, NoMemory>
     ensures text { IfOk result (λ found. IfSome found (λ text. text ≡ all_text flagged.now.flows flagged.now.flags)) }
     ensures short { IfOk result (λ found. IfSome found (λ text. length text ≤ most)) }
     ensures long { IfOk result (λ found. found ≡ None → most < length (all_text flagged.now.flows flagged.now.flags)) }
