@@ -1,0 +1,64 @@
+-- What a session is of: a document, its sheets in order, the faces of its fonts, a width and an available height, and how many
+-- runs it broke into lines so far; and what its answers say.
+use Rattle.std.specs.Prelude.{◌≡◌, ◌⊎◌, ℕ, ◌+◌, ◌<◌, ◌≤◌, ◌^◌, List, length, Option, None, Result, Ok, Err}
+use Rattle.mc_base.specs.declared.refusal.Refusal.{Refusal}
+use Rattle.mc_base.specs.declared.refusal.Refusal.TheVariants as refusals
+use Rattle.mc_base.specs.declared.refusal.LimitName.TheVariants as limits
+use Rattle.html_grammar.specs.declared.dom.Dom.{Dom}
+use Rattle.html_grammar.specs.Tree.{Forest, nodes_from}
+use Rattle.html_subset.specs.WellFormed.{IsWellFormed}
+use Rattle.css_cascade.specs.Attributes.{AllAreRead}
+use Rattle.css_data.specs.declared.rule.Sheet.{Sheet}
+use Rattle.font_table.specs.declared.fonts.Face.{Face}
+use Rattle.edit_script.specs.declared.script.Edit.{Edit}
+use Rattle.edit_script.specs.Edited.{edited}
+use Rattle.flow_data.specs.declared.data.FlowsData.{FlowsData}
+use Rattle.doc_flows.specs.Trees.{TreeSays, RefusesTree}
+use Rattle.page_views.specs.Shown.{text_limit}
+use Rattle.result_writer.specs.Printed.{result_text}
+
+pub record Asked : Type 0 where
+  pub dom : Dom
+  pub sheets : List Sheet
+  pub faces : List Face
+  pub width : ℕ
+  pub height : Option ℕ
+  pub broken : ℕ
+
+-- the document is well formed, its style attributes are on their grammar, and the width isn't too great
+pub record IsSound (asked : Asked) : Type 0 where
+  pub formed : IsWellFormed asked.dom
+  pub read : AllAreRead asked.dom.nodes
+  pub wide : asked.width < 2 ^ 60
+
+-- where the edit is done, the edited tree is well formed
+abbrev pub StaysFormed : Edit → Dom → Type 0
+StaysFormed edit dom = (tree after : Forest) (left : Dom) → dom.nodes ≡ nodes_from None 0 tree → edited edit tree ≡ Ok after
+    → left.nodes ≡ nodes_from None 0 after → IsWellFormed left
+
+-- all else stays where a document is edited
+pub record HasSame (before after : Asked) : Type 0 where
+  pub construct : after.dom.construct ≡ before.dom.construct
+  pub sheets : after.sheets ≡ before.sheets
+  pub faces : after.faces ≡ before.faces
+  pub width : after.width ≡ before.width
+  pub height : after.height ≡ before.height
+  pub broken : after.broken ≡ before.broken
+
+-- a session's document, if this is its tree, has these flows
+abbrev pub Says : Asked → Forest → FlowsData → Type 0
+Says asked tree d = TreeSays asked.sheets asked.faces asked.width asked.height tree d
+
+-- this text is the result of a session's document with this tree, and has no more than so many bytes
+abbrev pub IsPrinted : Asked → Forest → (most : ℕ) → List ℕ → Type 0
+IsPrinted asked tree most text = (d : FlowsData) × Says asked tree d × (text ≡ result_text d) × (length text ≤ most)
+
+-- its result has more bytes
+abbrev pub IsTooLong : Asked → Forest → (most : ℕ) → Type 0
+IsTooLong asked tree most = (d : FlowsData) × Says asked tree d × (most < length (result_text d))
+
+-- It is refused for this reason: the first construct at an element that makes a box, the first limit of flows that it passes, or
+-- that its result has more bytes.
+abbrev pub IsDenied : Asked → Forest → (most : ℕ) → Refusal → Type 0
+IsDenied asked tree most refusal = RefusesTree asked.sheets asked.faces asked.width asked.height tree refusal
+    ⊎ (IsTooLong asked tree most × (refusal ≡ refusals.Limit limits.Result (text_limit + 1) text_limit))

@@ -1,0 +1,180 @@
+//! A session of edits.
+
+ghost use Rattle.std.specs.Prelude.{◌≡◌, ◌⊎◌, ◌<◌, ◌≤◌, ◌^◌, None, OnOk, OnErr, IfOk, IfErr};
+ghost use Rattle.mc_base.specs.declared.refusal.Refusal.TheVariants as refusals;
+ghost use Rattle.html_grammar.specs.Tree.{Forest, nodes_from};
+ghost use Rattle.html_subset.specs.WellFormed.{IsWellFormed};
+ghost use Rattle.css_cascade.specs.Attributes.{AllAreRead};
+ghost use Rattle.dom_edits.specs.Done.{Answers};
+ghost use Rattle.dom_edits.specs.Sizes.{GrowsBy};
+ghost use Rattle.mc_session.specs.Session.{StaysFormed};
+
+use css_data::Sheet;
+use doc_flows::tree_flows;
+use dom_edits::apply_edit;
+use edit_script::{Edit, EditFault};
+use flow_list::Flows;
+use font_table::Fonts;
+use html_grammar::Dom;
+use kept_lines::KeptLines;
+use mc_base::{List, Refusal, Text, Units};
+use page_views::TEXT_LIMIT;
+use result_writer::print_within;
+use std::alloc::Global;
+use std::marker::Model;
+
+/// Does an edit whose document stays well formed, and keeps its style attributes.
+fn edit_document(alloc: Global, dom: &mut Dom, edit: &Edit) -> Result<(), EditFault>
+    requires formed { IsWellFormed dom.old }
+    requires read { AllAreRead dom.old.nodes }
+    requires stays { StaysFormed edit.now dom.old }
+    ensures done { (tree : Forest) → dom.old.nodes ≡ nodes_from None 0 tree → Answers edit.now tree dom.new.nodes result }
+    ensures same { OnErr result (dom.new ≡ dom.old) }
+    ensures construct { dom.new.construct ≡ dom.old.construct }
+    ensures grows { OnOk result (GrowsBy edit.now dom.old.nodes dom.new.nodes) }
+    ensures formed { IsWellFormed dom.new }
+    ensures read { AllAreRead dom.new.nodes }
+{
+    match apply_edit(alloc, dom, edit) {
+        Ok(()) => Ok(()),
+        Err(fault) => Err(fault),
+    }
+}
+
+/// A document that is edited, with its sheets in order, its fonts, a width and an available height, in units of 1/64 px, and with
+/// the lines of its runs as they were last printed.
+///
+/// The document is well formed, its style attributes are on their grammar, and the width is below 2^60.
+#[derive(Drop)]
+pub struct Session {
+    alloc: Global,
+    dom: Dom,
+    sheets: List<Sheet>,
+    fonts: Fonts,
+    width: Units,
+    height: Option<Units>,
+    lines: KeptLines,
+    broken: u64,
+}
+
+impl Model for Session {
+    ghost use Rattle.kept_lines.specs.Keeping.{AreTrue};
+    ghost use Rattle.mc_session.specs.Session.{Asked, IsSound};
+
+    ghost Value = { Asked };
+
+    ghost view = { λ s. record { dom = s.dom; sheets = s.sheets; faces = s.fonts; width = s.width; height = s.height; broken = s.broken } };
+
+    ghost invariant = { λ s. IsSound (record { dom = s.dom; sheets = s.sheets; faces = s.fonts; width = s.width; height = s.height; broken = s.broken }) × AreTrue s.fonts s.lines };
+}
+
+impl Session {
+    ghost use Rattle.std.specs.Prelude.{◌≡◌, ◌⊎◌, ◌<◌, ◌≤◌, ◌^◌, None, OnOk, OnErr, IfOk, IfErr};
+    ghost use Rattle.mc_base.specs.declared.refusal.Refusal.TheVariants as refusals;
+    ghost use Rattle.html_grammar.specs.Tree.{Forest, nodes_from};
+    ghost use Rattle.html_subset.specs.WellFormed.{IsWellFormed};
+    ghost use Rattle.css_cascade.specs.Attributes.{AllAreRead};
+    ghost use Rattle.dom_edits.specs.Done.{Answers};
+    ghost use Rattle.dom_edits.specs.Sizes.{GrowsBy};
+    ghost use Rattle.page_views.specs.Shown.{text_limit};
+    ghost use Rattle.mc_session.specs.Session.{Asked, StaysFormed, HasSame, IsPrinted, IsDenied, Says};
+
+    /// A session of a document, with the sheets of the author and of its style elements in order. It takes no memory.
+    pub fn begin(
+        alloc: Global,
+        dom: Dom,
+        sheets: List<Sheet>,
+        fonts: Fonts,
+        width: Units,
+        height: Option<Units>,
+    ) -> Self
+        requires formed { IsWellFormed dom }
+        requires read { AllAreRead dom.nodes }
+        requires wide { width < 2 ^ 60 }
+        ensures { result ≡ record { dom = dom; sheets = sheets; faces = fonts; width = width; height = height; broken = 0 } }
+    {
+        Session {
+            alloc,
+            dom,
+            sheets,
+            fonts,
+            width,
+            height,
+            lines: KeptLines::new(alloc),
+            broken: 0,
+        }
+    }
+
+    /// Does an edit: what `edited` says of the document's tree, or its fault.
+    ///
+    /// `NoElement` comes exactly where no element has the id, and `NotAllowed` exactly where the first that has it, in document
+    /// order, may not be edited so. The session is unchanged by every fault. `NoMemory` is out of memory.
+    pub fn apply(&mut self, edit: &Edit) -> Result<(), EditFault>
+        // Where the edit is done, the edited tree is well formed.
+        requires { StaysFormed edit.now self.old.dom }
+        ensures done { (tree : Forest) → self.old.dom.nodes ≡ nodes_from None 0 tree → Answers edit.now tree self.new.dom.nodes result }
+        ensures unchanged { OnErr result (self.new ≡ self.old) }
+        ensures others { HasSame self.old self.new }
+        ensures grows { OnOk result (GrowsBy edit.now self.old.dom.nodes self.new.dom.nodes) }
+        ensures formed { IsWellFormed self.new.dom }
+    {
+        edit_document(self.alloc, &mut self.dom, edit)
+    }
+
+    /// The flows of the document as it is now. Its runs are broken into lines only where their lines aren't kept.
+    fn flows(&mut self) -> Result<Flows, Refusal>
+        ensures flows { (tree : Forest) → self.old.dom.nodes ≡ nodes_from None 0 tree → IfOk result (Says self.old tree) }
+        ensures refused { (tree : Forest) → self.old.dom.nodes ≡ nodes_from None 0 tree →
+            IfErr result (λ e. (e ≡ refusals.NoMemory) ⊎ RefusesTree self.old.sheets self.old.faces self.old.width self.old.height tree e) }
+        ensures same { self.new ≡ record self.old { broken = self.new.broken } }
+        ensures counted { self.old.broken ≤ self.new.broken }
+    {
+        self.lines.turn(self.alloc);
+        let flows = tree_flows(
+            self.alloc,
+            &self.dom,
+            self.sheets.as_slice(),
+            &self.fonts,
+            self.width,
+            self.height,
+            &mut self.lines,
+        );
+        self.broken = self.broken.saturating_add(self.lines.broken());
+        flows
+    }
+
+    /// The result of the document as it is now, as layout from the start would write it, where it has at most so many bytes.
+    ///
+    /// A refusal is the first of `Construct` at an element that makes a box, `Limit` for flows, and `Limit` for the bytes of
+    /// results where it has more; or memory ran out. The document is unchanged by every answer.
+    pub fn print(&mut self, most: u64) -> Result<Text, Refusal>
+        ensures text { (tree : Forest) → self.old.dom.nodes ≡ nodes_from None 0 tree → IfOk result (IsPrinted self.old tree most) }
+        ensures refused { (tree : Forest) → self.old.dom.nodes ≡ nodes_from None 0 tree →
+            IfErr result (λ e. (e ≡ refusals.NoMemory) ⊎ IsDenied self.old tree most e) }
+        ensures same { self.new ≡ record self.old { broken = self.new.broken } }
+        ensures counted { self.old.broken ≤ self.new.broken }
+    {
+        match self.flows() {
+            Ok(flows) => print_within(self.alloc, &flows, most),
+            Err(refusal) => Err(refusal),
+        }
+    }
+
+    /// The result of the document as it is now, as `print` answers it where results have at most 2^28 bytes.
+    pub fn result(&mut self) -> Result<Text, Refusal>
+        ensures text { (tree : Forest) → self.old.dom.nodes ≡ nodes_from None 0 tree → IfOk result (IsPrinted self.old tree text_limit) }
+        ensures refused { (tree : Forest) → self.old.dom.nodes ≡ nodes_from None 0 tree →
+            IfErr result (λ e. (e ≡ refusals.NoMemory) ⊎ IsDenied self.old tree text_limit e) }
+        ensures same { self.new ≡ record self.old { broken = self.new.broken } }
+        ensures counted { self.old.broken ≤ self.new.broken }
+    {
+        self.print(TEXT_LIMIT)
+    }
+
+    /// How many runs were broken into lines so far; it stays at its greatest value.
+    pub fn broken(&self) -> u64
+        ensures { result ≡ self.now.broken }
+    {
+        self.broken
+    }
+}
