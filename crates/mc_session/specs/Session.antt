@@ -1,9 +1,7 @@
 -- What a session is of: a document, its sheets in order, the faces of its fonts, a width and an available height, and how many
 -- runs it broke into lines so far; and what its answers say.
-use Rattle.std.specs.Prelude.{◌≡◌, ◌⊎◌, ℕ, ◌+◌, ◌<◌, ◌≤◌, ◌^◌, List, length, Option, None, Result, Ok, Err}
+use Rattle.std.specs.Prelude.{◌≡◌, ◌⊎◌, ℕ, ◌<◌, ◌≤◌, ◌^◌, List, length, Option, None, Result, Ok, Err}
 use Rattle.mc_base.specs.declared.refusal.Refusal.{Refusal}
-use Rattle.mc_base.specs.declared.refusal.Refusal.TheVariants as refusals
-use Rattle.mc_base.specs.declared.refusal.LimitName.TheVariants as limits
 use Rattle.html_grammar.specs.declared.dom.Dom.{Dom}
 use Rattle.html_grammar.specs.Tree.{Forest, nodes_from}
 use Rattle.html_subset.specs.WellFormed.{IsWellFormed}
@@ -14,8 +12,7 @@ use Rattle.edit_script.specs.declared.script.Edit.{Edit}
 use Rattle.edit_script.specs.Edited.{edited}
 use Rattle.flow_data.specs.declared.data.FlowsData.{FlowsData}
 use Rattle.doc_flows.specs.Trees.{TreeSays, RefusesTree}
-use Rattle.page_views.specs.Shown.{text_limit}
-use Rattle.result_writer.specs.Printed.{result_text}
+use Rattle.result_writer.specs.Printed.{result_text, IsLongResult}
 
 pub record Asked : Type 0 where
   pub dom : Dom
@@ -36,7 +33,7 @@ abbrev pub StaysFormed : Edit → Dom → Type 0
 StaysFormed edit dom = (tree after : Forest) (left : Dom) → dom.nodes ≡ nodes_from None 0 tree → edited edit tree ≡ Ok after
     → left.nodes ≡ nodes_from None 0 after → IsWellFormed left
 
--- all else stays where a document is edited
+-- all but the document's nodes stays
 pub record HasSame (before after : Asked) : Type 0 where
   pub construct : after.dom.construct ≡ before.dom.construct
   pub sheets : after.sheets ≡ before.sheets
@@ -45,20 +42,26 @@ pub record HasSame (before after : Asked) : Type 0 where
   pub height : after.height ≡ before.height
   pub broken : after.broken ≡ before.broken
 
--- a session's document, if this is its tree, has these flows
-abbrev pub Says : Asked → Forest → FlowsData → Type 0
-Says asked tree d = TreeSays asked.sheets asked.faces asked.width asked.height tree d
+-- the document stays, and all that it is laid out with
+pub record HasSameDocument (before after : Asked) : Type 0 where
+  pub dom : after.dom ≡ before.dom
+  pub sheets : after.sheets ≡ before.sheets
+  pub faces : after.faces ≡ before.faces
+  pub width : after.width ≡ before.width
+  pub height : after.height ≡ before.height
 
--- this text is the result of a session's document with this tree, and has no more than so many bytes
-abbrev pub IsPrinted : Asked → Forest → (most : ℕ) → List ℕ → Type 0
-IsPrinted asked tree most text = (d : FlowsData) × Says asked tree d × (text ≡ result_text d) × (length text ≤ most)
+-- a session's document, as it is now, has these flows
+abbrev pub Says : Asked → FlowsData → Type 0
+Says asked d = TreeSays asked.dom asked.sheets asked.faces asked.width asked.height d
 
--- its result has more bytes
-abbrev pub IsTooLong : Asked → Forest → (most : ℕ) → Type 0
-IsTooLong asked tree most = (d : FlowsData) × Says asked tree d × (most < length (result_text d))
+-- this text is its result, and has no more than so many bytes
+abbrev pub IsPrinted : Asked → (most : ℕ) → List ℕ → Type 0
+IsPrinted asked most text = (d : FlowsData) × Says asked d × (text ≡ result_text d) × (length text ≤ most)
 
--- It is refused for this reason: the first construct at an element that makes a box, the first limit of flows that it passes, or
--- that its result has more bytes.
-abbrev pub IsDenied : Asked → Forest → (most : ℕ) → Refusal → Type 0
-IsDenied asked tree most refusal = RefusesTree asked.sheets asked.faces asked.width asked.height tree refusal
-    ⊎ (IsTooLong asked tree most × (refusal ≡ refusals.Limit limits.Result (text_limit + 1) text_limit))
+-- it has no flows for this reason: the first construct at an element that makes a box, or the first limit that they pass
+abbrev pub IsRefused : Asked → Refusal → Type 0
+IsRefused asked refusal = RefusesTree asked.dom asked.sheets asked.faces asked.width asked.height refusal
+
+-- it has none, or its result has more bytes than that
+abbrev pub IsDenied : Asked → (most : ℕ) → Refusal → Type 0
+IsDenied asked most refusal = IsRefused asked refusal ⊎ ((d : FlowsData) × Says asked d × IsLongResult d most refusal)

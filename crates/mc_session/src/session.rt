@@ -1,7 +1,6 @@
 //! A session of edits.
 
-ghost use Rattle.std.specs.Prelude.{◌≡◌, ◌⊎◌, ◌<◌, ◌≤◌, ◌^◌, None, OnOk, OnErr, IfOk, IfErr};
-ghost use Rattle.mc_base.specs.declared.refusal.Refusal.TheVariants as refusals;
+ghost use Rattle.std.specs.Prelude.{◌≡◌, None, OnOk, OnErr};
 ghost use Rattle.html_grammar.specs.Tree.{Forest, nodes_from};
 ghost use Rattle.html_subset.specs.WellFormed.{IsWellFormed};
 ghost use Rattle.css_cascade.specs.Attributes.{AllAreRead};
@@ -19,7 +18,7 @@ use html_grammar::Dom;
 use kept_lines::KeptLines;
 use mc_base::{List, Refusal, Text, Units};
 use page_views::TEXT_LIMIT;
-use result_writer::print_within;
+use result_writer::result_or_limit;
 use std::alloc::Global;
 use std::marker::Model;
 
@@ -54,7 +53,6 @@ pub struct Session {
     width: Units,
     height: Option<Units>,
     lines: KeptLines,
-    broken: u64,
 }
 
 impl Model for Session {
@@ -63,13 +61,13 @@ impl Model for Session {
 
     ghost Value = { Asked };
 
-    ghost view = { λ s. record { dom = s.dom; sheets = s.sheets; faces = s.fonts; width = s.width; height = s.height; broken = s.broken } };
+    ghost view = { λ s. record { dom = s.dom; sheets = s.sheets; faces = s.fonts; width = s.width; height = s.height; broken = s.lines.broken } };
 
-    ghost invariant = { λ s. IsSound (record { dom = s.dom; sheets = s.sheets; faces = s.fonts; width = s.width; height = s.height; broken = s.broken }) × AreTrue s.fonts s.lines };
+    ghost invariant = { λ s. IsSound (record { dom = s.dom; sheets = s.sheets; faces = s.fonts; width = s.width; height = s.height; broken = s.lines.broken }) × AreTrue s.fonts s.lines };
 }
 
 impl Session {
-    ghost use Rattle.std.specs.Prelude.{◌≡◌, ◌⊎◌, ◌<◌, ◌≤◌, ◌^◌, None, OnOk, OnErr, IfOk, IfErr};
+    ghost use Rattle.std.specs.Prelude.{◌≡◌, ◌⊎◌, ◌<◌, ◌^◌, None, OnOk, OnErr, IfOk, IfErr};
     ghost use Rattle.mc_base.specs.declared.refusal.Refusal.TheVariants as refusals;
     ghost use Rattle.html_grammar.specs.Tree.{Forest, nodes_from};
     ghost use Rattle.html_subset.specs.WellFormed.{IsWellFormed};
@@ -77,7 +75,7 @@ impl Session {
     ghost use Rattle.dom_edits.specs.Done.{Answers};
     ghost use Rattle.dom_edits.specs.Sizes.{GrowsBy};
     ghost use Rattle.page_views.specs.Shown.{text_limit};
-    ghost use Rattle.mc_session.specs.Session.{Asked, StaysFormed, HasSame, IsPrinted, IsDenied, Says};
+    ghost use Rattle.mc_session.specs.Session.{StaysFormed, HasSame, HasSameDocument, IsPrinted, IsDenied, IsRefused, Says};
 
     /// A session of a document, with the sheets of the author and of its style elements in order. It takes no memory.
     pub fn begin(
@@ -101,7 +99,6 @@ impl Session {
             width,
             height,
             lines: KeptLines::new(alloc),
-            broken: 0,
         }
     }
 
@@ -121,15 +118,12 @@ impl Session {
         edit_document(self.alloc, &mut self.dom, edit)
     }
 
-    /// The flows of the document as it is now. Its runs are broken into lines only where their lines aren't kept.
+    /// The flows of the document as it is now. A run is broken into lines only where its lines aren't kept.
     fn flows(&mut self) -> Result<Flows, Refusal>
-        ensures flows { (tree : Forest) → self.old.dom.nodes ≡ nodes_from None 0 tree → IfOk result (Says self.old tree) }
-        ensures refused { (tree : Forest) → self.old.dom.nodes ≡ nodes_from None 0 tree →
-            IfErr result (λ e. (e ≡ refusals.NoMemory) ⊎ RefusesTree self.old.sheets self.old.faces self.old.width self.old.height tree e) }
-        ensures same { self.new ≡ record self.old { broken = self.new.broken } }
-        ensures counted { self.old.broken ≤ self.new.broken }
+        ensures flows { IfOk result (Says self.old) }
+        ensures refused { IfErr result (λ e. (e ≡ refusals.NoMemory) ⊎ IsRefused self.old e) }
+        ensures same { HasSameDocument self.old self.new }
     {
-        self.lines.turn(self.alloc);
         let flows = tree_flows(
             self.alloc,
             &self.dom,
@@ -138,35 +132,32 @@ impl Session {
             self.width,
             self.height,
             &mut self.lines,
-        );
-        self.broken = self.broken.saturating_add(self.lines.broken());
-        flows
+        )?;
+        self.lines.turn(self.alloc);
+        Ok(flows)
     }
 
-    /// The result of the document as it is now, as layout from the start would write it, where it has at most so many bytes.
+    /// The result of the document as it is now, as layout from the start would write it, where it has at most `most` bytes.
     ///
-    /// A refusal is the first of `Construct` at an element that makes a box, `Limit` for flows, and `Limit` for the bytes of
-    /// results where it has more; or memory ran out. The document is unchanged by every answer.
+    /// A refusal is `Construct` for the first construct at an element that makes a box, else `Limit` for the first limit that the
+    /// flows pass, else `Limit` for the bytes of results where the result has more than `most`; or memory ran out. The document
+    /// is unchanged by every answer.
     pub fn print(&mut self, most: u64) -> Result<Text, Refusal>
-        ensures text { (tree : Forest) → self.old.dom.nodes ≡ nodes_from None 0 tree → IfOk result (IsPrinted self.old tree most) }
-        ensures refused { (tree : Forest) → self.old.dom.nodes ≡ nodes_from None 0 tree →
-            IfErr result (λ e. (e ≡ refusals.NoMemory) ⊎ IsDenied self.old tree most e) }
-        ensures same { self.new ≡ record self.old { broken = self.new.broken } }
-        ensures counted { self.old.broken ≤ self.new.broken }
+        ensures text { IfOk result (IsPrinted self.old most) }
+        ensures refused { IfErr result (λ e. (e ≡ refusals.NoMemory) ⊎ IsDenied self.old most e) }
+        ensures same { HasSameDocument self.old self.new }
     {
         match self.flows() {
-            Ok(flows) => print_within(self.alloc, &flows, most),
+            Ok(flows) => result_or_limit(self.alloc, &flows, most),
             Err(refusal) => Err(refusal),
         }
     }
 
-    /// The result of the document as it is now, as `print` answers it where results have at most 2^28 bytes.
+    /// The result of the document as it is now: what `print` answers where results have at most 2^28 bytes.
     pub fn result(&mut self) -> Result<Text, Refusal>
-        ensures text { (tree : Forest) → self.old.dom.nodes ≡ nodes_from None 0 tree → IfOk result (IsPrinted self.old tree text_limit) }
-        ensures refused { (tree : Forest) → self.old.dom.nodes ≡ nodes_from None 0 tree →
-            IfErr result (λ e. (e ≡ refusals.NoMemory) ⊎ IsDenied self.old tree text_limit e) }
-        ensures same { self.new ≡ record self.old { broken = self.new.broken } }
-        ensures counted { self.old.broken ≤ self.new.broken }
+        ensures text { IfOk result (IsPrinted self.old text_limit) }
+        ensures refused { IfErr result (λ e. (e ≡ refusals.NoMemory) ⊎ IsDenied self.old text_limit e) }
+        ensures same { HasSameDocument self.old self.new }
     {
         self.print(TEXT_LIMIT)
     }
@@ -175,6 +166,6 @@ impl Session {
     pub fn broken(&self) -> u64
         ensures { result ≡ self.now.broken }
     {
-        self.broken
+        self.lines.broken()
     }
 }
