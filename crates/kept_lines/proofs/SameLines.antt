@@ -1,12 +1,11 @@
 -- Runs that say the same have the same lines.
-use Rattle.std.proofs.Common.{◌≡◌, ◌⊎◌, ℕ, ℤ, pos, ◌+ℤ◌, ◌+◌, ◌-◌, ◌<◌, ◌≤◌, Bool, true, false, IsTrue, ◌==◌, cond, List, [], ◌∷◌}
-use Rattle.std.proofs.Common.{take, drop, map, refl, sym, ap, subst, ◌∙◌}
-use Rattle.std.specs.Prelude.{if◌then◌else◌, reverse, slice_get}
-use Rattle.std.specs.List.{All, AllByRecursion, list_any}
-use Rattle.std.proofs.lemmas.List.{drop-map, take-map}
+use Rattle.std.proofs.Common.{◌≡◌, ℕ, ◌+ℤ◌, ◌+◌, ◌-◌, IsTrue, List, [], ◌∷◌}
+use Rattle.std.proofs.Common.{length, take, drop, map, sym, ap, subst, ◌∙◌}
+use Rattle.std.specs.Prelude.{reverse}
+use Rattle.std.specs.List.{All, list_any}
+use Rattle.std.proofs.lemmas.List.{drop-map, take-map, length-map}
 use Rattle.std.proofs.lemmas.List.Elements.{All-from_recursion, recursion_from_All}
 use Rattle.font_table.specs.declared.fonts.Face.{Face}
-use Rattle.inline_text.specs.declared.content.Piece.{Piece}
 use Rattle.inline_text.specs.declared.content.RunStyle.{RunStyle}
 use Rattle.inline_text.specs.declared.content.Runs.{Runs}
 use Rattle.inline_text.specs.Opportunities.{opportunity_at}
@@ -14,8 +13,9 @@ use Rattle.line_breaker.specs.declared.line.Line.{Line}
 use Rattle.line_breaker.specs.Measures.{style_of, width_sum, last_space, last_hyphen, above_of, below_of, greatest_above}
 use Rattle.line_breaker.specs.Measures.{greatest_below}
 use Rattle.line_breaker.specs.Lines.{part, is_content, is_chance, stretch_end, content_ahead, Counts, line_width, Fits, EndsAt}
-use Rattle.line_breaker.specs.Lines.{whole, last_that_fits, first, unbroken, HasHeight, IsLine, AreLines}
+use Rattle.line_breaker.specs.Lines.{whole, last_that_fits, first, unbroken, HasHeight, AreLines}
 use Rattle.kept_lines.specs.Same.{Styled, styled, SaySame}
+use Rattle.kept_lines.specs.Keeping.{AreItsLines}
 use Rattle.kept_lines.proofs.Styles.{style_in, style_is, sum_in, sum_is, last_space_in, last_space_is, last_hyphen_in}
 use Rattle.kept_lines.proofs.Styles.{last_hyphen_is, most_above_in, most_above_is, most_below_in, most_below_is, opportunity_in}
 use Rattle.kept_lines.proofs.Styles.{opportunity_is, stretch_in, stretch_is, some_content_in, some_content_is, ahead_in}
@@ -147,3 +147,14 @@ same_lines a b s t same faces width from (line ∷ lines) (some, is, more) = (
 
 pub say_again : (a b : Runs) (s t : ℕ) → SaySame a s b t → SaySame b t a s
 say_again a b s t same = record { pieces = sym same.pieces; own = sym same.own }
+
+pub its_lines : (a b : Runs) (s t : ℕ) → SaySame a s b t → (faces : List Face) (width : ℕ) (lines : List Line)
+    → AreItsLines a faces width s lines → AreItsLines b faces width t lines
+its_lines a b s t same faces width lines is =
+    let long : length a.pieces ≡ length b.pieces =
+    sym (length-map a.pieces (styled a.styles)) ∙ ap length same.pieces ∙ length-map b.pieces (styled b.styles) in
+    record {
+      cut = same_lines a b s t same faces width 0 lines is.cut;
+      widths = is.widths;
+      few = rw (← long) is.few;
+    }
