@@ -8,6 +8,7 @@
 
 mod alike;
 mod keeping;
+mod liner;
 mod place;
 mod run;
 mod store;
