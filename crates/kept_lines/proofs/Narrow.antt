@@ -26,7 +26,8 @@ has_more xs ys (pieces.Image w h n) has = omega (arith, has, length-append xs ys
 has_more xs ys pieces.Forced has = tt
 has_more xs ys pieces.Chance has = tt
 
-all_have_more : (xs ys : List RunStyle) (ps : List Piece) → AllByRecursion (HasStyle xs) ps → AllByRecursion (HasStyle (xs ++ ys)) ps
+all_have_more : (xs ys : List RunStyle) (ps : List Piece) → AllByRecursion (HasStyle xs) ps
+    → AllByRecursion (HasStyle (xs ++ ys)) ps
 all_have_more xs ys [] all = tt
 all_have_more xs ys (p ∷ ps) all = (has_more xs ys p all.0, all_have_more xs ys ps all.1)
 

@@ -43,7 +43,8 @@ module _ (a b : Runs) (same : shown a ≡ shown b) where
   opportunities place =
       opportunity_is a.styles (reverse (take place a.pieces)) (drop place a.pieces)
       ∙ ap (λ xs. opportunity_in xs (map (styled a.styles) (drop place a.pieces)))
-      (turned (styled a.styles) (take place a.pieces) ∙ ap reverse (takes place) ∙ sym (turned (styled b.styles) (take place b.pieces)))
+      (turned (styled a.styles) (take place a.pieces) ∙ ap reverse (takes place)
+      ∙ sym (turned (styled b.styles) (take place b.pieces)))
       ∙ ap (opportunity_in (map (styled b.styles) (reverse (take place b.pieces)))) (drops place)
       ∙ sym (opportunity_is b.styles (reverse (take place b.pieces)) (drop place b.pieces))
 
@@ -52,7 +53,8 @@ module _ (a b : Runs) (same : shown a ≡ shown b) where
       ∙ sym (some_content_is b.styles (part b.pieces from to))
 
   aheads : (place : ℕ) → content_ahead (drop place a.pieces) ≡ content_ahead (drop place b.pieces)
-  aheads place = ahead_is a.styles (drop place a.pieces) ∙ ap ahead_in (drops place) ∙ sym (ahead_is b.styles (drop place b.pieces))
+  aheads place = ahead_is a.styles (drop place a.pieces) ∙ ap ahead_in (drops place)
+      ∙ sym (ahead_is b.styles (drop place b.pieces))
 
   counts : (from place : ℕ) → Counts a from place → Counts b from place
   counts from place c = record {
@@ -75,7 +77,8 @@ module _ (a b : Runs) (same : shown a ≡ shown b) where
     sums from to = sum_is a.styles faces (part a.pieces from to) ∙ ap (sum_in faces) (parts from to)
         ∙ sym (sum_is b.styles faces (part b.pieces from to))
 
-    spaces : (from to : ℕ) → last_space a.styles faces 0 (part a.pieces from to) ≡ last_space b.styles faces 0 (part b.pieces from to)
+    spaces : (from to : ℕ)
+        → last_space a.styles faces 0 (part a.pieces from to) ≡ last_space b.styles faces 0 (part b.pieces from to)
     spaces from to = last_space_is a.styles faces 0 (part a.pieces from to) ∙ ap (last_space_in faces 0) (parts from to)
         ∙ sym (last_space_is b.styles faces 0 (part b.pieces from to))
 
@@ -142,7 +145,7 @@ same_lines a b s t same faces width from (line ∷ lines) (some, is, more) = (
     is_width = is.is_width ∙ widths a b same.pieces faces from line.to;
     is_height = heights a b s t same faces from line.to line.h is.is_height;
   },
-  same_lines a b s t same faces width line.to lines more
+  same_lines a b s t same faces width line.to lines more,
 )
 
 pub say_again : (a b : Runs) (s t : ℕ) → SaySame a s b t → SaySame b t a s

@@ -15,7 +15,8 @@ use Rattle.inline_text.specs.WhiteSpace.{keeps, is_chance}
 use Rattle.inline_text.specs.Opportunities.{wrapped_by, hyphenated_by, wrap_or, may_wrap, is_collapsed_space, letter_or}
 use Rattle.inline_text.specs.Opportunities.{begins_with_letter, is_image, begins_with_image, is_soft_hyphen, lets_break}
 use Rattle.inline_text.specs.Opportunities.{is_opportunity}
-use Rattle.line_breaker.specs.Measures.{no_style, style_of, advance_in, is_invisible, width_of, width_sum, space_behind, last_space}
+use Rattle.line_breaker.specs.Measures.{no_style, style_of, advance_in, is_invisible, width_of, width_sum, space_behind}
+use Rattle.line_breaker.specs.Measures.{last_space}
 use Rattle.line_breaker.specs.Measures.{hyphen_of, last_hyphen, above_of, below_of, above_with, below_with, greatest_above}
 use Rattle.line_breaker.specs.Measures.{greatest_below}
 use Rattle.line_breaker.specs.Lines.{is_content, is_forced, stretch_len, content_ahead}
@@ -256,7 +257,8 @@ breaks_in (Image w h o) between = true
 breaks_in Forced between = false
 breaks_in Chance between = true
 
-breaks_is : (styles : List RunStyle) (p : Piece) (between : Bool) → lets_break styles p between ≡ breaks_in (styled styles p) between
+breaks_is : (styles : List RunStyle) (p : Piece) (between : Bool)
+    → lets_break styles p between ≡ breaks_in (styled styles p) between
 breaks_is styles (pieces.Char ch n) between =
     ap (λ t. t || ch == 0x200b || is_soft_hyphen styles (pieces.Char ch n) || (ch == 45 && between))
     (space_is styles (pieces.Char ch n))
@@ -277,7 +279,8 @@ opportunity_is styles (p ∷ before) after =
     let ahead = begins_letter_is styles before in
     let past = begins_letter_is styles after in
     let image = begins_image_is styles after in
-    let breaks = breaks_is styles p (begins_letter_in (map (styled styles) before) && begins_letter_in (map (styled styles) after)) in
+    let breaks = breaks_is styles p
+    (begins_letter_in (map (styled styles) before) && begins_letter_in (map (styled styles) after)) in
     cc
 
 -- ---- stretches
@@ -318,7 +321,8 @@ abbrev pub some_content_in : List Styled → Bool
 some_content_in [] = false
 some_content_in (x ∷ xs) = content_in x || some_content_in xs
 
-pub some_content_is : (styles : List RunStyle) (ps : List Piece) → list_any is_content ps ≡ some_content_in (map (styled styles) ps)
+pub some_content_is : (styles : List RunStyle) (ps : List Piece)
+    → list_any is_content ps ≡ some_content_in (map (styled styles) ps)
 some_content_is styles [] = refl
 some_content_is styles (p ∷ ps) = let one = content_is styles p in let more = some_content_is styles ps in cc
 

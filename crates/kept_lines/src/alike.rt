@@ -33,10 +33,21 @@ fn same_piece(piece: Piece, styles: &[RunStyle], other: Piece, others: &[RunStyl
     ensures { result ≡ true → styled styles.now piece ≡ styled others.now other }
 {
     match (piece, other) {
-        (Piece::Char { ch, style }, Piece::Char { ch: code, style: number }) => {
-            ch == code && same_style(styles.get(style as usize), others.get(number as usize))
-        }
-        (Piece::Image { w, h, style }, Piece::Image { w: width, h: height, style: number }) => {
+        (
+            Piece::Char { ch, style },
+            Piece::Char {
+                ch: code,
+                style: number,
+            },
+        ) => { ch == code && same_style(styles.get(style as usize), others.get(number as usize)) }
+        (
+            Piece::Image { w, h, style },
+            Piece::Image {
+                w: width,
+                h: height,
+                style: number,
+            },
+        ) => {
             w == width
                 && h == height
                 && same_style(styles.get(style as usize), others.get(number as usize))
@@ -78,5 +89,10 @@ pub fn say_same(runs: &Runs, strut: u32, other: &Runs, number: u32) -> bool
     let styles = runs.styles.as_slice();
     let others = other.styles.as_slice();
     same_style(styles.get(strut as usize), others.get(number as usize))
-        && same_pieces(runs.pieces.as_slice(), styles, other.pieces.as_slice(), others)
+        && same_pieces(
+            runs.pieces.as_slice(),
+            styles,
+            other.pieces.as_slice(),
+            others,
+        )
 }

@@ -1,11 +1,8 @@
 //! Keeping the lines of runs from one layout to the next.
 
-ghost use Rattle.std.specs.Prelude.{◌≡◌, ◌⊎◌, ◌<◌, ◌≤◌, ◌+◌, ◌-◌, ◌^◌, List as Items, IfOk, IfSome, OnOk, length, min};
-ghost use Rattle.std.specs.List.{All};
+ghost use Rattle.std.specs.Prelude.{◌≡◌, List as Items, IfOk, IfSome};
 ghost use Rattle.font_table.specs.declared.fonts.Face.{Face as OneFace};
-ghost use Rattle.line_breaker.specs.declared.line.Line.{Line as OneLine};
-ghost use Rattle.line_breaker.specs.Lines.{AreLines, CanBreak};
-ghost use Rattle.kept_lines.specs.Keeping.{AreTrue, AreItsLines, IsTrueRun};
+ghost use Rattle.kept_lines.specs.Keeping.{AreItsLines, IsTrueRun};
 
 use crate::alike::say_same;
 use crate::place::place_of;
@@ -53,7 +50,7 @@ fn lines_of(
 }
 
 impl KeptLines {
-    ghost use Rattle.std.specs.Prelude.{◌≡◌, ◌⊎◌, ◌<◌, ◌≤◌, ◌+◌, ◌-◌, ◌^◌, List as Items, IfOk, IfSome, OnOk, length, min};
+    ghost use Rattle.std.specs.Prelude.{◌≡◌, ◌⊎◌, ◌+◌, ◌-◌, ◌^◌, List as Items, IfOk, IfSome, min};
     ghost use Rattle.font_table.specs.declared.fonts.Face.{Face as OneFace};
     ghost use Rattle.line_breaker.specs.Lines.{CanBreak};
     ghost use Rattle.kept_lines.specs.Keeping.{AreTrue, AreItsLines, CanNarrow};

@@ -12,5 +12,7 @@ mod liner;
 mod place;
 mod run;
 mod store;
+#[cfg(test)]
+mod tests;
 
 pub use keeping::KeptLines;

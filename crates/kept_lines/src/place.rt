@@ -14,13 +14,19 @@ fn mixed(place: u64, number: u64) -> u64 {
 fn with_style(place: u64, style: Option<&RunStyle>) -> u64 {
     match style {
         None => place,
-        Some(style) => mixed(mixed(place, u64::from(style.face)), style.size ^ style.line.rotate_left(32)),
+        Some(style) => mixed(
+            mixed(place, u64::from(style.face)),
+            style.size ^ style.line.rotate_left(32),
+        ),
     }
 }
 
 fn with_piece(place: u64, piece: Piece, styles: &[RunStyle]) -> u64 {
     match piece {
-        Piece::Char { ch, style } => with_style(mixed(place, u64::from(ch)), styles.get(style as usize)),
+        Piece::Char { ch, style } => with_style(
+            mixed(place, u64::from(ch)),
+            styles.get(style as usize),
+        ),
         Piece::Image { w, h, style } => {
             with_style(mixed(mixed(place, w), h), styles.get(style as usize))
         }

@@ -1,6 +1,6 @@
 //! A run that is kept with its lines.
 
-ghost use Rattle.std.specs.Prelude.{◌≡◌, ◌<◌, ◌≤◌, ◌+◌, ◌-◌, ◌++◌, ◌∷◌, [], ◌^◌, ℕ, List as Items, IfOk, OnOk, Some, length, map, slice_get};
+ghost use Rattle.std.specs.Prelude.{◌≡◌, ◌<◌, ◌++◌, ◌∷◌, [], ◌^◌, List as Items, IfOk, OnOk, length, slice_get};
 ghost use Rattle.std.specs.List.{All};
 ghost use Rattle.inline_text.specs.WhiteSpace.{HasStyle};
 ghost use Rattle.inline_text.specs.declared.content.Piece.{Piece as OnePiece};
@@ -60,7 +60,8 @@ fn add_style(narrow: &mut Narrow, styles: &[RunStyle], number: u32) -> Result<()
     requires known { number < length styles.now }
     ensures pieces { narrow.new.runs.pieces ≡ narrow.old.runs.pieces }
     ensures more { OnOk result (narrowed.HasMore narrow.old.runs.styles narrow.new.runs.styles) }
-    ensures last { OnOk result (narrowed.EndsWith styles.now narrow.old.runs.styles narrow.old.last → narrowed.EndsWith styles.now narrow.new.runs.styles narrow.new.last) }
+    ensures last { OnOk result (narrowed.EndsWith styles.now narrow.old.runs.styles narrow.old.last →
+        narrowed.EndsWith styles.now narrow.new.runs.styles narrow.new.last) }
     ensures number { OnOk result (narrow.new.last ≡ number) }
 {
     if number != narrow.last {

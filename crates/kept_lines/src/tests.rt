@@ -1,5 +1,4 @@
-//! Tests: documents of one paragraph, one after the other, and how many runs were broken by then. Each character is half as wide as
-//! its font size.
+//! Tests: documents of one paragraph, one after the other, and how many runs were broken by then.
 
 ghost use Rattle.std.specs.Prelude.{◌≡◌, ◌<◌, ◌≤◌, ◌+◌, ◌^◌, IfOk, List as Items, length};
 ghost use Rattle.std.specs.List.{All};
@@ -34,7 +33,12 @@ fn style(face: FaceId, size: u32) -> RunStyle
 }
 
 /// The styles of a document whose paragraph has so many elements before it and this font size.
-fn styles_of(alloc: Global, face: FaceId, before: u32, size: u32) -> Result<Vec<RunStyle>, AllocError>
+fn styles_of(
+    alloc: Global,
+    face: FaceId,
+    before: u32,
+    size: u32,
+) -> Result<Vec<RunStyle>, AllocError>
     requires { size ≤ 2 ^ 24 }
     ensures count { IfOk result (λ styles. length styles.items ≡ before + 1) }
     ensures each { IfOk result (λ styles. (faces : Items Face) → face < length faces → All (IsStyle faces) styles.items) }
@@ -49,7 +53,8 @@ fn styles_of(alloc: Global, face: FaceId, before: u32, size: u32) -> Result<Vec<
 
 /// The pieces of a text in the style of this number.
 fn pieces_of(alloc: Global, text: &str, number: u32) -> Result<Vec<Piece>, AllocError>
-    ensures named { IfOk result (λ pieces. (styles : Items OneStyle) → number < length styles → All (HasStyle styles) pieces.items) }
+    ensures named { IfOk result (λ pieces. (styles : Items OneStyle) → number < length styles →
+        All (HasStyle styles) pieces.items) }
     ensures measurable { IfOk result (λ pieces. All IsMeasurable pieces.items) }
 {
     let mut pieces = Vec::new(alloc);
@@ -89,7 +94,12 @@ fn broken_after(
     Ok(kept.broken())
 }
 
-fn each_is_counted(rt: &impl Abort, alloc: Global, fonts: &Fonts, pages: &[Page]) -> Result<(), Fail> {
+fn each_is_counted(
+    rt: &impl Abort,
+    alloc: Global,
+    fonts: &Fonts,
+    pages: &[Page],
+) -> Result<(), Fail> {
     let mut kept = KeptLines::new(alloc);
     for page in pages {
         let found = broken_after(alloc, &mut kept, fonts, page)?;
@@ -133,6 +143,8 @@ const OTHERS: [Page; 4] = [
 ];
 
 #[test]
-fn another_width_or_style_is_another_run_and_older_documents_are_forgotten(rt: HostRuntime) -> Result<(), Fail> {
+fn another_width_or_style_is_another_run_and_older_documents_are_forgotten(
+    rt: HostRuntime,
+) -> Result<(), Fail> {
     each_is_counted(&rt, rt.alloc(), &fonts(rt.alloc())?, &OTHERS)
 }

@@ -6,6 +6,6 @@ use Rattle.kept_lines.proofs.tests.styles_of.Given as goal
 
 abbrev pub invariant-loop : goal.invariant-loop
 invariant-loop l = record {
-  count : length l.styles.items ≡ length l.yielded;
+  count : length l.styles.items ≡ l.counter;
   each : (faces : List Face) → l.face < length faces → All (IsStyle faces) l.styles.items;
 }
