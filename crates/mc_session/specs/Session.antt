@@ -1,18 +1,14 @@
 -- What a session is of: a document, its sheets in order, the faces of its fonts, a width and an available height, and how many
 -- runs it broke into lines so far; and what its answers say.
-use Rattle.std.specs.Prelude.{◌≡◌, ◌⊎◌, ℕ, ◌<◌, ◌≤◌, ◌^◌, List, length, Option, None, Result, Ok, Err}
+use Rattle.std.specs.Prelude.{◌≡◌, ℕ, ◌<◌, ◌^◌, List, Option}
 use Rattle.mc_base.specs.declared.refusal.Refusal.{Refusal}
 use Rattle.html_grammar.specs.declared.dom.Dom.{Dom}
-use Rattle.html_grammar.specs.Tree.{Forest, nodes_from}
 use Rattle.html_subset.specs.WellFormed.{IsWellFormed}
 use Rattle.css_cascade.specs.Attributes.{AllAreRead}
 use Rattle.css_data.specs.declared.rule.Sheet.{Sheet}
 use Rattle.font_table.specs.declared.fonts.Face.{Face}
-use Rattle.edit_script.specs.declared.script.Edit.{Edit}
-use Rattle.edit_script.specs.Edited.{edited}
 use Rattle.flow_data.specs.declared.data.FlowsData.{FlowsData}
 use Rattle.doc_flows.specs.Trees.{TreeSays, RefusesTree}
-use Rattle.result_writer.specs.Printed.{result_text, IsLongResult}
 
 pub record Asked : Type 0 where
   pub dom : Dom
@@ -53,14 +49,6 @@ pub record HasSameDocument (before after : Asked) : Type 0 where
 abbrev pub Says : Asked → FlowsData → Type 0
 Says asked d = TreeSays asked.dom asked.sheets asked.faces asked.width asked.height d
 
--- this text is its result, and has no more than so many bytes
-abbrev pub IsPrinted : Asked → (most : ℕ) → List ℕ → Type 0
-IsPrinted asked most text = (d : FlowsData) × Says asked d × (text ≡ result_text d) × (length text ≤ most)
-
 -- it has no flows for this reason: the first construct at an element that makes a box, or the first limit that they pass
 abbrev pub IsRefused : Asked → Refusal → Type 0
 IsRefused asked refusal = RefusesTree asked.dom asked.sheets asked.faces asked.width asked.height refusal
-
--- it has none, or its result has more bytes than that
-abbrev pub IsDenied : Asked → (most : ℕ) → Refusal → Type 0
-IsDenied asked most refusal = IsRefused asked refusal ⊎ ((d : FlowsData) × Says asked d × IsLongResult d most refusal)

@@ -50,7 +50,8 @@ impl Session {
     ghost use Rattle.dom_edits.specs.Sizes.{GrowsBy};
     ghost use Rattle.page_views.specs.Shown.{text_limit};
     ghost use Rattle.mc_session.specs.Edits.{StaysFormed};
-    ghost use Rattle.mc_session.specs.Session.{HasSame, HasSameDocument, IsPrinted, IsDenied, IsRefused, Says};
+    ghost use Rattle.mc_session.specs.Printed.{IsPrinted, IsDenied};
+    ghost use Rattle.mc_session.specs.Session.{HasSame, HasSameDocument, IsRefused, Says};
 
     /// A session of a document, with the sheets of the author and of its style elements in order. It takes no memory.
     pub fn begin(
