@@ -161,3 +161,12 @@ its_lines a b s t same faces width lines is =
       widths = is.widths;
       few = rw (← long) is.few;
     }
+
+-- a run without pieces has no lines
+pub no_lines : (runs : Runs) (faces : List Face) (width strut : ℕ) (lines : List Line) → length runs.pieces ≡ 0 → lines ≡ []
+    → AreItsLines runs faces width strut lines
+no_lines runs faces width strut lines none is = rw is (record {
+  cut = λ k d lt. absurd (omega (arith, lt, length-drop 0 runs.pieces, none));
+  widths = λ k d lt. absurd (omega (arith, lt));
+  few = omega arith;
+})
