@@ -1,6 +1,6 @@
 -- Runs that say the same have the same lines.
 use Rattle.std.proofs.Common.{◌≡◌, ℕ, ◌+ℤ◌, ◌+◌, ◌-◌, IsTrue, List, [], ◌∷◌}
-use Rattle.std.proofs.Common.{length, take, drop, map, sym, ap, subst, ◌∙◌}
+use Rattle.std.proofs.Common.{length, take, drop, map, sym, ap, subst, ◌∙◌, arith, length-drop}
 use Rattle.std.specs.Prelude.{reverse}
 use Rattle.std.specs.List.{All, list_any}
 use Rattle.std.proofs.lemmas.List.{drop-map, take-map, length-map}
