@@ -10,6 +10,8 @@
 mod editing;
 mod laws;
 mod session;
+#[cfg(test)]
+mod tests;
 
 pub use edit_script::{Edit, EditFault};
 pub use laws::edits_with_room_stay_formed;

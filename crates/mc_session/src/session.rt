@@ -85,7 +85,8 @@ impl Session {
     pub fn apply(&mut self, edit: &Edit) -> Result<(), EditFault>
         // Where the edit is done, the edited tree is well formed.
         requires { StaysFormed edit.now self.old.dom }
-        ensures done { (tree : Forest) → self.old.dom.nodes ≡ nodes_from None 0 tree → Answers edit.now tree self.new.dom.nodes result }
+        ensures done { (tree : Forest) → self.old.dom.nodes ≡ nodes_from None 0 tree →
+            Answers edit.now tree self.new.dom.nodes result }
         ensures unchanged { OnErr result (self.new ≡ self.old) }
         ensures others { HasSame self.old self.new }
         ensures grows { OnOk result (GrowsBy edit.now self.old.dom.nodes self.new.dom.nodes) }
