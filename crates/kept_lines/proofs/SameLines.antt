@@ -1,6 +1,6 @@
 -- Runs that say the same have the same lines.
 use Rattle.std.proofs.Common.{◌≡◌, ℕ, ◌+ℤ◌, ◌+◌, ◌-◌, IsTrue, List, [], ◌∷◌}
-use Rattle.std.proofs.Common.{length, take, drop, map, sym, ap, subst, ◌∙◌}
+use Rattle.std.proofs.Common.{length, take, drop, map, sym, ap, subst, ◌∙◌, arith, length-drop}
 use Rattle.std.specs.Prelude.{reverse}
 use Rattle.std.specs.List.{All, list_any}
 use Rattle.std.proofs.lemmas.List.{drop-map, take-map, length-map}
@@ -161,3 +161,12 @@ its_lines a b s t same faces width lines is =
       widths = is.widths;
       few = rw (← long) is.few;
     }
+
+-- a run without pieces has no lines
+pub no_lines : (runs : Runs) (faces : List Face) (width strut : ℕ) (lines : List Line) → length runs.pieces ≡ 0 → lines ≡ []
+    → AreItsLines runs faces width strut lines
+no_lines runs faces width strut lines none is = rw is (record {
+  cut = λ k d lt. absurd (omega (arith, lt, length-drop 0 runs.pieces, none));
+  widths = λ k d lt. absurd (omega (arith, lt));
+  few = omega arith;
+})

@@ -174,7 +174,7 @@ impl KeptLines {
         Ok(lines)
     }
 
-    /// The lines of a run, which `break_lines` makes unless they are kept.
+    /// The lines of a run, which `break_lines` makes unless they are kept. A run without pieces has none, and isn't given to it.
     pub fn kept_or_broken(
         &mut self,
         alloc: Global,
@@ -190,6 +190,9 @@ impl KeptLines {
         // The count is as before, or one run more was given to `break_lines`.
         ensures count { (self.new.broken ≡ self.old.broken) ⊎ (self.new.broken ≡ min (self.old.broken + 1) (2 ^ 64 - 1)) }
     {
+        if runs.pieces.is_empty() {
+            return Ok(List::new(alloc));
+        }
         let place = place_of(runs, width, strut);
         self.keep_on(place)?;
         match self.found_at(alloc, place, runs, width, strut)? {

@@ -113,7 +113,8 @@ fn fonts(alloc: Global) -> Result<Fonts, Refusal> {
     read_fonts(alloc, METRICS)
 }
 
-const EDITED: [Page; 3] = [
+const EDITED: [Page; 4] = [
+    (2, "", 1024, 5120, 0),
     (2, "aaaa", 1024, 5120, 1),
     (2, "aaaa bbbb", 1024, 5120, 2),
     (2, "aaaa bbbb", 1024, 5120, 2),

@@ -1,3 +1,7 @@
+use Rattle.std.proofs.Common.{◌∙◌, sym}
+use Rattle.std.specs.Cmp.{unsigned_Decides}
+use Rattle.std.specs.Prelude.{length}
+use Rattle.kept_lines.proofs.SameLines.{no_lines}
 use Rattle.kept_lines.proofs.keeping.KeptLines.kept_or_broken.Goals as goal
 
 pub returns-in_err-keep_on-clause-kept : goal.returns-in_err-keep_on-clause-kept
@@ -15,3 +19,8 @@ returns-in-Some-clause-lines c =
 
 pub returns-in-Some-clause-kept : goal.returns-in-Some-clause-kept
 returns-in-Some-clause-kept c = c.keep_on.ensures.kept c.args.fonts.now c.requires.kept
+
+pub returns-then-is_empty-clause-lines : goal.returns-then-is_empty-clause-lines
+returns-then-is_empty-clause-lines c =
+    no_lines c.args.runs.now c.args.fonts.now c.args.width c.args.strut c.new.result
+    ((unsigned_Decides (length c.args.runs.now.pieces) 0).0 (sym c.is_empty.ensures ∙ c.if-is_empty.true)) c.new.ensures

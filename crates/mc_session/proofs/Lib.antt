@@ -1,0 +1,3 @@
+mod Kept
+pub mod Room
+pub mod Denied
