@@ -1,16 +1,15 @@
 -- Fragments made one after another of others.
 use Rattle.std.proofs.Common.{◌≡◌, ℕ, List, [], ◌∷◌, ◌++◌, Option, Some, None, refl, sym, subst, ap}
-use Rattle.mc_base.specs.PlainTree.{PlainTree, PlainTrees, atom, piece, row_piece, column, no_trees, more_trees}
+use Rattle.mc_base.specs.PlainTree.{PlainTree, PlainTrees, no_trees, more_trees}
 use Rattle.mc_base.specs.declared.fragment.FragId.{FragId}
-use Rattle.mc_base.specs.declared.fragment.Node.{Node}
-use Rattle.mc_base.specs.declared.fragment.Node.TheVariants.{Atom, Piece, RowPiece, Column}
-use Rattle.flow_data.specs.declared.data.FlowsData.{FlowsData}
+use Rattle.flow_list.specs.Data.{FlowsData}
 use Rattle.frag_pool.specs.Growing.{Grows}
-use Rattle.frag_pool.specs.Nodes.{Nodes, node_of, node_with, ids_of}
+use Rattle.frag_pool.specs.Nodes.{Nodes}
 use Rattle.frag_pool.specs.Standing.{StandsFor, AllStandFor}
 use Rattle.frag_pool.proofs.Stays.{stands-growing}
-use Rattle.piece_data.specs.Lowering.{Flags, all_lowered_in, columns_lowered, lowered_in}
-use Rattle.tree_lowering.specs.Lower.{AreMadeOf, IsMadeOf, cut_of, lower, room_in}
+use Rattle.piece_data.specs.Lowering.{Flags, lowered_in}
+use Rattle.tree_lowering.specs.Lower.{AreMadeOf, IsMadeOf, all_lower, lower}
+use Rattle.tree_lowering.specs.declared.cut.Within.{Within}
 
 pub one-grows : (old p q : Nodes) (low : PlainTree → PlainTree) (id made : FragId) → Grows p q → IsMadeOf old p low id made →
     IsMadeOf old q low id made
@@ -51,14 +50,13 @@ same-trees p q (i ∷ ids) (m ∷ made) no_trees are stand = absurd stand
 same-trees p q (i ∷ ids) (m ∷ made) (more_trees t ts) are stand =
     (are.0 t stand.0, same-trees p q ids made ts are.1 stand.1)
 
-pub lowered-trees : (d : FlowsData) (flags : Flags) (n room : ℕ) (p q : Nodes) (ids made : List FragId) (trees : PlainTrees) →
-    AreMadeOf p q (lower d flags n room) ids made → AllStandFor p ids trees →
-    AllStandFor q made (all_lowered_in d flags (columns_lowered d flags n) room trees)
+pub lowered-trees : (d : FlowsData) (flags : Flags) (at : Within) (p q : Nodes) (ids made : List FragId) (trees : PlainTrees) →
+    AreMadeOf p q (lower d flags at) ids made → AllStandFor p ids trees → AllStandFor q made (all_lower d flags at trees)
 unfolding StandsFor lowered_in
-lowered-trees d flags n room p q [] [] no_trees are stand = tt
-lowered-trees d flags n room p q [] [] (more_trees t ts) are stand = absurd stand
-lowered-trees d flags n room p q [] (m ∷ made) ts are stand = absurd are
-lowered-trees d flags n room p q (i ∷ ids) [] ts are stand = absurd are
-lowered-trees d flags n room p q (i ∷ ids) (m ∷ made) no_trees are stand = absurd stand
-lowered-trees d flags n room p q (i ∷ ids) (m ∷ made) (more_trees t ts) are stand =
-    (are.0 t stand.0, lowered-trees d flags n room p q ids made ts are.1 stand.1)
+lowered-trees d flags at p q [] [] no_trees are stand = tt
+lowered-trees d flags at p q [] [] (more_trees t ts) are stand = absurd stand
+lowered-trees d flags at p q [] (m ∷ made) ts are stand = absurd are
+lowered-trees d flags at p q (i ∷ ids) [] ts are stand = absurd are
+lowered-trees d flags at p q (i ∷ ids) (m ∷ made) no_trees are stand = absurd stand
+lowered-trees d flags at p q (i ∷ ids) (m ∷ made) (more_trees t ts) are stand =
+    (are.0 t stand.0, lowered-trees d flags at p q ids made ts are.1 stand.1)

@@ -1,14 +1,27 @@
-//! Cut pieces, and the room in them.
+//! Cut pieces and stacks among nodes, and the room in nodes.
 
-ghost use Rattle.std.specs.Prelude.{◌≡◌, ◌<◌, true, IfSome, length};
-ghost use Rattle.flow_data.specs.Flows.{flow_in, flow_of, item_of};
+ghost use Rattle.std.specs.Prelude.{◌≡◌, ◌<◌, ◌-◌, true, length};
+ghost use Rattle.flow_data.specs.Flows.{box_of, flow_in, flow_of, item_of};
 ghost use Rattle.flow_list.specs.RowHeights.{fill_limit};
 ghost use Rattle.flow_list.specs.Tokens.{IsPlaceBefore};
 ghost use Rattle.piece_data.specs.Lowering.{is_flagged, made_height as made_height_of};
-ghost use Rattle.tree_lowering.specs.Lower.{AreRowsInStacks, cut_of, room_in as room_in_node};
+ghost use Rattle.tree_lowering.specs.Lower.{AreRowsInStacks, cut_of, inside as inside_node, stack_in as stack_in_node};
+ghost use Rattle.tree_lowering.specs.Lower.{row_room as room_of_row, stack_of_item};
 
-use flow_list::{Counts, Flows, Item, LaidRow, box_at, flow_counts, item_at, item_count, row_at};
+use flow_list::{
+    AtomKind, Counts, Flows, Item, LaidRow, box_at, flow_counts, item_at, item_count, row_at,
+};
 use mc_base::{Node, Token, Units};
+
+/// Where a fragment stands: its flow, and the room in its column or stack, in units, less what the boxes around it have below
+/// again. At most `nested` flagged rows stand one inside another in a cut piece there, and fragments are entered `depth` deep.
+#[derive(Clone, Copy)]
+pub struct Within {
+    pub flow: u32,
+    pub room: Units,
+    pub nested: u32,
+    pub depth: u32,
+}
 
 /// A cut piece of a flagged row: the row, where the piece begins, and where it stands in its column, in units.
 #[derive(Drop)]
@@ -77,23 +90,50 @@ fn made_height(flows: &Flows, rows: &[LaidRow], row: u32, height: Units) -> Unit
     found
 }
 
-/// The room in a node that stands in a column with this room.
-pub fn room_in(flows: &Flows, rows: &[LaidRow], room: Units, node: &Node) -> Units
+/// The room in a piece of a row that stands where there is this room.
+fn row_room(
+    flows: &Flows,
+    rows: &[LaidRow],
+    room: Units,
+    row: u32,
+    y: Units,
+    height: Option<Units>,
+) -> Units
     requires { AreRowsInStacks flows.now rows.now }
-    ensures { result ≡ room_in_node flows.now room node.now }
+    ensures { result ≡ room_of_row flows.now room row y height }
+{
+    match height {
+        Some(height) => made_height(flows, rows, row, height),
+        None => room.saturating_sub(y),
+    }
+}
+
+/// The room in a box that stands where there is this room.
+fn box_room(flows: &Flows, room: Units, owner: u32) -> Units
+    ensures { result ≡ room - (box_of flows.now owner).bottom }
+{
+    if owner >= flow_counts(flows).boxes {
+        return room;
+    }
+    room.saturating_sub(box_at(flows, owner).bottom)
+}
+
+/// Where that stands which is in a node.
+pub fn inside(flows: &Flows, rows: &[LaidRow], at: Within, node: &Node) -> Within
+    requires { AreRowsInStacks flows.now rows.now }
+    ensures { result ≡ inside_node flows.now at node.now }
 {
     match node {
-        Node::Piece { owner, .. } => {
-            if *owner >= flow_counts(flows).boxes {
-                return room;
-            }
-            room.saturating_sub(box_at(flows, *owner).bottom)
-        }
-        Node::RowPiece { row, y, height, .. } => match height {
-            Some(height) => made_height(flows, rows, *row, *height),
-            None => room.saturating_sub(*y),
+        Node::Atom { .. } => at,
+        Node::Piece { owner, .. } => Within {
+            room: box_room(flows, at.room, *owner),
+            ..at
         },
-        _ => room,
+        Node::RowPiece { row, y, height, .. } => Within {
+            room: row_room(flows, rows, at.room, *row, *y, *height),
+            ..at
+        },
+        Node::Column { flow, .. } => Within { flow: *flow, ..at },
     }
 }
 
@@ -109,6 +149,42 @@ fn item_in(flows: &Flows, flow: u32, k: u32) -> Item
         folds: 0,
     };
     item_at(flows, flow, k, &mut tally)
+}
+
+/// The stack of an item that is a container with a height.
+fn stack_of(item: Item) -> Option<u32>
+    ensures { result ≡ stack_of_item item }
+{
+    match item {
+        Item::Atom {
+            height: _,
+            kind: AtomKind::Bounded { stack, .. },
+        } => Some(stack),
+        _ => None,
+    }
+}
+
+/// The stack of item `k` of a flow; none where there is no such item.
+fn stack_at(flows: &Flows, flow: u32, k: u32) -> Option<u32>
+    ensures { result ≡ stack_of_item (item_of (flow_of flows.now flow) k) }
+{
+    if flow >= flow_counts(flows).flows {
+        return None;
+    }
+    if k >= item_count(flows, flow) {
+        return None;
+    }
+    stack_of(item_in(flows, flow, k))
+}
+
+/// The stack that a node of a flow is.
+pub fn stack_in(flows: &Flows, flow: u32, node: &Node) -> Option<u32>
+    ensures { result ≡ stack_in_node flows.now flow node.now }
+{
+    match node {
+        Node::Atom { item, .. } => stack_at(flows, flow, *item),
+        _ => None,
+    }
 }
 
 /// Whether a place in a row is one before its end. At most `deep` rows are entered.

@@ -6,12 +6,13 @@ ghost use Rattle.flow_data.specs.Flows.{flow_in};
 ghost use Rattle.flow_data.specs.declared.data.FlowsData.{FlowsData};
 ghost use Rattle.flow_list.specs.Tokens.{IsPlaceBefore};
 ghost use Rattle.flow_list.specs.declared.book.SizeEntry.{SizeEntry};
-ghost use Rattle.frag_pool.specs.Growing.{Grows, KeptGrows};
+ghost use Rattle.frag_pool.specs.Growing.{Grows};
 ghost use Rattle.frag_pool.specs.Nodes.{Nodes};
 ghost use Rattle.frag_pool.specs.Standing.{StandsFor};
 ghost use Rattle.inner_rows.specs.TrueBook.{AreTrue, BookAfter, Extends};
 ghost use Rattle.piece_data.specs.LeastPiece.{least_height};
 ghost use Rattle.piece_data.specs.Lowering.{columns_at};
+ghost use Rattle.tree_lowering.specs.Met.{Met, piece_met, stack_met};
 
 use flow_list::{Book, Flows};
 use frag_pool::Pool;
@@ -28,6 +29,9 @@ pub struct LowPiece {
 pub trait Lowerer {
     // what it keeps is true of these flows, this book and this region
     ghost is_true: { Self → FlowsData → List SizeEntry → Nodes → Type 0 };
+
+    // the pieces that it lowered and the stacks that it was told of, in order
+    ghost told: { Self → List Met };
 
     /// Lowers a piece of a row that begins at a place before its end and is cut at a height, in units. What was live in the
     /// region stays as it was, also where there is no memory; the book may have further true entries.
@@ -47,11 +51,17 @@ pub trait Lowerer {
         ensures height { IfOk result (λ out. out.height ≡ least_height flows.now row from.now height) }
         ensures frag { IfOk result (λ out. StandsFor pool.new out.frag
             (row_piece row from.now 0 (Some out.height) (columns_at flows.now row from.now out.height))) }
+        ensures told { OnOk result (told self.new ≡ told self.old ++ piece_met row from.now height ∷ []) }
         ensures engine { is_true self.new flows.now book.new pool.new }
         ensures book { BookAfter flows.now book.old book.new }
         ensures grown { Grows pool.old pool.new };
 
-    // what it keeps stays true where the book and the kept nodes grow
+    /// Tells that a stack stands in the tree.
+    fn pass_stack(&mut self, stack: u32) -> Result<(), NoMemory>
+        ensures told { OnOk result (told self.new ≡ told self.old ++ stack_met stack ∷ []) }
+        ensures engine { (d : FlowsData) (b : List SizeEntry) (p : Nodes) → is_true self.old d b p → is_true self.new d b p };
+
+    // what it keeps stays true where the book and the region grow
     ghost stays: { (e : Self) (d : FlowsData) (b c : List SizeEntry) (p q : Nodes) → is_true e d b p → Extends b c →
-        KeptGrows p q → is_true e d c q };
+        Grows p q → is_true e d c q };
 }

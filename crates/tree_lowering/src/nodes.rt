@@ -1,20 +1,33 @@
 //! Nodes with other ids in them.
 
-ghost use Rattle.std.specs.Prelude.{◌≡◌, IfOk};
-ghost use Rattle.frag_pool.specs.Nodes.{node_with};
+ghost use Rattle.std.specs.Prelude.{◌≡◌, All, IfOk, Some, true};
+ghost use Rattle.frag_pool.specs.Growing.{Grows};
+ghost use Rattle.frag_pool.specs.Nodes.{IsLive, ids_of, node_of, node_with};
+ghost use Rattle.mc_base.specs.declared.fragment.Node.{Node as AnyNode};
 
+use frag_maker::{add_node, ids_in};
+use frag_pool::Pool;
 use mc_base::{FragId, List, NoMemory, Node};
 use std::alloc::Global;
 
 /// These ids once more.
-pub fn copied(alloc: Global, ids: &[FragId]) -> Result<List<FragId>, NoMemory>
+fn copied(alloc: Global, ids: &[FragId]) -> Result<List<FragId>, NoMemory>
     ensures { IfOk result (λ copy. copy ≡ ids.now) }
 {
     Ok(List::of(ids.iter().copied().collect(alloc)?))
 }
 
+/// The ids in the node of a live one.
+pub fn ids_within(alloc: Global, pool: &Pool, id: FragId) -> Result<List<FragId>, NoMemory>
+    requires { IsLive pool.now id }
+    ensures ids { IfOk result (λ ids. (node : AnyNode) → node_of pool.now id ≡ Some node → ids ≡ ids_of node) }
+    ensures live { IfOk result (All (IsLive pool.now)) }
+{
+    copied(alloc, ids_in(pool.get(id)))
+}
+
 /// A node with these ids in place of its own.
-pub fn with_ids(node: &Node, ids: List<FragId>) -> Node
+fn with_ids(node: &Node, ids: List<FragId>) -> Node
     ensures { result ≡ node_with node.now ids }
 {
     match node {
@@ -59,4 +72,26 @@ pub fn with_ids(node: &Node, ids: List<FragId>) -> Node
             kids: ids,
         },
     }
+}
+
+/// Whether these are the same ids.
+fn are_same(ids: &[FragId], others: &[FragId]) -> bool
+    ensures { result ≡ true → ids.now ≡ others.now }
+{
+    ids == others
+}
+
+/// The node of a live id with these ids in place of its own: the same id where they are the same, else that of a new trial node.
+pub fn with_others(pool: &mut Pool, id: FragId, ids: List<FragId>) -> Result<FragId, NoMemory>
+    requires live { IsLive pool.old id }
+    requires others { All (IsLive pool.old) ids }
+    ensures node { (node : AnyNode) → node_of pool.old id ≡ Some node →
+        IfOk result (λ made. node_of pool.new made ≡ Some (node_with node ids)) }
+    ensures grown { Grows pool.old pool.new }
+{
+    if are_same(ids_in(pool.get(id)), ids.as_slice()) {
+        return Ok(id);
+    }
+    let node = with_ids(pool.get(id), ids);
+    add_node(pool, node)
 }

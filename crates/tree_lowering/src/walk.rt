@@ -1,27 +1,32 @@
 //! The walk over a tree, from the outermost piece inward.
 
-ghost use Rattle.std.specs.Prelude.{◌≡◌, ◌<◌, ◌-◌, All, IfOk, length, None, Some, true};
+ghost use Rattle.std.specs.Prelude.{◌≡◌, ◌<◌, ◌-◌, All, IfOk, OnOk, length, None, Some, true};
 ghost use Rattle.mc_base.specs.PlainTree.{PlainTrees, row_piece};
+ghost use Rattle.mc_base.specs.declared.fragment.Node.{Node as AnyNode};
 ghost use Rattle.frag_pool.specs.Growing.{Grows};
 ghost use Rattle.frag_pool.specs.Nodes.{IsLive, node_of};
-ghost use Rattle.mc_base.specs.declared.fragment.Node.{Node};
 ghost use Rattle.frag_pool.specs.Standing.{StandsFor};
 ghost use Rattle.inner_rows.specs.TrueBook.{AreTrue, BookAfter};
 ghost use Rattle.piece_data.specs.Lowering.{is_flagged};
-ghost use Rattle.tree_lowering.specs.Lower.{AreMadeOf, AreRowsInStacks, IsMadeOf, cut_of, lower, lower_inside};
+ghost use Rattle.tree_lowering.specs.Lower.{AreMadeOf, AreRowsInStacks, IsMadeOf, all_pieces, cut_of, lower, lower_inside};
+ghost use Rattle.tree_lowering.specs.Lower.{pieces, pieces_inside};
+ghost use Rattle.tree_lowering.specs.Met.{Meets, MeetsTree, MeetsTrees};
 
-use crate::cut::{Cut, cut_in, is_before_end, room_in};
+use crate::cut::{Cut, Within, cut_in, inside, is_before_end, stack_in};
 use crate::lowerer::Lowerer;
-use crate::nodes::{copied, with_ids};
-use flow_list::{Book, Flows, LaidRow};
-use frag_maker::{add_node, ids_in};
+use crate::nodes::{ids_within, with_others};
+use flow_list::{Book, Flows, LaidRow, flow_counts, row_at};
+use frag_maker::add_node;
 use frag_pool::Pool;
 use mc_base::{FragId, List, NoMemory, Node, Units};
 use std::alloc::Global;
 
-/// Lowers the cut pieces of flagged rows in a fragment that stands in a column with this room: what is made of it is a fragment of
-/// the region. At most `nested` flagged rows stand one inside another in a piece. Nodes are entered `depth` deep; where there are
-/// more it answers out of memory.
+/// Lowers the cut pieces of flagged rows in a fragment that stands here, from the outermost inward: what is made of it is a
+/// fragment of the region, and the lowerer is told of the pieces and of the stacks in it, in order. `rows` are the rows directly
+/// in stacks. What was live stays as it was, also when out of memory.
+///
+/// Out of memory is answered also where fragments stand deeper in each other than `at` says, or where a piece begins at no place
+/// of its row, as none of a layout does.
 #[cycle(lowering)]
 pub fn lower_tree<L: Lowerer>(
     alloc: Global,
@@ -29,54 +34,36 @@ pub fn lower_tree<L: Lowerer>(
     flows: &Flows,
     flags: &[bool],
     rows: &[LaidRow],
-    depth: u32,
-    nested: u32,
-    room: Units,
+    at: Within,
     id: FragId,
     book: &mut Book,
     pool: &mut Pool,
 ) -> Result<FragId, NoMemory>
     requires live { IsLive pool.old id }
-    requires flags { length flags.now ≡ length flows.now.rows }
     requires rows { AreRowsInStacks flows.now rows.now }
     requires engine { L.is_true lowerer.old flows.now book.old pool.old }
     requires book { AreTrue flows.now book.old }
     ensures live { IfOk result (IsLive pool.new) }
-    ensures tree { IfOk result (IsMadeOf pool.old pool.new (lower flows.now flags.now nested room) id) }
+    ensures tree { IfOk result (IsMadeOf pool.old pool.new (lower flows.now flags.now at) id) }
+    ensures told { OnOk result (MeetsTree pool.old (L.told lowerer.old) (L.told lowerer.new) (pieces flows.now flags.now at) id) }
     ensures engine { L.is_true lowerer.new flows.now book.new pool.new }
     ensures book { BookAfter flows.now book.old book.new }
     ensures grown { Grows pool.old pool.new }
 {
-    if depth == 0 {
+    if at.depth == 0 {
         return Err(NoMemory);
     }
+    let at = Within {
+        depth: at.depth - 1,
+        ..at
+    };
     if let Some(cut) = cut_in(flags, pool.get(id)) {
         return lower_cut(
-            alloc,
-            lowerer,
-            flows,
-            flags,
-            rows,
-            depth - 1,
-            nested,
-            room,
-            cut,
-            book,
-            pool,
+            alloc, lowerer, flows, flags, rows, at, cut, book, pool,
         );
     }
     lower_node(
-        alloc,
-        lowerer,
-        flows,
-        flags,
-        rows,
-        depth - 1,
-        nested,
-        room,
-        id,
-        book,
-        pool,
+        alloc, lowerer, flows, flags, rows, at, id, book, pool,
     )
 }
 
@@ -88,42 +75,41 @@ fn lower_node<L: Lowerer>(
     flows: &Flows,
     flags: &[bool],
     rows: &[LaidRow],
-    depth: u32,
-    nested: u32,
-    room: Units,
+    at: Within,
     id: FragId,
     book: &mut Book,
     pool: &mut Pool,
 ) -> Result<FragId, NoMemory>
     requires live { IsLive pool.old id }
-    requires cut { (node : Node) → node_of pool.old id ≡ Some node → cut_of flags.now node ≡ None }
-    requires flags { length flags.now ≡ length flows.now.rows }
+    requires cut { (node : AnyNode) → node_of pool.old id ≡ Some node → cut_of flags.now node ≡ None }
     requires rows { AreRowsInStacks flows.now rows.now }
     requires engine { L.is_true lowerer.old flows.now book.old pool.old }
     requires book { AreTrue flows.now book.old }
     ensures live { IfOk result (IsLive pool.new) }
-    ensures tree { IfOk result (IsMadeOf pool.old pool.new (lower flows.now flags.now nested room) id) }
+    ensures tree { IfOk result (IsMadeOf pool.old pool.new (lower flows.now flags.now at) id) }
+    ensures told { OnOk result (MeetsTree pool.old (L.told lowerer.old) (L.told lowerer.new) (pieces flows.now flags.now at) id) }
     ensures engine { L.is_true lowerer.new flows.now book.new pool.new }
     ensures book { BookAfter flows.now book.old book.new }
     ensures grown { Grows pool.old pool.new }
 {
-    let inside = room_in(flows, rows, room, pool.get(id));
-    let ids = copied(alloc, ids_in(pool.get(id)))?;
+    if let Some(stack) = stack_in(flows, at.flow, pool.get(id)) {
+        lowerer.pass_stack(stack)?;
+        return Ok(id);
+    }
+    let place = inside(flows, rows, at, pool.get(id));
+    let ids = ids_within(alloc, pool, id)?;
     let made = lower_all(
         alloc,
         lowerer,
         flows,
         flags,
         rows,
-        depth,
-        nested,
-        inside,
+        place,
         ids.as_slice(),
         book,
         pool,
     )?;
-    let node = with_ids(pool.get(id), made);
-    add_node(pool, node)
+    with_others(pool, id, made)
 }
 
 /// Lowers the cut pieces in fragments that stand in one.
@@ -134,34 +120,34 @@ fn lower_all<L: Lowerer>(
     flows: &Flows,
     flags: &[bool],
     rows: &[LaidRow],
-    depth: u32,
-    nested: u32,
-    room: Units,
+    at: Within,
     ids: &[FragId],
     book: &mut Book,
     pool: &mut Pool,
 ) -> Result<List<FragId>, NoMemory>
     requires live { All (IsLive pool.old) ids.now }
-    requires flags { length flags.now ≡ length flows.now.rows }
     requires rows { AreRowsInStacks flows.now rows.now }
     requires engine { L.is_true lowerer.old flows.now book.old pool.old }
     requires book { AreTrue flows.now book.old }
     ensures live { IfOk result (All (IsLive pool.new)) }
-    ensures trees { IfOk result (AreMadeOf pool.old pool.new (lower flows.now flags.now nested room) ids.now) }
+    ensures trees { IfOk result (AreMadeOf pool.old pool.new (lower flows.now flags.now at) ids.now) }
+    ensures told { OnOk result (MeetsTrees pool.old (L.told lowerer.old) (L.told lowerer.new)
+        (all_pieces flows.now flags.now at) ids.now) }
     ensures engine { L.is_true lowerer.new flows.now book.new pool.new }
     ensures book { BookAfter flows.now book.old book.new }
     ensures grown { Grows pool.old pool.new }
 {
     let mut made = List::new(alloc);
     for id in ids {
-        made.push(lower_tree(
-            alloc, lowerer, flows, flags, rows, depth, nested, room, *id, book, pool,
-        )?)?;
+        let one = lower_tree(
+            alloc, lowerer, flows, flags, rows, at, *id, book, pool,
+        )?;
+        made.push(one)?;
     }
     Ok(made)
 }
 
-/// Lowers the cut pieces in the columns of a piece that was lowered to this height.
+/// Lowers the cut pieces in the columns of a piece of a row that was lowered to this height.
 #[cycle(lowering)]
 fn lower_columns<L: Lowerer>(
     alloc: Global,
@@ -169,36 +155,42 @@ fn lower_columns<L: Lowerer>(
     flows: &Flows,
     flags: &[bool],
     rows: &[LaidRow],
-    depth: u32,
-    nested: u32,
+    at: Within,
+    row: u32,
     height: Units,
     columns: List<FragId>,
     book: &mut Book,
     pool: &mut Pool,
 ) -> Result<List<FragId>, NoMemory>
+    requires row { row < length flows.now.rows }
     requires live { All (IsLive pool.old) columns }
-    requires flags { length flags.now ≡ length flows.now.rows }
     requires rows { AreRowsInStacks flows.now rows.now }
     requires engine { L.is_true lowerer.old flows.now book.old pool.old }
     requires book { AreTrue flows.now book.old }
     ensures live { IfOk result (All (IsLive pool.new)) }
-    ensures trees { IfOk result (AreMadeOf pool.old pool.new (lower_inside flows.now flags.now nested height) columns) }
+    ensures trees { IfOk result (AreMadeOf pool.old pool.new (lower_inside flows.now flags.now at.nested row height) columns) }
+    ensures told { OnOk result (MeetsTrees pool.old (L.told lowerer.old) (L.told lowerer.new)
+        (pieces_inside flows.now flags.now at.nested row height) columns) }
     ensures engine { L.is_true lowerer.new flows.now book.new pool.new }
     ensures book { BookAfter flows.now book.old book.new }
     ensures grown { Grows pool.old pool.new }
 {
-    if nested == 0 {
+    if at.nested == 0 {
         return Ok(columns);
     }
+    let place = Within {
+        flow: row_at(flows, row).flow,
+        room: height,
+        nested: at.nested - 1,
+        depth: at.depth,
+    };
     lower_all(
         alloc,
         lowerer,
         flows,
         flags,
         rows,
-        depth,
-        nested - 1,
-        height,
+        place,
         columns.as_slice(),
         book,
         pool,
@@ -213,40 +205,39 @@ fn lower_cut<L: Lowerer>(
     flows: &Flows,
     flags: &[bool],
     rows: &[LaidRow],
-    depth: u32,
-    nested: u32,
-    room: Units,
+    at: Within,
     cut: Cut,
     book: &mut Book,
     pool: &mut Pool,
 ) -> Result<FragId, NoMemory>
     requires flagged { is_flagged flags.now cut.row ≡ true }
-    requires flags { length flags.now ≡ length flows.now.rows }
     requires rows { AreRowsInStacks flows.now rows.now }
     requires engine { L.is_true lowerer.old flows.now book.old pool.old }
     requires book { AreTrue flows.now book.old }
     ensures live { IfOk result (IsLive pool.new) }
-    ensures tree { IfOk result (λ made. (columns : PlainTrees) →
-        StandsFor pool.new made (lower flows.now flags.now nested room (row_piece cut.row cut.from cut.y None columns))) }
+    ensures tree { (columns : PlainTrees) → IfOk result (λ made.
+        StandsFor pool.new made (lower flows.now flags.now at (row_piece cut.row cut.from cut.y None columns))) }
+    ensures told { (columns : PlainTrees) → OnOk result (Meets (L.told lowerer.old) (L.told lowerer.new)
+        (λ stacks. pieces flows.now flags.now at stacks (row_piece cut.row cut.from cut.y None columns))) }
     ensures engine { L.is_true lowerer.new flows.now book.new pool.new }
     ensures book { BookAfter flows.now book.old book.new }
     ensures grown { Grows pool.old pool.new }
 {
-    // No row stands deeper than three rows, which is not known of a tree here.
-    if !is_before_end(flows, cut.row, &cut.from, 4) {
+    // No row stands deeper than in three.
+    if cut.row >= flow_counts(flows).rows || !is_before_end(flows, cut.row, &cut.from, 4) {
         return Err(NoMemory);
     }
-    let height = room.saturating_sub(cut.y);
+    let height = at.room.saturating_sub(cut.y);
     let found = lowerer.lower(flows, cut.row, &cut.from, height, book, pool)?;
-    let ids = copied(alloc, ids_in(pool.get(found.frag)))?;
+    let ids = ids_within(alloc, pool, found.frag)?;
     let columns = lower_columns(
         alloc,
         lowerer,
         flows,
         flags,
         rows,
-        depth,
-        nested,
+        at,
+        cut.row,
         found.height,
         ids,
         book,
