@@ -10,7 +10,7 @@ use Rattle.frag_pool.specs.Standing.{StandsFor, AllStandFor}
 use Rattle.frag_pool.proofs.Stays.{stands-growing}
 use Rattle.piece_data.specs.Lowering.{CutPiece, Flags, pieces_in}
 use Rattle.tree_lowering.specs.Lower.{all_pieces, pieces}
-use Rattle.tree_lowering.specs.Met.{Met, MeetsTree, MeetsTrees, all_met}
+use Rattle.tree_lowering.specs.Met.{Met, MeetsTree, MeetsTrees, all_met, one_met}
 use Rattle.tree_lowering.specs.declared.cut.Within.{Within}
 
 -- Trees are left, the pieces of which are those that are still to be met.
@@ -62,3 +62,10 @@ met-all d flags at p old new ids so_far = λ trees stand stacks.
     let l = so_far trees stand in
     sym (append-nil (all_met stacks new))
     ∙ ap (λ xs. all_met stacks new ++ xs) (sym (none-left d flags at p l.left l.stand stacks)) ∙ l.met stacks
+
+pub met-push : (stacks : ℕ → List CutPiece) (old : List Met) (m : Met) →
+    all_met stacks (old ++ m ∷ []) ≡ all_met stacks old ++ one_met stacks m
+met-push stacks [] m = append-nil (one_met stacks m)
+met-push stacks (x ∷ old) m =
+    ap (λ xs. one_met stacks x ++ xs) (met-push stacks old m)
+    ∙ sym (append_assoc (one_met stacks x) (all_met stacks old) (one_met stacks m))

@@ -108,7 +108,7 @@ node-remade d flags at p id node is uncut (piece b starts y bottom kids) s =
     (piece-remade d flags at p b starts y bottom s.0 kids s.2)
 node-remade d flags at p id node is uncut (row_piece r from y None kids) s =
     let e : RowPiece r from y None s.0 ≡ node = cc (is, s.1) in
-    let none : cut_of flags (RowPiece r from y None s.0) ≡ None = rw e uncut in
+    let none : cut_of flags (RowPiece r from y None s.0) ≡ None = subst (λ n. cut_of flags n ≡ None) (sym e) uncut in
     subst (λ n. Remade d flags at p n (row_piece r from y None kids)) e
     (filled-remade d flags at p r from y s.0 kids (not-flagged (is_flagged flags r) _ none) s.2)
 node-remade d flags at p id node is uncut (row_piece r from y (Some height) kids) s =
@@ -119,3 +119,70 @@ node-remade d flags at p id node is uncut (column f from end extent kids) s =
     let e : Column f from end extent s.0 ≡ node = cc (is, s.1) in
     subst (λ n. Remade d flags at p n (column f from end extent kids)) e
     (column-remade d flags at p f from end extent s.0 kids s.2)
+
+-- ---- a stack in an atom
+
+stack-atom : (d : FlowsData) (flags : Flags) (at : Within) (k y number : ℕ) →
+    stack_of_item (item_of (flow_of d at.flow) k) ≡ Some number →
+    (stacks : ℕ → List CutPiece) → pieces d flags at stacks (atom k y) ≡ stacks number
+unfolding pieces_in
+stack-atom d flags at k y number is stacks = stack-met stacks (item_of (flow_of d at.flow) k) number is
+
+lowered-atom : (d : FlowsData) (flags : Flags) (at : Within) (k y : ℕ) → lower d flags at (atom k y) ≡ atom k y
+unfolding lowered_in
+lowered-atom d flags at k y = refl
+
+-- the tree that an atom with a stack stands for stays as it is, and its pieces are those in the stack
+pub record IsStackTree (d : FlowsData) (flags : Flags) (at : Within) (number : ℕ) (tree : PlainTree) : Type 0 where
+  pub same : lower d flags at tree ≡ tree
+  pub met : (stacks : ℕ → List CutPiece) → pieces d flags at stacks tree ≡ stacks number
+
+pub stack-tree : (d : FlowsData) (flags : Flags) (at : Within) (p : Nodes) (id : FragId) (node : Node) (number : ℕ) →
+    node_of p id ≡ Some node → stack_in d at.flow node ≡ Some number → (tree : PlainTree) → StandsFor p id tree →
+    IsStackTree d flags at number tree
+unfolding StandsFor
+stack-tree d flags at p id node number is stack (atom k y) s =
+    let e : node ≡ Atom k y = cc (is, s) in
+    let here : stack_in d at.flow (Atom k y) ≡ Some number = subst (λ n. stack_in d at.flow n ≡ Some number) e stack in
+    record { same = lowered-atom d flags at k y; met = stack-atom d flags at k y number here }
+stack-tree d flags at p id node number is stack (piece b starts y bottom kids) s =
+    let e : node ≡ Piece b starts y bottom s.0 = cc (is, s.1) in
+    let none : None ≡ Some number = subst (λ n. stack_in d at.flow n ≡ Some number) e stack in absurd (cc none)
+stack-tree d flags at p id node number is stack (row_piece r from y height kids) s =
+    let e : node ≡ RowPiece r from y height s.0 = cc (is, s.1) in
+    let none : None ≡ Some number = subst (λ n. stack_in d at.flow n ≡ Some number) e stack in absurd (cc none)
+stack-tree d flags at p id node number is stack (column f from end extent kids) s =
+    let e : node ≡ Column f from end extent s.0 = cc (is, s.1) in
+    let none : None ≡ Some number = subst (λ n. stack_in d at.flow n ≡ Some number) e stack in absurd (cc none)
+
+-- ---- a cut piece of a flagged row
+
+cut-at : (b : Bool) (cut other : Cut) → cond b (Some other) None ≡ Some cut → other ≡ cut
+cut-at true cut other e = cc e
+cut-at false cut other e = absurd (cc e)
+
+-- the tree that it stands for is a piece of that row there, without a height of its own
+pub record IsCutTree (cut : Cut) (tree : PlainTree) : Type 0 where
+  pub columns : PlainTrees
+  pub is : tree ≡ row_piece cut.row cut.from cut.y None columns
+
+pub cut-tree : (flags : Flags) (p : Nodes) (id : FragId) (node : Node) (cut : Cut) → node_of p id ≡ Some node →
+    cut_of flags node ≡ Some cut → (tree : PlainTree) → StandsFor p id tree → IsCutTree cut tree
+unfolding StandsFor
+cut-tree flags p id node cut is of (atom k y) s =
+    let e : node ≡ Atom k y = cc (is, s) in
+    let none : None ≡ Some cut = subst (λ n. cut_of flags n ≡ Some cut) e of in absurd (cc none)
+cut-tree flags p id node cut is of (piece b starts y bottom kids) s =
+    let e : node ≡ Piece b starts y bottom s.0 = cc (is, s.1) in
+    let none : None ≡ Some cut = subst (λ n. cut_of flags n ≡ Some cut) e of in absurd (cc none)
+cut-tree flags p id node cut is of (row_piece r from y None kids) s =
+    let e : node ≡ RowPiece r from y None s.0 = cc (is, s.1) in
+    let here : cut_of flags (RowPiece r from y None s.0) ≡ Some cut = subst (λ n. cut_of flags n ≡ Some cut) e of in
+    let same : record { row = r; from = from; y = y } ≡ cut = cut-at (is_flagged flags r) cut _ here in
+    record { columns = kids; is = ap (λ (c : Cut). row_piece c.row c.from c.y None kids) same }
+cut-tree flags p id node cut is of (row_piece r from y (Some height) kids) s =
+    let e : node ≡ RowPiece r from y (Some height) s.0 = cc (is, s.1) in
+    let none : None ≡ Some cut = subst (λ n. cut_of flags n ≡ Some cut) e of in absurd (cc none)
+cut-tree flags p id node cut is of (column f from end extent kids) s =
+    let e : node ≡ Column f from end extent s.0 = cc (is, s.1) in
+    let none : None ≡ Some cut = subst (λ n. cut_of flags n ≡ Some cut) e of in absurd (cc none)

@@ -1,6 +1,6 @@
 //! Cut pieces and stacks among nodes, and the room in nodes.
 
-ghost use Rattle.std.specs.Prelude.{◌≡◌, ◌<◌, ◌-◌, true, length};
+ghost use Rattle.std.specs.Prelude.{◌≡◌, ◌<◌, ◌-◌, IfSome, true, length};
 ghost use Rattle.flow_data.specs.Flows.{box_of, flow_in, flow_of, item_of};
 ghost use Rattle.flow_list.specs.RowHeights.{fill_limit};
 ghost use Rattle.flow_list.specs.Tokens.{IsPlaceBefore};
@@ -166,7 +166,8 @@ fn stack_of(item: Item) -> Option<u32>
 
 /// The stack of item `k` of a flow; none where there is no such item.
 fn stack_at(flows: &Flows, flow: u32, k: u32) -> Option<u32>
-    ensures { result ≡ stack_of_item (item_of (flow_of flows.now flow) k) }
+    ensures stack { result ≡ stack_of_item (item_of (flow_of flows.now flow) k) }
+    ensures known { IfSome result (λ stack. stack < length flows.now.stacks) }
 {
     if flow >= flow_counts(flows).flows {
         return None;
@@ -179,7 +180,8 @@ fn stack_at(flows: &Flows, flow: u32, k: u32) -> Option<u32>
 
 /// The stack that a node of a flow is.
 pub fn stack_in(flows: &Flows, flow: u32, node: &Node) -> Option<u32>
-    ensures { result ≡ stack_in_node flows.now flow node.now }
+    ensures stack { result ≡ stack_in_node flows.now flow node.now }
+    ensures known { IfSome result (λ stack. stack < length flows.now.stacks) }
 {
     match node {
         Node::Atom { item, .. } => stack_at(flows, flow, *item),

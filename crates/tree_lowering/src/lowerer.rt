@@ -57,9 +57,10 @@ pub trait Lowerer {
         ensures grown { Grows pool.old pool.new };
 
     /// Tells that a stack stands in the tree.
-    fn pass_stack(&mut self, stack: u32) -> Result<(), NoMemory>
+    fn pass_stack(&mut self, flows: &Flows, stack: u32) -> Result<(), NoMemory>
+        requires { stack < length flows.now.stacks }
         ensures told { OnOk result (told self.new ≡ told self.old ++ stack_met stack ∷ []) }
-        ensures engine { (d : FlowsData) (b : List SizeEntry) (p : Nodes) → is_true self.old d b p → is_true self.new d b p };
+        ensures engine { (b : List SizeEntry) (p : Nodes) → is_true self.old flows.now b p → is_true self.new flows.now b p };
 
     // what it keeps stays true where the book and the region grow
     ghost stays: { (e : Self) (d : FlowsData) (b c : List SizeEntry) (p q : Nodes) → is_true e d b p → Extends b c →

@@ -74,11 +74,41 @@ fn with_ids(node: &Node, ids: List<FragId>) -> Node
     }
 }
 
+/// Whether two ids are the same.
+fn is_same(one: FragId, other: FragId) -> bool
+    ensures { result ≡ true → one ≡ other }
+{
+    match (one, other) {
+        (FragId::Kept(n), FragId::Kept(m)) => n == m,
+        (FragId::Trial(n), FragId::Trial(m)) => n == m,
+        _ => false,
+    }
+}
+
 /// Whether these are the same ids.
 fn are_same(ids: &[FragId], others: &[FragId]) -> bool
     ensures { result ≡ true → ids.now ≡ others.now }
 {
-    ids == others
+    if ids.len() != others.len() {
+        return false;
+    }
+    for i in 0..ids.len() {
+        if !is_same(ids[i], others[i]) {
+            return false;
+        }
+    }
+    true
+}
+
+/// Adds a trial node.
+pub fn added(pool: &mut Pool, node: Node) -> Result<FragId, NoMemory>
+    requires { All (IsLive pool.old) (ids_of node) }
+    ensures node { IfOk result (λ made. node_of pool.new made ≡ Some node) }
+    ensures live { IfOk result (IsLive pool.new) }
+    ensures grown { Grows pool.old pool.new }
+{
+    let made = add_node(pool, node)?;
+    Ok(made)
 }
 
 /// The node of a live id with these ids in place of its own: the same id where they are the same, else that of a new trial node.
@@ -87,11 +117,12 @@ pub fn with_others(pool: &mut Pool, id: FragId, ids: List<FragId>) -> Result<Fra
     requires others { All (IsLive pool.old) ids }
     ensures node { (node : AnyNode) → node_of pool.old id ≡ Some node →
         IfOk result (λ made. node_of pool.new made ≡ Some (node_with node ids)) }
+    ensures live { IfOk result (IsLive pool.new) }
     ensures grown { Grows pool.old pool.new }
 {
     if are_same(ids_in(pool.get(id)), ids.as_slice()) {
         return Ok(id);
     }
     let node = with_ids(pool.get(id), ids);
-    add_node(pool, node)
+    added(pool, node)
 }

@@ -14,9 +14,8 @@ ghost use Rattle.tree_lowering.specs.Met.{Meets, MeetsTree, MeetsTrees};
 
 use crate::cut::{Cut, Within, cut_in, inside, is_before_end, stack_in};
 use crate::lowerer::Lowerer;
-use crate::nodes::{ids_within, with_others};
+use crate::nodes::{added, ids_within, with_others};
 use flow_list::{Book, Flows, LaidRow, flow_counts, row_at};
-use frag_maker::add_node;
 use frag_pool::Pool;
 use mc_base::{FragId, List, NoMemory, Node, Units};
 use std::alloc::Global;
@@ -93,7 +92,7 @@ fn lower_node<L: Lowerer>(
     ensures grown { Grows pool.old pool.new }
 {
     if let Some(stack) = stack_in(flows, at.flow, pool.get(id)) {
-        lowerer.pass_stack(stack)?;
+        lowerer.pass_stack(flows, stack)?;
         return Ok(id);
     }
     let place = inside(flows, rows, at, pool.get(id));
@@ -243,7 +242,7 @@ fn lower_cut<L: Lowerer>(
         book,
         pool,
     )?;
-    add_node(
+    added(
         pool,
         Node::RowPiece {
             row: cut.row,
