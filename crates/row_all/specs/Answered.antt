@@ -20,12 +20,17 @@ pub record IsTrueLine (d : FlowsData) (p : Nodes) (line : PieceLine) : Type 0 wh
   pub least : IsLeastPiece d line.row line.from line.height line.out
   pub frag : StandsFor p line.out.frag (piece_tree d line.row line.from line.out.height)
 
--- The layout of the flows with its flagged pieces lowered: each stack has the height that the definitions give it, and its id
--- stands for the stack's tree with these pieces lowered; and the pieces, in the order of the tree.
+-- a stack has the height that the definitions give it, and its id stands for its tree with the flagged pieces lowered
+pub record IsLoweredStack (d : FlowsData) (flags : Flags) (p : Nodes) (s : ℕ) (out : LaidStack) : Type 0 where
+  pub height : out.height ≡ stack_height d s
+  pub frag : StandsFor p out.frag (stack_lowered d flags s)
+
+abbrev pub AreLoweredStacks : FlowsData → Flags → Nodes → List LaidStack → Type 0
+AreLoweredStacks d flags p outs = (s : ℕ) (out : LaidStack) → slice_get outs s ≡ Some out → IsLoweredStack d flags p s out
+
+-- the layout of the flows with its flagged pieces lowered, and these pieces in the order of its tree
 pub record IsLowered (d : FlowsData) (flags : Flags) (p : Nodes) (out : AllOut) : Type 0 where
   pub count : length out.laid.stacks ≡ length d.stacks
-  pub height : (s : ℕ) (entry : LaidStack) → slice_get out.laid.stacks s ≡ Some entry → entry.height ≡ stack_height d s
-  pub stands : (s : ℕ) (entry : LaidStack) → slice_get out.laid.stacks s ≡ Some entry →
-      StandsFor p entry.frag (stack_lowered d flags s)
+  pub stacks : AreLoweredStacks d flags p out.laid.stacks
   pub pieces : map piece_of out.pieces ≡ lowered_pieces d flags
   pub lines : All (IsTrueLine d p) out.pieces

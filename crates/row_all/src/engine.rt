@@ -31,7 +31,8 @@ pub struct Engine<I> {
 impl<I: InnerRows> Lowerer for Engine<I> {
     ghost use Rattle.std.specs.Prelude.{◌≡◌, ◌×◌, All, map};
     ghost use Rattle.row_all.specs.Parts.{IsTruePart, met_of};
-    ghost use Rattle.row_all.proofs.Standing.{engine-stays};
+    ghost use Rattle.frag_pool.proofs.Growth.{kept-grows-grows};
+    ghost use Rattle.row_all.proofs.Standing.{parts-stay};
 
     ghost is_true = { λ e d b p. (I.depth e.rows ≡ 3) × I.is_true e.rows d b p × All (IsTruePart d p) e.parts };
 

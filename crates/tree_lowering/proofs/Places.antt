@@ -1,14 +1,15 @@
 -- Places in a row, and stacks of items.
-use Rattle.std.proofs.Common.{◌≡◌, ℕ, ◌<◌, ◌≤◌, List, [], ◌∷◌, IfSome, None, length, arith}
-use Rattle.mc_base.specs.Places.{item_number, place_within}
+use Rattle.std.proofs.Common.{◌≡◌, ℕ, ◌<◌, List, [], ◌∷◌, IfSome, None, length, refl}
+use Rattle.std.specs.declared.cmp.Ordering.TheVariants.{Less}
+use Rattle.mc_base.specs.Places.{item_number, place_order, place_within}
 use Rattle.flow_data.specs.Soundness.{IsSoundItem}
 use Rattle.flow_list.specs.Data.{AtomKind, Flow, FlowsData, Item, Plain, Line, Void, Image, Bounded, Atom, Row}
 use Rattle.flow_list.specs.Tokens.{IsPlaceBefore, Token}
 use Rattle.tree_lowering.specs.Lower.{stack_of_item}
 
-pub item-before : (d : FlowsData) (f : Flow) (t : Token) → 1 ≤ length t → place_within t ≡ None →
+pub item-before : (d : FlowsData) (f : Flow) (t : Token) → ((place_order t (0 ∷ []) ≡ Less) → ⊥) → place_within t ≡ None →
     item_number t < length f.items → IsPlaceBefore d f t
-item-before d f [] some none lt = absurd (omega (arith, some))
+item-before d f [] some none lt = absurd (some refl)
 item-before d f (i ∷ []) some none lt = lt
 item-before d f (i ∷ (j ∷ rest)) some none lt = absurd (cc none)
 

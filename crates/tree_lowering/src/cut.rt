@@ -12,6 +12,8 @@ use flow_list::{
     AtomKind, Counts, Flows, Item, LaidRow, box_at, flow_counts, item_at, item_count, row_at,
 };
 use mc_base::{Node, Token, Units};
+use std::alloc::Global;
+use std::cmp::Ordering;
 
 /// Where a fragment stands: its flow, and the room in its column or stack, in units, less what the boxes around it have below
 /// again. At most `nested` flagged rows stand one inside another in a cut piece there, and fragments are entered `depth` deep.
@@ -190,10 +192,14 @@ pub fn stack_in(flows: &Flows, flow: u32, node: &Node) -> Option<u32>
 }
 
 /// Whether a place in a row is one before its end. At most `deep` rows are entered.
-pub fn is_before_end(flows: &Flows, row: u32, place: &Token, deep: u32) -> bool
+pub fn is_before_end(alloc: Global, flows: &Flows, row: u32, place: &Token, deep: u32) -> bool
     requires { row < length flows.now.rows }
     ensures { result ≡ true → IsPlaceBefore flows.now (flow_in flows.now row) place.now }
 {
+    // Each place has a number, and none comes before that of item 0.
+    if let Ordering::Less = place.cmp(&Token::start(alloc, 0)) {
+        return false;
+    }
     // Sealed flows are sound.
     let _counts = flow_counts(flows);
     let flow = row_at(flows, row).flow;
@@ -205,7 +211,7 @@ pub fn is_before_end(flows: &Flows, row: u32, place: &Token, deep: u32) -> bool
         None => true,
         Some(rest) => match item_in(flows, flow, item) {
             Item::Atom { .. } => false,
-            Item::Row(inner) => is_before_end(flows, inner, &rest, deep - 1),
+            Item::Row(inner) => is_before_end(alloc, flows, inner, &rest, deep - 1),
         },
     }
 }

@@ -223,7 +223,7 @@ fn lower_cut<L: Lowerer>(
     ensures grown { Grows pool.old pool.new }
 {
     // No row stands deeper than in three.
-    if cut.row >= flow_counts(flows).rows || !is_before_end(flows, cut.row, &cut.from, 4) {
+    if cut.row >= flow_counts(flows).rows || !is_before_end(alloc, flows, cut.row, &cut.from, 4) {
         return Err(NoMemory);
     }
     let height = at.room.saturating_sub(cut.y);
