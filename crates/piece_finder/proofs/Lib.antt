@@ -1,2 +1,5 @@
+pub mod Calls
+pub mod Pieces
 pub mod Progress
 pub mod Telling
+pub mod Uses

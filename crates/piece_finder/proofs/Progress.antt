@@ -17,7 +17,7 @@ pub record Searching (d : FlowsData) (r : ℕ) (q : Token) (a low : ℕ) (xs : L
   pub within : low ≤ least_height d r q a
   pub so_far : told_ranges xs ++ ranges_from d r q a low ≡ unfit_ranges d r q a
 
-told-more : (xs : List PieceRange) (x : PieceRange) → told_ranges (xs ++ x ∷ []) ≡ told_ranges xs ++ told_range x ∷ []
+pub told-more : (xs : List PieceRange) (x : PieceRange) → told_ranges (xs ++ x ∷ []) ≡ told_ranges xs ++ told_range x ∷ []
 told-more [] x = refl
 told-more (y ∷ xs) x = ap (λ ys. told_range y ∷ ys) (told-more xs x)
 

@@ -1,6 +1,6 @@
 use Rattle.std.proofs.Common.{◌∙◌, refl}
 use Rattle.frag_maker.proofs.Growing.{all-live, grows-same, grows-trial}
-use Rattle.balancer.proofs.Pieces.{with-height}
+use Rattle.piece_finder.proofs.Pieces.{with-height}
 use Rattle.piece_finder.proofs.standing.with_height.Goals as goal
 
 pub add_node-requires : goal.add_node-requires
