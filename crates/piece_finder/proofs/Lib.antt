@@ -3,3 +3,4 @@ pub mod Pieces
 pub mod Progress
 pub mod Telling
 pub mod Uses
+pub mod WorkedPieces

@@ -41,13 +41,13 @@ returns-in-Found-clause-found g c =
 pub loop-low-smaller : goal.loop-low-smaller
 loop-low-smaller g c =
     let is = subst (λ (t : Trial). IsTrial c.args.flows.now c.args.row c.args.from.now c.args.height c.loop-low.low t)
-        c.in-Rejected.is c.in_ok-trial.ensures.trial in
+    c.in-Rejected.is c.in_ok-trial.ensures.trial in
     let begins = low-rises c.args.flows.now c.args.row c.args.from.now c.args.height c.loop-low.low c.loop-low.ranges
-        c.in-Rejected.range
-        (c.searches_go_on.ensures c.args.flows.now c.args.row c.args.from.now c.args.height
-        (sym (filled-tells c.args.flows.now c.args.row c.args.from.now c.args.height c.args.wanted.now
-        c.requires.wanted).overflow ∙ c.requires.fine))
-        c.loop-low.invariant.search is in
+    c.in-Rejected.range
+    (c.searches_go_on.ensures c.args.flows.now c.args.row c.args.from.now c.args.height
+    (sym (filled-tells c.args.flows.now c.args.row c.args.from.now c.args.height c.args.wanted.now
+    c.requires.wanted).overflow ∙ c.requires.fine))
+    c.loop-low.invariant.search is in
     let above = begins.above in
     let high = begins.no_higher in
     let end = is.high_is in
