@@ -1,19 +1,38 @@
 -- Worked pieces of a row in a row.
 use Rattle.std.proofs.Common.{◌≡◌, ℕ, true, false, List, [], ◌∷◌, refl}
+use Rattle.mc_base.specs.declared.level.Level.{Level}
 use Rattle.mc_base.specs.declared.level.Level.TheVariants.{L0, L2}
 use Rattle.flow_list.specs.Column.{column, steps, endless_column}
-use Rattle.flow_list.specs.Data.{FlowsData, Solid, Start, End, Row}
+use Rattle.flow_list.specs.Data.{Edge, FlowsData, Free, Plain, Seam, Atom, Row, Solid, Start, End}
 use Rattle.flow_list.specs.Rows.{columns_by, fits, least, size_in, fill_in, rows_to, all_rows}
 use Rattle.flow_list.specs.Tokens.{Token}
-use Rattle.flow_list.proofs.WorkedParts.{atom, seam, bare, flow, row, box, flows}
 use Rattle.piece_data.specs.LeastPiece.{UnfitRange, least_height, other, over, ranges_below, unfit_ranges}
 
--- two items of 10, and a box of three more of them that avoids breaks
+abbrev seam : List Edge → Level → List Edge → Seam
+seam tail level head = record { tail = tail; head = head; level = level }
+
+-- two items of 10, and a box of three more of them that avoids breaks, in a row in the first column of a row
 abbrev nested : FlowsData
-nested = flows (flow (Row 1 ∷ []) (seam [] L0 (Start 0 ∷ Solid 20 ∷ []) ∷ seam (End 0 ∷ []) L0 [] ∷ [])
-    ∷ flow (atom 10 ∷ atom 10 ∷ atom 10 ∷ atom 10 ∷ atom 10 ∷ [])
-    (bare L0 ∷ bare L0 ∷ seam [] L0 (Start 1 ∷ []) ∷ bare L2 ∷ bare L2 ∷ seam (End 1 ∷ []) L0 [] ∷ []) ∷ [])
-    (row 1 2 ∷ row 2 2 ∷ []) (box false 0 0 ∷ box true 0 0 ∷ [])
+nested = record {
+  flows = record { opened = []; items = Row 0 ∷ []; seams = seam [] L0 [] ∷ seam [] L0 [] ∷ [] }
+      ∷ record {
+        opened = [];
+        items = Row 1 ∷ [];
+        seams = seam [] L0 (Start 0 ∷ Solid 20 ∷ []) ∷ seam (End 0 ∷ []) L0 [] ∷ [];
+      }
+      ∷ record {
+        opened = [];
+        items = Atom 10 Plain ∷ Atom 10 Plain ∷ Atom 10 Plain ∷ Atom 10 Plain ∷ Atom 10 Plain ∷ [];
+        seams = seam [] L0 [] ∷ seam [] L0 [] ∷ seam [] L0 (Start 1 ∷ []) ∷ seam [] L2 [] ∷ seam [] L2 []
+            ∷ seam (End 1 ∷ []) L0 [] ∷ [];
+      }
+      ∷ [];
+  rows = record { flow = 1; n = 2; w = 100; step = 110; x = 0; auto = false }
+      ∷ record { flow = 2; n = 2; w = 45; step = 55; x = 0; auto = false } ∷ [];
+  boxes = record { x = 0; w = 100; avoid = false; top = 0; bottom = 0 }
+      ∷ record { x = 0; w = 45; avoid = true; top = 0; bottom = 0 } ∷ [];
+  stacks = record { flow = 0; w = 210; bound = Free } ∷ [];
+}
 
 unfoldable low : FlowsData → ℕ → Token → ℕ → ℕ
 unfolding column steps endless_column columns_by fits least size_in fill_in rows_to all_rows least_height

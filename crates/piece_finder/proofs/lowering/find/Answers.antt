@@ -33,3 +33,16 @@ pub returns-clause-refused : goal.returns-clause-refused
 returns-clause-refused g c =
     refused-after c.search.result c.args.pool.now c.release.new.self c.search.new.pool
     (given-up _ _ _ _ c.mark-mark.ensures.trial c.in_ok-wanted.ensures.grown c.release.ensures.back) c.search.ensures.refused
+
+pub returns-then-wanted-clause-found : goal.returns-then-wanted-clause-found
+returns-then-wanted-clause-found g c =
+    kept-at c.args.flows.now c.args.row c.args.from.now c.args.height c.new.result c.in_ok-wanted.wanted.frag
+    (sym (filled-tells c.args.flows.now c.args.row c.args.from.now c.args.height c.in_ok-wanted.wanted
+    c.in_ok-wanted.ensures.fill).overflow ∙ c.if-wanted.true) c.new.ensures
+
+pub returns-then-wanted-clause-uses : goal.returns-then-wanted-clause-uses
+returns-then-wanted-clause-uses g c =
+    kept-used c.args.flows.now (c.uses_enter.ensures c.args.flows.now) c.args.row c.args.from.now c.args.height
+    (uses_in c.args.book.now) (uses_in c.fill_row.new.book)
+    (sym (filled-tells c.args.flows.now c.args.row c.args.from.now c.args.height c.in_ok-wanted.wanted
+    c.in_ok-wanted.ensures.fill).overflow ∙ c.if-wanted.true) c.in_ok-wanted.ensures.uses
