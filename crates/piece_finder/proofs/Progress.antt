@@ -1,11 +1,11 @@
 -- How a search for the least height of a piece goes on from range to range.
-use Rattle.std.proofs.Common.{◌≡◌, ℕ, ◌≤◌, true, List, [], ◌∷◌, ◌++◌, refl, sym, ◌∙◌, ap, subst, arith, Some, None, append_assoc}
+use Rattle.std.proofs.Common.{◌≡◌, ℕ, ◌≤◌, true, List, [], ◌∷◌, ◌++◌, refl, sym, ◌∙◌, ap, arith, None, append_assoc}
 use Rattle.std.proofs.lemmas.List.{append-nil}
 use Rattle.flow_data.specs.declared.data.FlowsData.{FlowsData}
 use Rattle.flow_list.specs.Tokens.{Token}
 use Rattle.mc_base.specs.declared.fragment.FragId.{FragId}
 use Rattle.piece_data.specs.Holding.{SearchGoesOn, RangeBegins, ranges_from, range_end}
-use Rattle.piece_data.specs.LeastPiece.{Unfit, UnfitRange, unfit, cut_piece, least_height, unfit_ranges}
+use Rattle.piece_data.specs.LeastPiece.{unfit, cut_piece, least_height, unfit_ranges}
 use Rattle.piece_data.proofs.Pieces.{piece-holds}
 use Rattle.piece_finder.specs.Finding.{IsFound}
 use Rattle.piece_finder.specs.Telling.{told_range, told_ranges, told_reason}

@@ -1,5 +1,5 @@
 -- The sizes that a search for a cut piece enters in the book, from range to range.
-use Rattle.std.proofs.Common.{◌≡◌, ℕ, Bool, true, false, List, [], ◌∷◌, ◌++◌, refl, sym, ◌∙◌, ap}
+use Rattle.std.proofs.Common.{◌≡◌, ℕ, true, List, [], ◌∷◌, ◌++◌, refl, sym, ◌∙◌, ap}
 use Rattle.std.specs.List.{flat_map}
 use Rattle.std.proofs.lemmas.List.{flat_map_more}
 use Rattle.std.proofs.lemmas.List.Elements.{All-nil}
@@ -8,7 +8,7 @@ use Rattle.flow_list.specs.Book.{after_uses}
 use Rattle.flow_list.specs.Certificate.{Use, stands_in}
 use Rattle.flow_list.specs.Tokens.{Token}
 use Rattle.range_laws.specs.Entering.{UsesEnter}
-use Rattle.piece_data.specs.LeastPiece.{UnfitRange, cut_piece, least_height, unfit_ranges}
+use Rattle.piece_data.specs.LeastPiece.{cut_piece, least_height, unfit_ranges}
 use Rattle.piece_finder.specs.Telling.{told_range, told_ranges}
 use Rattle.piece_finder.specs.Using.{made_uses, piece_uses, range_uses, searched_uses}
 use Rattle.piece_finder.specs.declared.reasons.PieceRange.{PieceRange}

@@ -1,5 +1,5 @@
 -- What is answered of a cut piece, as the definitions have it (this project's own).
-use Rattle.std.specs.Prelude.{◌≡◌, ℕ, List, map, Some, None}
+use Rattle.std.specs.Prelude.{◌≡◌, ℕ, List, map, Some}
 use Rattle.mc_base.specs.PlainTree.{PlainTree}
 use Rattle.flow_data.specs.declared.data.FlowsData.{FlowsData}
 use Rattle.flow_data.specs.Flows.{row_of, flow_in}

@@ -1,4 +1,4 @@
-use Rattle.std.proofs.Common.{refl, sym, ◌∙◌}
+use Rattle.std.proofs.Common.{sym, ◌∙◌}
 use Rattle.flow_list.specs.Entries.{uses_in}
 use Rattle.frag_pool.proofs.Growth.{given-up, given-up-kept}
 use Rattle.inner_rows.proofs.Calls.{book-trans, extends-refl}

@@ -1,4 +1,3 @@
-use Rattle.std.proofs.Common.{refl, sym, ◌∙◌}
 use Rattle.frag_pool.proofs.Growth.{given-up, given-up-kept, grows-trans, kept-grows-grows, kept-grows-trans, stands-live}
 use Rattle.inner_rows.proofs.Calls.{extends-refl}
 use Rattle.piece_finder.proofs.lowering.piece.Goals as goal
