@@ -1,0 +1,4 @@
+pub mod Listing
+pub mod Results
+pub mod Stacking
+pub mod Standing
