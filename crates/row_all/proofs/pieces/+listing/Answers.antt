@@ -1,10 +1,10 @@
 use Rattle.std.proofs.Common.{◌≡◌, ◌∙◌, ◌+◌, ◌-◌, ◌<◌, ◌++◌, ◌∷◌, [], ℕ, suc, List, Some, All, OnOk, ap, sym, subst, arith, map}
-use Rattle.std.proofs.Common.{get_or, take, slice_get}
+use Rattle.std.proofs.Common.{get_or, take, slice_get, length}
 use Rattle.std.proofs.lemmas.List.{append-nil, take_more}
 use Rattle.std.proofs.lemmas.List.Elements.{All-append, All-cons, All-nil}
+use Rattle.piece_data.specs.Lowering.{pieces_in_stack}
 use Rattle.row_all.specs.Answered.{IsTrueLine, piece_of}
 use Rattle.row_all.specs.Parts.{pieces_of_parts}
-use Rattle.piece_data.specs.Lowering.{pieces_in_stack}
 use Rattle.row_all.proofs.Listing.{line-more, no-pieces, pieces-more, stack-pieces}
 use Rattle.row_all.proofs.Results.{on-ok}
 use Rattle.row_all.proofs.pieces.+listing.Goals as goal
