@@ -79,7 +79,7 @@ impl<I: InnerRows> Lowerer for Engine<I> {
         Ok(low)
     }
 
-    fn pass_stack(&mut self, _flows: &Flows, stack: u32) -> Result<(), NoMemory> {
+    fn pass_stack(&mut self, flows: &Flows, stack: u32) -> Result<(), NoMemory> {
         self.parts.push(Part::Stack(stack))?;
         Ok(())
     }
