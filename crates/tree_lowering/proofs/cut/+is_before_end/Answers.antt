@@ -1,5 +1,5 @@
 use Rattle.std.proofs.Common.{◌≡◌, ◌<◌, ℕ, ◌∙◌, ap, sym, arith, length}
-use Rattle.flow_data.specs.Data.{RowInfo}
+use Rattle.flow_list.specs.Data.{RowInfo}
 use Rattle.flow_data.specs.Flows.{flow_in, flow_of}
 use Rattle.mc_base.specs.Places.{item_number}
 use Rattle.tree_lowering.proofs.Places.{item-before}
