@@ -1,5 +1,5 @@
 -- Fragments made one after another of others.
-use Rattle.std.proofs.Common.{◌≡◌, ℕ, List, [], ◌∷◌, ◌++◌, Option, Some, None, refl, sym, subst, ap}
+use Rattle.std.proofs.Common.{List, [], ◌∷◌, ◌++◌}
 use Rattle.mc_base.specs.PlainTree.{PlainTree, PlainTrees, no_trees, more_trees}
 use Rattle.mc_base.specs.declared.fragment.FragId.{FragId}
 use Rattle.flow_list.specs.Data.{FlowsData}

@@ -1,7 +1,7 @@
 -- What was met of trees so far.
 use Rattle.std.proofs.Common.{◌≡◌, ℕ, List, [], ◌∷◌, ◌++◌, refl, sym, ap, ◌∙◌, append_assoc}
 use Rattle.std.proofs.lemmas.List.{append-nil}
-use Rattle.mc_base.specs.PlainTree.{PlainTree, PlainTrees, no_trees, more_trees}
+use Rattle.mc_base.specs.PlainTree.{PlainTrees, no_trees, more_trees}
 use Rattle.mc_base.specs.declared.fragment.FragId.{FragId}
 use Rattle.flow_list.specs.Data.{FlowsData}
 use Rattle.frag_pool.specs.Growing.{Grows}
@@ -32,7 +32,7 @@ left-more : (d : FlowsData) (flags : Flags) (at : Within) (p q : Nodes) (old new
     (rest : List FragId) (trees left : PlainTrees) → Grows p q → MeetsTree q new newer (pieces d flags at) id →
     AllStandFor p (id ∷ rest) left →
     ((stacks : ℕ → List CutPiece) →
-      all_met stacks new ++ all_pieces d flags at stacks left ≡ all_met stacks old ++ all_pieces d flags at stacks trees) →
+    all_met stacks new ++ all_pieces d flags at stacks left ≡ all_met stacks old ++ all_pieces d flags at stacks trees) →
     Left d flags at p old newer rest trees
 unfolding StandsFor pieces_in
 left-more d flags at p q old new newer id rest trees no_trees grows meets stand met = absurd stand

@@ -1,9 +1,9 @@
 -- Places in a row, and stacks of items.
-use Rattle.std.proofs.Common.{◌≡◌, ℕ, ◌<◌, List, [], ◌∷◌, IfSome, None, length, refl}
+use Rattle.std.proofs.Common.{◌≡◌, ◌<◌, [], ◌∷◌, IfSome, None, length, refl}
 use Rattle.std.specs.declared.cmp.Ordering.TheVariants.{Less}
 use Rattle.mc_base.specs.Places.{item_number, place_order, place_within}
 use Rattle.flow_data.specs.Soundness.{IsSoundItem}
-use Rattle.flow_list.specs.Data.{AtomKind, Flow, FlowsData, Item, Plain, Line, Void, Image, Bounded, Atom, Row}
+use Rattle.flow_list.specs.Data.{Flow, FlowsData, Item, Plain, Line, Void, Image, Bounded, Atom, Row}
 use Rattle.flow_list.specs.Tokens.{IsPlaceBefore, Token}
 use Rattle.tree_lowering.specs.Lower.{stack_of_item}
 

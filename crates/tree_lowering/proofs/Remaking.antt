@@ -1,10 +1,10 @@
 -- A node that isn't a cut piece of a flagged row, made anew of what stands in it.
-use Rattle.std.proofs.Common.{◌≡◌, ℕ, Bool, true, false, cond, List, [], ◌∷◌, Option, Some, None, refl, sym, subst, ap}
-use Rattle.mc_base.specs.PlainTree.{PlainTree, PlainTrees, atom, piece, row_piece, column, no_trees, more_trees}
+use Rattle.std.proofs.Common.{◌≡◌, ℕ, Bool, true, false, cond, List, [], Option, Some, None, refl, sym, subst, ap}
+use Rattle.mc_base.specs.PlainTree.{PlainTree, PlainTrees, atom, piece, row_piece, column, no_trees}
 use Rattle.mc_base.specs.declared.fragment.FragId.{FragId}
 use Rattle.mc_base.specs.declared.fragment.Node.{Node}
 use Rattle.mc_base.specs.declared.fragment.Node.TheVariants.{Atom, Piece, RowPiece, Column}
-use Rattle.flow_list.specs.Data.{AtomKind, FlowsData, Item, Plain, Line, Void, Image, Bounded, Atom as AtomItem, Row}
+use Rattle.flow_list.specs.Data.{FlowsData, Item, Plain, Line, Void, Image, Bounded, Atom as AtomItem, Row}
 use Rattle.flow_data.specs.Flows.{flow_of, item_of}
 use Rattle.frag_pool.specs.Nodes.{Nodes, node_of, node_with, ids_of}
 use Rattle.frag_pool.specs.Standing.{StandsFor, AllStandFor}

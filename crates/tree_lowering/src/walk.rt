@@ -57,13 +57,9 @@ pub fn lower_tree<L: Lowerer>(
         ..at
     };
     if let Some(cut) = cut_in(flags, pool.get(id)) {
-        return lower_cut(
-            alloc, lowerer, flows, flags, rows, at, cut, book, pool,
-        );
+        return lower_cut(alloc, lowerer, flows, flags, rows, at, cut, book, pool);
     }
-    lower_node(
-        alloc, lowerer, flows, flags, rows, at, id, book, pool,
-    )
+    lower_node(alloc, lowerer, flows, flags, rows, at, id, book, pool)
 }
 
 /// Lowers what stands in a node that isn't lowered itself.
@@ -138,9 +134,7 @@ fn lower_all<L: Lowerer>(
 {
     let mut made = List::new(alloc);
     for id in ids {
-        let one = lower_tree(
-            alloc, lowerer, flows, flags, rows, at, *id, book, pool,
-        )?;
+        let one = lower_tree(alloc, lowerer, flows, flags, rows, at, *id, book, pool)?;
         made.push(one)?;
     }
     Ok(made)

@@ -1,7 +1,6 @@
-use Rattle.std.proofs.Common.{◌≡◌, ◌<◌, ℕ, ◌∙◌, ap, sym, arith, length}
-use Rattle.flow_data.specs.Data.{RowInfo}
+use Rattle.std.proofs.Common.{◌≡◌, ◌∙◌, ap, sym, arith, length}
+use Rattle.flow_list.specs.Data.{RowInfo}
 use Rattle.flow_data.specs.Flows.{flow_in, flow_of}
-use Rattle.mc_base.specs.Places.{item_number}
 use Rattle.tree_lowering.proofs.Places.{item-before}
 use Rattle.tree_lowering.proofs.cut.+is_before_end.Goals as goal
 

@@ -236,10 +236,10 @@ lower_node-returns-clause-tree g t c =
     (subst (λ (xs : List FragId). AreMadeOf p q (lower d flags c.inside-place.result) xs made) ids c.in_ok-made.ensures.trees) in
     ok-map c.with_others.result (λ new. node_of s new ≡ Some (node_with node made)) (IsMadeOf p s (lower d flags at) c.args.id)
     (λ new new_is tree stands.
-      let r = node-remade d flags at p c.args.id node is (c.requires.cut node is) tree stands in
-      r.remade s new made new_is
-      (all-along q s (keeps-growing q s c.with_others.ensures.grown) made (all_lower d flags (inside d at node) r.kids)
-      (lowered-trees d flags (inside d at node) p q (ids_of node) made r.kids trees r.stand)))
+    let r = node-remade d flags at p c.args.id node is (c.requires.cut node is) tree stands in
+    r.remade s new made new_is
+    (all-along q s (keeps-growing q s c.with_others.ensures.grown) made (all_lower d flags (inside d at node) r.kids)
+    (lowered-trees d flags (inside d at node) p q (ids_of node) made r.kids trees r.stand)))
     (c.with_others.ensures.node node ((keeps-growing p q c.in_ok-made.ensures.grown).node c.args.id node is))
 
 pub lower_node-returns-clause-told : goal.lower_node-returns-clause-told
@@ -262,8 +262,8 @@ lower_node-returns-clause-told g t c =
     subst (λ (n : Node). stack_in d at.flow n ≡ None) same (sym c.stack_in.ensures.stack ∙ c.in_default.is) in
     on-always c.with_others.result (MeetsTree p old new (pieces d flags at) c.args.id)
     (λ tree stands stacks.
-      let r = node-remade d flags at p c.args.id node is (c.requires.cut node is) tree stands in
-      told r.kids r.stand stacks ∙ ap (λ xs. all_met stacks old ++ xs) (sym (r.met stacks none)))
+    let r = node-remade d flags at p c.args.id node is (c.requires.cut node is) tree stands in
+    told r.kids r.stand stacks ∙ ap (λ xs. all_met stacks old ++ xs) (sym (r.met stacks none)))
 
 pub lower_node-returns-clause-engine : goal.lower_node-returns-clause-engine
 lower_node-returns-clause-engine g t c =
@@ -287,8 +287,8 @@ lower_tree-returns-in-Some-clause-tree g t c =
     (λ made. (columns : PlainTrees) → StandsFor s made (lower d flags c.args.at (row_piece cut.row cut.from cut.y None columns)))
     (IsMadeOf p s (lower d flags c.args.at) c.args.id)
     (λ made each tree stands.
-      let known = cut-tree flags p c.args.id c.get.result.now cut c.get.ensures.node of tree stands in
-      subst (λ (tr : PlainTree). StandsFor s made (lower d flags c.args.at tr)) (sym known.is) (each known.columns))
+    let known = cut-tree flags p c.args.id c.get.result.now cut c.get.ensures.node of tree stands in
+    subst (λ (tr : PlainTree). StandsFor s made (lower d flags c.args.at tr)) (sym known.is) (each known.columns))
     (ok-each c.lower_cut.result
     (λ (columns : PlainTrees) made. StandsFor s made (lower d flags c.args.at (row_piece cut.row cut.from cut.y None columns)))
     c.lower_cut.ensures.tree)
@@ -307,9 +307,9 @@ lower_tree-returns-in-Some-clause-told g t c =
     (λ stacks. pieces d flags c.args.at stacks (row_piece cut.row cut.from cut.y None columns)))
     (MeetsTree p old new (pieces d flags c.args.at) c.args.id)
     (λ each tree stands.
-      let known = cut-tree flags p c.args.id c.get.result.now cut c.get.ensures.node of tree stands in
-      subst (λ (tr : PlainTree). Meets old new (λ stacks. pieces d flags c.args.at stacks tr)) (sym known.is)
-      (each known.columns))
+    let known = cut-tree flags p c.args.id c.get.result.now cut c.get.ensures.node of tree stands in
+    subst (λ (tr : PlainTree). Meets old new (λ stacks. pieces d flags c.args.at stacks tr)) (sym known.is)
+    (each known.columns))
     (on-each c.lower_cut.result
     (λ (columns : PlainTrees). Meets old new
     (λ stacks. pieces d flags c.args.at stacks (row_piece cut.row cut.from cut.y None columns)))
