@@ -34,7 +34,8 @@ pub next-at : (d : FlowsData) (r : ℕ) (q : Token) (a low high : ℕ) (xs ys : 
 next-at d r q a low high xs ys x law now is at more =
     let begins = low-rises d r q a low xs x law now is in
     let end : high ≡ range_end d r q a low = at ∙ is.high_is in
-    let one : told_range x ≡ record { low = low; high = range_end d r q a low; reason = told_reason x.reason } = cc (is.low_is, is.high_is) in
+    let one : told_range x ≡ record { low = low; high = range_end d r q a low; reason = told_reason x.reason } =
+    cc (is.low_is, is.high_is) in
     record {
       within = let le = begins.no_higher in omega arith;
       so_far = ap (λ zs. told_ranges zs ++ ranges_from d r q a high) more

@@ -39,7 +39,8 @@ unfolding column steps endless_column columns_by fits least size_in fill_in rows
 low d r q a = least_height d r q a
 
 unfoldable why : FlowsData → ℕ → Token → ℕ → List UnfitRange
-unfolding column steps endless_column columns_by fits least size_in fill_in rows_to all_rows least_height unfit_ranges ranges_below
+unfolding column steps endless_column columns_by fits least size_in fill_in rows_to all_rows least_height unfit_ranges
+    ranges_below
 why d r q a = unfit_ranges d r q a
 
 -- at 15 each column holds one item, and 10 is enough for that
