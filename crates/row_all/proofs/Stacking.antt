@@ -1,5 +1,6 @@
 -- Stacks one after another.
-use Rattle.std.proofs.Common.{◌≡◌, ℕ, zero, suc, List, [], ◌∷◌, ◌++◌, Some, None, length, slice_get, map, refl, subst, ap}
+use Rattle.std.proofs.Common.{◌≡◌, ◌∙◌, ℕ, zero, suc, List, [], ◌∷◌, ◌++◌, Option, Some, length, slice_get, map, refl}
+use Rattle.std.proofs.Common.{subst, ap}
 use Rattle.flow_list.specs.Certificate.{StackRow, Use, row_book}
 use Rattle.flow_list.specs.Data.{FlowsData}
 use Rattle.flow_list.specs.declared.laid.LaidRow.{LaidRow}
@@ -47,11 +48,16 @@ each-stay d flags p q grows parts are = λ s own at. record {
 }
 
 -- the rows directly in stacks
+abbrev row_there : ℕ → Option ℕ → StackRow
+row_there r available = record { row = r; available = available }
+
 pub rows-known : (d : FlowsData) (p : Nodes) (book : List Use) (rs : List StackRow) (outs : List LaidRow) →
     AreLaidAfter d p book rs outs → map laid_row outs ≡ rs
 rows-known d p book [] [] are = refl
 rows-known d p book [] (out ∷ outs) are = absurd are
 rows-known d p book (r ∷ rs) [] are = absurd are
 rows-known d p book (r ∷ rs) (out ∷ outs) are =
-    let row : laid_row out ≡ r = cc (are.0.row, are.0.available) in
-    cc (row, rows-known d p (row_book d book r) rs outs are.2)
+    let row : laid_row out ≡ r =
+    ap (λ (n : ℕ). row_there n out.available) are.0.row ∙ ap (λ (a : Option ℕ). row_there r.row a) are.0.available in
+    ap (λ (x : StackRow). x ∷ map laid_row outs) row
+    ∙ ap (λ (xs : List StackRow). r ∷ xs) (rows-known d p (row_book d book r) rs outs are.2)

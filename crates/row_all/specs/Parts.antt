@@ -1,10 +1,11 @@
 -- What stands in a tree whose pieces are lowered (this project's own).
-use Rattle.std.specs.Prelude.{◌≡◌, ℕ, ◌<◌, All, List, Some, Unit, length, map, slice_get}
+use Rattle.std.specs.Prelude.{◌≡◌, ℕ, ◌<◌, All, List, Some, length, map, slice_get}
 use Rattle.mc_base.specs.PlainTree.{PlainTree}
 use Rattle.flow_list.specs.Data.{FlowsData}
 use Rattle.flow_data.specs.Flows.{stack_of}
 use Rattle.flow_list.specs.Fragments.{stack_fragment}
 use Rattle.flow_list.specs.Stacks.{stack_height}
+use Rattle.frag_pool.specs.Growing.{Grows}
 use Rattle.frag_pool.specs.Nodes.{Nodes}
 use Rattle.piece_data.specs.Lowering.{CutPiece, Flags, pieces_at, pieces_in, pieces_in_stack}
 use Rattle.tree_lowering.specs.Met.{Met, all_met, cut_met, stack_met}
@@ -20,6 +21,12 @@ met_of (Stack number) = stack_met number
 abbrev pub IsTruePart : FlowsData → Nodes → Part → Type 0
 IsTruePart d p (Piece line) = IsTrueLine d p line
 IsTruePart d p (Stack number) = number < length d.stacks
+
+-- these were told truly of a region that this one grew from
+pub record WereTrue (d : FlowsData) (p : Nodes) (parts : List Part) : Type 0 where
+  pub before : Nodes
+  pub grown : Grows before p
+  pub each : All (IsTruePart d before) parts
 
 -- the flagged pieces of the fragment of stack s, with those in other stacks in their places
 abbrev pub pieces_of_stack : FlowsData → Flags → (s : ℕ) → (stacks : ℕ → List CutPiece) → List CutPiece

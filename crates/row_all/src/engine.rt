@@ -29,12 +29,11 @@ pub struct Engine<I> {
 }
 
 impl<I: InnerRows> Lowerer for Engine<I> {
-    ghost use Rattle.std.specs.Prelude.{◌≡◌, ◌×◌, All, map};
-    ghost use Rattle.row_all.specs.Parts.{IsTruePart, met_of};
-    ghost use Rattle.frag_pool.proofs.Growth.{kept-grows-grows};
-    ghost use Rattle.row_all.proofs.Standing.{parts-stay};
+    ghost use Rattle.std.specs.Prelude.{◌≡◌, map};
+    ghost use Rattle.frag_pool.proofs.Growth.{grows-trans, kept-grows-grows};
+    ghost use Rattle.row_all.specs.Parts.{WereTrue, met_of};
 
-    ghost is_true = { λ e d b p. (I.depth e.rows ≡ 3) × I.is_true e.rows d b p × All (IsTruePart d p) e.parts };
+    ghost is_true = { λ e d b p. (I.depth e.rows ≡ 3) × I.is_true e.rows d b p × WereTrue d p e.parts };
 
     ghost told = { λ e. map met_of e.parts };
 
@@ -87,7 +86,7 @@ impl<I: InnerRows> Lowerer for Engine<I> {
     ghost stays = { λ e d b c p q h x k. (
       h.0,
       I.stays e.rows d b c p q h.1 x (kept-grows-grows p q k),
-      parts-stay d p q e.parts k h.2,
+      record { before = h.2.before; grown = grows-trans h.2.before p q h.2.grown k; each = h.2.each },
     ) };
 }
 

@@ -1,5 +1,10 @@
 use Rattle.std.proofs.Common.{◌≡◌, ◌∙◌, ◌<◌, ◌≤◌, ◌++◌, ℕ, List, [], ◌∷◌, All, Some, ap, sym, subst, arith, length, length-append}
-use Rattle.std.proofs.Common.{slice_get, get_or, refl}
+use Rattle.std.proofs.Common.{get_or}
+use Rattle.std.proofs.lemmas.Option.{slice_get-get_or}
+use Rattle.flow_list.specs.Data.{FlowsData}
+use Rattle.flow_list.specs.Fragments.{stack_fragment}
+use Rattle.container_layout.specs.Laid.{AreLaidStacks, IsLaidStack}
+use Rattle.frag_pool.specs.Nodes.{Nodes}
 use Rattle.flow_list.specs.declared.laid.LaidStack.{LaidStack}
 use Rattle.frag_pool.proofs.Growth.{grows-refl, grows-trans}
 use Rattle.frag_pool.proofs.Stays.{stands-growing}
@@ -26,6 +31,24 @@ loop-number-init g c =
       book = book-refl d c.args.book.now c.requires.book;
       grown = grows-refl p;
     }
+
+stack-there : (d : FlowsData) (p : Nodes) (outs : List LaidStack) (count number : ℕ) → AreLaidStacks d p outs →
+    length outs ≡ length d.stacks → count ≡ length d.stacks → number < count → (other : LaidStack) →
+    IsLaidStack d p number (get_or outs number other)
+stack-there d p outs count number laid all is lt other =
+    laid number (get_or outs number other) (slice_get-get_or outs number other (omega (arith, all, is, lt)))
+
+pub lower_stack-requires-clause-height : goal.lower_stack-requires-clause-height
+lower_stack-requires-clause-height g c =
+    (stack-there c.args.flows.now c.args.pool.now c.args.laid.now c.flow_counts-count.result.stacks c.loop-number.number
+    c.requires.laid c.requires.count c.flow_counts-count.ensures.stacks c.loop-number-test.true _).height
+
+pub lower_stack-requires-clause-frag : goal.lower_stack-requires-clause-frag
+lower_stack-requires-clause-frag g c =
+    stands-growing c.args.pool.now c.loop-number.pool c.loop-number.invariant.grown _
+    (stack_fragment c.args.flows.now c.loop-number.number)
+    (stack-there c.args.flows.now c.args.pool.now c.args.laid.now c.flow_counts-count.result.stacks c.loop-number.number
+    c.requires.laid c.requires.count c.flow_counts-count.ensures.stacks c.loop-number-test.true _).frag
 
 pub loop-number-preserved : goal.loop-number-preserved
 loop-number-preserved g c =
