@@ -1,10 +1,11 @@
 -- The pieces in stacks, one part after another.
-use Rattle.std.proofs.Common.{◌≡◌, ℕ, zero, suc, ◌<◌, List, [], ◌∷◌, ◌++◌, Some, length, slice_get, refl, sym, ◌∙◌, ap, append_assoc}
+use Rattle.std.proofs.Common.{◌≡◌, ℕ, suc, List, [], ◌∷◌, ◌++◌, refl, sym, ◌∙◌}
+use Rattle.std.proofs.Common.{ap, append_assoc}
 use Rattle.std.proofs.Common.{map}
 use Rattle.std.proofs.lemmas.List.{append-nil, map-append}
 use Rattle.flow_list.specs.Data.{FlowsData}
 use Rattle.frag_pool.specs.Nodes.{Nodes}
-use Rattle.piece_data.specs.Lowering.{CutPiece, Flags, pieces_in_stack}
+use Rattle.piece_data.specs.Lowering.{Flags, pieces_in_stack}
 use Rattle.tree_lowering.specs.Met.{one_met}
 use Rattle.row_all.specs.Parts.{ArePartsOf, met_of, pieces_of_parts}
 use Rattle.row_all.specs.Answered.{piece_of}

@@ -11,7 +11,7 @@ use Rattle.frag_pool.proofs.Stays.{stands-growing}
 use Rattle.container_layout.specs.Laid.{AreLaidAfter}
 use Rattle.piece_data.specs.Lowering.{Flags, stack_lowered}
 use Rattle.tree_lowering.specs.Lower.{laid_row}
-use Rattle.row_all.specs.Answered.{AreLoweredStacks, IsLoweredStack}
+use Rattle.row_all.specs.Answered.{AreLoweredStacks}
 use Rattle.row_all.specs.Parts.{ArePartsOf}
 use Rattle.row_all.specs.declared.engine.Part.{Part}
 use Rattle.row_all.proofs.Standing.{parts-stay}

@@ -1,20 +1,18 @@
 -- Stacks and pieces, all together.
-use Rattle.std.proofs.Common.{◌≡◌, ℕ, ◌<◌, All, List, [], ◌∷◌, ◌++◌, Some, length, map, slice_get, refl, sym, ◌∙◌, ap, subst}
+use Rattle.std.proofs.Common.{◌≡◌, ℕ, ◌<◌, List, [], ◌++◌, length, map, sym, ◌∙◌, ap, subst}
 use Rattle.std.proofs.lemmas.List.Elements.{All-weaker}
 use Rattle.flow_list.specs.Data.{FlowsData}
 use Rattle.flow_data.specs.Flows.{stack_of}
 use Rattle.flow_list.specs.Fragments.{stack_fragment}
 use Rattle.flow_list.specs.Stacks.{stack_height}
-use Rattle.flow_list.specs.declared.laid.LaidStack.{LaidStack}
-use Rattle.mc_base.specs.PlainTree.{PlainTree}
 use Rattle.mc_base.specs.declared.fragment.FragId.{FragId}
 use Rattle.frag_pool.specs.Nodes.{Nodes}
 use Rattle.frag_pool.specs.Standing.{StandsFor}
 use Rattle.piece_data.specs.Lowering.{CutPiece, Flags, columns_lowered, lowered_in, lowered_pieces, pieces_at, pieces_in}
 use Rattle.piece_data.specs.Lowering.{pieces_in_stack, stack_lowered}
 use Rattle.tree_lowering.specs.Met.{MeetsTree, all_met}
-use Rattle.row_all.specs.Answered.{AreLoweredStacks, IsLoweredStack, IsTrueLine, piece_of}
-use Rattle.row_all.specs.Parts.{AreInside, AreParts, ArePartsOf, IsBelow, IsTruePart, met_of, pieces_of_stack}
+use Rattle.row_all.specs.Answered.{piece_of}
+use Rattle.row_all.specs.Parts.{AreInside, AreParts, IsBelow, IsTruePart, met_of, pieces_of_stack}
 use Rattle.row_all.specs.declared.answer.PieceLine.{PieceLine}
 use Rattle.row_all.specs.declared.engine.Part.{Part}
 use Rattle.row_all.specs.declared.engine.Part.TheVariants.{Piece, Stack}

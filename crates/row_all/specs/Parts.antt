@@ -1,6 +1,5 @@
 -- What stands in a tree whose pieces are lowered (this project's own).
 use Rattle.std.specs.Prelude.{◌≡◌, ℕ, ◌<◌, All, List, Some, length, map, slice_get}
-use Rattle.mc_base.specs.PlainTree.{PlainTree}
 use Rattle.flow_list.specs.Data.{FlowsData}
 use Rattle.flow_data.specs.Flows.{stack_of}
 use Rattle.flow_list.specs.Fragments.{stack_fragment}

@@ -1,4 +1,4 @@
-use Rattle.std.proofs.Common.{◌≡◌, ℕ, List, [], All, ap, sym, subst, map}
+use Rattle.std.proofs.Common.{◌≡◌, ℕ, List, All, ap, sym, subst, map}
 use Rattle.mc_base.specs.PlainTree.{PlainTree}
 use Rattle.flow_list.specs.Data.{Stack}
 use Rattle.flow_list.specs.Fragments.{stack_fragment}
