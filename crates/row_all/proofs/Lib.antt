@@ -1,0 +1,5 @@
+pub mod Listing
+pub mod Results
+pub mod Stacking
+pub mod Standing
+pub mod Together
