@@ -1,0 +1,4 @@
+pub mod OneOutcome
+pub mod Turns
+pub mod ScriptTexts
+pub mod Roomy
