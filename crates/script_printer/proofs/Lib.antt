@@ -1,0 +1,3 @@
+mod OneScript
+mod Lines
+mod Readings
