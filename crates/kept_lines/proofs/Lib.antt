@@ -1,0 +1,4 @@
+pub mod Styles
+pub mod SameLines
+pub mod Kept
+pub mod Narrow

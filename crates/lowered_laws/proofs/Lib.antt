@@ -1,0 +1,5 @@
+pub mod LeastSmall
+pub mod Lines
+pub mod Made
+pub mod Printed
+pub mod Settled

@@ -1,0 +1,5 @@
+pub mod Finding
+pub mod Lowered
+pub mod Telling
+pub mod Trying
+pub mod Using
