@@ -1,3 +1,3 @@
 mod OneScript
 mod Lines
-mod Readings
+mod Loop

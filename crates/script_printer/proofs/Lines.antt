@@ -92,7 +92,7 @@ pub print_fault : (tree : Forest) (old : Asked) (before : List ℕ) (most : ℕ)
 print_fault tree old before most e is (inl none) left short = inl none
 print_fault tree old before most e is (inr (inl refused)) left short =
     inr (inl (subst (λ dom. RefusesTree dom old.sheets old.faces old.width old.height e) is refused))
-print_fault tree old before most e is (inr (inr (d, says, over, told))) left short =
+print_fault tree old before most e is (inr (inr (d, says, (over, told)))) left short =
     let size = length-append before (result_text d) in
     inr (inr (
       result_text d,
@@ -140,3 +140,13 @@ stopped_print S D step at state before e is same (inr stops) =
     inr (subst (λ s. IsStopped S D at s state e) (sym is)
     (subst (λ b. D state.tree e ⊎ ((text : List ℕ) × S state.tree text × (printed_limit < length (b ++ text)) × (e ≡ too_much)))
     same stops))
+
+-- ---- answers
+
+pub on_ok : {A E P Q : Type 0} (r : Result A E) → (P → Q) → OnOk r P → OnOk r Q
+on_ok (Ok x) go h = go h
+on_ok (Err e) go h = h
+
+pub if_err : {A E : Type 0} (P Q : E → Type 0) (r : Result A E) → ((e : E) → P e → Q e) → IfErr r P → IfErr r Q
+if_err P Q (Ok x) go h = h
+if_err P Q (Err e) go h = go e h

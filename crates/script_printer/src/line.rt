@@ -48,6 +48,7 @@ fn print(session: &mut Session, printed: &mut Text) -> Result<(), Refusal>
         IfErr result (λ e. (e ≡ refusals.NoMemory) ⊎ (Denies (setting_in session.old) tree e
         ⊎ ((text : List ℕ) × Shows (setting_in session.old) tree text
         × (printed_limit < length (printed.old ++ text)) × (e ≡ runs.too_much)))) }
+    ensures short { OnOk result (length printed.new ≤ printed_limit) }
     ensures dom { session.new.dom ≡ session.old.dom }
     ensures same { setting_in session.new ≡ setting_in session.old }
 {
