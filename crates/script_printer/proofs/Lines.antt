@@ -36,7 +36,7 @@ stays leave enough edit dom room utf8 =
 abbrev dom_as : List DomNode → Dom
 dom_as nodes = record { nodes = nodes; construct = None }
 
-same_document : (dom : Dom) (tree : Forest) → dom.nodes ≡ nodes_from None 0 tree → dom.construct ≡ None → dom ≡ document_of tree
+pub same_document : (dom : Dom) (tree : Forest) → dom.nodes ≡ nodes_from None 0 tree → dom.construct ≡ None → dom ≡ document_of tree
 same_document dom tree nodes none =
     ap (λ (o : _). record { nodes = dom.nodes; construct = o }) none ∙ ap dom_as nodes
 
