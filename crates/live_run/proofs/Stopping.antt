@@ -1,5 +1,5 @@
 -- What a session comes to, by what was read and what came of it.
-use Rattle.std.proofs.Common.{◌≡◌, ◌≢◌, ◌⊎◌, inl, inr, ℕ, ◌<◌, ◌≤◌, List, [], length, Option, None, Some, refl, sym, ◌∙◌, arith}
+use Rattle.std.proofs.Common.{◌≡◌, ◌≢◌, ◌⊎◌, inl, inr, ℕ, ◌≤◌, List, [], Option, None, Some, refl, sym, ◌∙◌, arith}
 use Rattle.std.specs.Prelude.{IfSome}
 use Rattle.mc_base.specs.declared.refusal.Input.TheVariants.{Document, Sheet, Metrics, Flow, Result, Script}
 use Rattle.mc_base.specs.declared.refusal.Input.{Input}
@@ -7,7 +7,7 @@ use Rattle.mc_base.specs.declared.refusal.Refusal.{Refusal}
 use Rattle.mc_base.specs.declared.refusal.Refusal.TheVariants.{NoMemory}
 use Rattle.mc_run.specs.declared.stop.Stop.{Stop}
 use Rattle.mc_run.specs.declared.stop.Stop.TheVariants.{Usage, Read, Write, Refused}
-use Rattle.mc_run.specs.Inputs.{Contents, NamedInput, AreHeld, IsTooLong, HasFault, OnlyThese, named_texts, byte_limit}
+use Rattle.mc_run.specs.Inputs.{Contents, NamedInput, IsTooLong, HasFault, OnlyThese, named_texts, byte_limit}
 use Rattle.mc_run.specs.Reading.{IsReadCause, IsReadingCause, IsContent}
 use Rattle.mc_run.proofs.Reading.{long_bytes, cause_along, content_along}
 use Rattle.mc_words.specs.Words.{Session}
@@ -45,14 +45,14 @@ fault_among s before between now input later (inr (inl h)) =
     let rose = h.1 in let low = later s.page.sheet in inr (inl (h.0, omega (arith, rose, low)))
 fault_among s before between now input later (inr (inr (inl h))) =
     let rose = h.1 in let low = later s.page.metrics in inr (inr (inl (h.0, omega (arith, rose, low))))
-fault_among s before between now input later (inr (inr (inr no))) = absurd no
+fault_among s before between now input later (inr (inr (inr never))) = absurd never
 
 long_among : (s : Session) (c : Contents) (script : List ℕ) (refusal : Refusal) → IsTooLong c (first_three s) refusal
     → IsTooLong (four (c Document) (c Sheet) (c Metrics) script) (reads s) refusal
 long_among s c script refusal (inl h) = inl h
 long_among s c script refusal (inr (one, inl h)) = inr (one, inl h)
 long_among s c script refusal (inr (one, inr (two, inl h))) = inr (one, inr (two, inl h))
-long_among s c script refusal (inr (one, inr (two, inr (three, no)))) = absurd no
+long_among s c script refusal (inr (one, inr (two, inr (three, never)))) = absurd never
 
 -- one of the first three
 pub page_unread : (s : Session) (held : List ℕ → Option (List ℕ)) (before now : List ℕ → ℕ) (stop : Stop)

@@ -15,6 +15,7 @@ ghost use Rattle.mc_base.specs.declared.refusal.Refusal.{Refusal as AnyRefusal};
 ghost use Rattle.mc_base.specs.declared.refusal.Refusal.TheVariants.{Grammar, Construct, Limit};
 ghost use Rattle.mc_base.specs.declared.refusal.Rule.{Rule};
 ghost use Rattle.mc_run.specs.declared.stop.Stop.{Stop as AnyStop};
+ghost use Rattle.mc_run.specs.declared.stop.Stop.TheVariants as stops;
 ghost use Rattle.mc_run.specs.Inputs.{HasFault, AreRead, OnlyThese};
 ghost use Rattle.mc_run.specs.Stops.{refusal_status, status_of};
 ghost use Rattle.mc_run.specs.Told.{Tells};
@@ -56,7 +57,7 @@ pub fn live<F: Files, K: Sink, E: Sink>(
 
     // Words that aren't taken come to 1 and the usage line, and no input is read.
     ensures usage { session_of (map string_bytes words.now) ≡ None → (result ≡ 1) ×
-        Tells (E.written err.old) (E.written err.new) (E.faults err.old) (E.faults err.new) (session_line Stop.Usage) }
+        Tells (E.written err.old) (E.written err.new) (E.faults err.old) (E.faults err.new) (session_line stops.Usage) }
 
     // With 2 the count of faults of an input rose, with 3 that of the sink, which got a first part of what is printed.
     ensures read { result ≡ 2 → (input : Input) ×
@@ -86,7 +87,7 @@ pub fn live<F: Files, K: Sink, E: Sink>(
     ensures refused { (refusal : AnyRefusal) → RefusesTold (session_of (map string_bytes words.now)) (F.held files.old) refusal →
         AreRead (F.faults files.old) (F.faults files.new) (inputs_of (session_of (map string_bytes words.now))) → result ≢ 7 →
         (result ≡ refusal_status refusal) ×
-        Tells (E.written err.old) (E.written err.new) (E.faults err.old) (E.faults err.new) (session_line (Stop.Refused refusal)) }
+        Tells (E.written err.old) (E.written err.new) (E.faults err.old) (E.faults err.new) (session_line (stops.Refused refusal)) }
 
     // Where the session stopped before all was put, the sink is as before.
     ensures untouched { result ≢ 0 → result ≢ 3 → out.new ≡ out.old }

@@ -7,22 +7,21 @@ use Rattle.mc_base.specs.declared.refusal.Refusal.TheVariants as refusals
 use Rattle.html_grammar.specs.declared.dom.Dom.{Dom}
 use Rattle.html_grammar.specs.declared.dom.DomNode.{DomNode}
 use Rattle.html_grammar.specs.Tree.{Forest, nodes_from}
-use Rattle.html_subset.specs.WellFormed.{IsWellFormed}
 use Rattle.edit_script.specs.declared.script.Edit.{Edit}
 use Rattle.edit_script.specs.declared.script.EditFault.{EditFault}
 use Rattle.edit_script.specs.declared.script.EditFault.TheVariants as faults
 use Rattle.edit_script.specs.declared.script.Step.{Step}
 use Rattle.edit_script.specs.declared.script.Step.TheVariants as steps
 use Rattle.edit_script.specs.Edited.{edited}
-use Rattle.dom_edits.specs.Done.{Answers, IsDone}
-use Rattle.dom_edits.specs.Sizes.{added_bytes, rest_of, GrowsBy, HasRoom}
+use Rattle.dom_edits.specs.Done.{IsDone}
+use Rattle.dom_edits.specs.Sizes.{added_bytes, rest_of}
 use Rattle.doc_flows.specs.Trees.{TreeSays, RefusesTree}
 use Rattle.result_writer.specs.Printed.{result_text}
 use Rattle.mc_session.specs.Session.{Asked, HasSame, HasSameDocument, IsPrinted, IsDenied, StaysFormed}
 use Rattle.mc_session.specs.Laws.{RoomIsEnough}
 use Rattle.script_runs.specs.Room.{HasRoomFor, EditsLeaveRoom}
 use Rattle.script_runs.specs.Runs.{State, Does, IsStopped, printed_limit, edit_refusal, too_much}
-use Rattle.script_printer.specs.Shown.{Setting, Shows, Denies, document_of}
+use Rattle.script_printer.specs.Shown.{Shows, Denies, document_of}
 use Rattle.script_printer.specs.Parts.{Stands, setting_in}
 
 -- ---- an edit
@@ -69,12 +68,11 @@ setting_stays old new same = rw (same.sheets, same.faces, same.width, same.heigh
 
 shown : (tree : Forest) (old : Asked) (text : List ℕ) (most : ℕ) → old.dom ≡ document_of tree → IsPrinted old most text
     → Shows (setting_in old) tree text
-shown tree old text most is printed =
-    (
-      printed.0,
-      subst (λ dom. TreeSays dom old.sheets old.faces old.width old.height printed.0) is printed.1,
-      printed.2,
-    )
+shown tree old text most is printed = (
+  printed.0,
+  subst (λ dom. TreeSays dom old.sheets old.faces old.width old.height printed.0) is printed.1,
+  printed.2,
+)
 
 pub print_done : (tree : Forest) (old : Asked) (before text now : List ℕ) (most : ℕ) → old.dom ≡ document_of tree
     → IsPrinted old most text → most ≡ printed_limit - length before → length before ≤ printed_limit → now ≡ before ++ text
@@ -116,8 +114,7 @@ pub after_print : (S : Forest → List ℕ → Type 0) (step : Step) (state : St
     → (text : List ℕ) × S state.tree text × (now ≡ before ++ text) × (length now ≤ printed_limit)
     → (next : State) × Does S step state next × Stands new now next
 after_print S step state old new before now is dom kept same (text, shows, added, short) =
-    let left : State = record { tree = state.tree; printed = now } in
-    (
+    let left : State = record { tree = state.tree; printed = now } in (
       left,
       subst (λ s. Does S s state left) (sym is) (text, shows, refl, added ∙ ap (λ t. t ++ text) same, short),
       record { dom = kept ∙ dom; printed_is = refl },

@@ -1,7 +1,7 @@
 -- A script has one answer: the trees that its prints show have one, and so have its lines.
 use Rattle.std.proofs.Common.{◌≡◌, ℕ, List, Option, Result, Ok, Err, sym, ap, subst, ◌∙◌}
 use Rattle.mc_base.specs.declared.refusal.Refusal.{Refusal}
-use Rattle.html_grammar.specs.Tree.{Forest, nodes_from}
+use Rattle.html_grammar.specs.Tree.{Forest}
 use Rattle.html_grammar.proofs.NodeOrder.{one_tree_of_nodes}
 use Rattle.edit_script.specs.declared.script.ScriptLine.{ScriptLine}
 use Rattle.edit_script.specs.Script.{script_of}

@@ -19,8 +19,8 @@ use Rattle.doc_flows.specs.Reading.{Read, read_of, unless, construct_in, with_fa
 use Rattle.doc_flows.specs.Parts.{read_as}
 use Rattle.mc_session.specs.Session.{Asked}
 use Rattle.script_runs.specs.Runs.{Stops, begun}
-use Rattle.script_printer.specs.Shown.{Setting, Shows, Denies, document_of}
-use Rattle.script_printer.specs.Answers.{setting_of, RefusesReading, running, RefusesScript, printing}
+use Rattle.script_printer.specs.Shown.{Shows, Denies, document_of}
+use Rattle.script_printer.specs.Answers.{RefusesReading, running, RefusesScript, printing}
 use Rattle.script_printer.specs.Parts.{setting_in}
 use Rattle.script_printer.proofs.Lines.{if_err, same_document}
 

@@ -1,7 +1,7 @@
 -- What the functions of this crate answer of one line.
-use Rattle.std.specs.Prelude.{◌≡◌, ◌≤◌, ℕ, List, length}
+use Rattle.std.specs.Prelude.{◌≡◌, ℕ, List}
 use Rattle.mc_session.specs.Session.{Asked}
-use Rattle.script_runs.specs.Runs.{State, printed_limit}
+use Rattle.script_runs.specs.Runs.{State}
 use Rattle.script_printer.specs.Shown.{Setting, document_of}
 
 abbrev pub setting_in : Asked → Setting

@@ -62,11 +62,7 @@ fn print(session: &mut Session, printed: &mut Text) -> Result<(), Refusal>
 }
 
 /// Runs a line: an edit changes the session's document, and a print adds to what was printed.
-pub fn run_line(
-    session: &mut Session,
-    printed: &mut Text,
-    line: &ScriptLine,
-) -> Result<(), Refusal>
+pub fn run_line(session: &mut Session, printed: &mut Text, line: &ScriptLine) -> Result<(), Refusal>
     requires room { HasRoomFor (line_bytes line.now) session.old.dom }
     requires utf8 { LineIsUtf8 line.now }
     requires short { length printed.old ≤ printed_limit }

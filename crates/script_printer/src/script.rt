@@ -50,12 +50,12 @@ fn session_of(
     requires read { AllAreRead reading.dom.nodes }
     requires wide { width < 2 ^ 60 }
     ensures { IfOk result (λ session. session ≡ record {
-        dom = reading.dom;
-        sheets = reading.author ∷ reading.own.sheets;
-        faces = reading.fonts;
-        width = width;
-        height = height;
-        broken = 0;
+      dom = reading.dom;
+      sheets = reading.author ∷ reading.own.sheets;
+      faces = reading.fonts;
+      width = width;
+      height = height;
+      broken = 0;
     }) }
 {
     let Reading {

@@ -1,5 +1,5 @@
 -- What the session answers of the document as it is then.
-use Rattle.std.proofs.Common.{◌-◌, ap, ◌∙◌}
+use Rattle.std.proofs.Common.{◌-◌, ap}
 use Rattle.script_runs.specs.Runs.{printed_limit}
 use Rattle.script_printer.proofs.Lines.{print_fault}
 use Rattle.script_printer.proofs.line.print.Goals as goal
