@@ -95,7 +95,8 @@ no_fault before now (i ∷ inputs) input (inl here) read = let rose = here.1 in 
 no_fault before now (i ∷ inputs) input (inr later) read = no_fault before now inputs input later read.1
 
 -- nothing but out of memory stops a session whose inputs are accepted, where no count rose
-pub complete : OneScriptAnswer → (session : Option Session) (held : List ℕ → Option (List ℕ)) (before now : List ℕ → ℕ) (ob on : ℕ)
+pub complete : OneScriptAnswer → (session : Option Session) (held : List ℕ → Option (List ℕ)) (before now : List ℕ → ℕ)
+    (ob on : ℕ)
     (stop : Stop) → IsCause session held before now ob on stop → Accepts session held → AreRead before now (inputs_of session)
     → (HasRisen ob on → ⊥) → status_of stop ≢ 7 → ⊥
 complete law session held before now ob on Usage cause accepts read calm memory = subst (λ c. Accepts c held) cause accepts
@@ -107,7 +108,8 @@ complete law session held before now ob on (Refused refusal) cause accepts read 
     (full session held refusal (λ none. memory (ap refusal_status none)) cause)
 
 -- a session that is refused and whose inputs were read stops for that reason
-pub stops_for : OneScriptAnswer → (session : Option Session) (held : List ℕ → Option (List ℕ)) (before now : List ℕ → ℕ) (ob on : ℕ)
+pub stops_for : OneScriptAnswer → (session : Option Session) (held : List ℕ → Option (List ℕ)) (before now : List ℕ → ℕ)
+    (ob on : ℕ)
     (stop : Stop) (b : Refusal)
     → IsCause session held before now ob on stop → (stop ≡ Write → (text : List ℕ) × Gives session held text)
     → RefusesTold session held b → AreRead before now (inputs_of session) → status_of stop ≢ 7 → stop ≡ Refused b

@@ -1,6 +1,7 @@
 //! What the words ask for, and all that is printed.
 
-ghost use Rattle.std.specs.Prelude.{◌≡◌, ◌≢◌, ◌<◌, ◌≤◌, ◌^◌, ◌⊎◌, ℕ, List, length, map, None, Some, IfOk, IfErr, OnOk, string_bytes};
+ghost use Rattle.std.specs.Prelude.{◌≡◌, ◌≢◌, ◌<◌, ◌≤◌, ◌^◌, ◌⊎◌, ℕ, List, length, map, None, Some, IfOk, IfErr, OnOk};
+ghost use Rattle.std.specs.Prelude.{string_bytes};
 ghost use Rattle.mc_base.specs.declared.refusal.Refusal.TheVariants.{NoMemory};
 ghost use Rattle.mc_run.specs.Inputs.{OnlyThese};
 ghost use Rattle.mc_words.specs.Asked.{session_asked};

@@ -28,12 +28,12 @@ pub fn read_session<F: Files>(
 ) -> Result<SessionTexts, Stop>
     ensures content { (other : List ℕ) → F.held files.new other ≡ F.held files.old other }
     ensures others { OnlyThese (F.faults files.old) (F.faults files.new) (reads (session_asked session.entry)) }
-    ensures document { IfOk result (λ texts. IsContent (record { input = inputs.Document; name = session.entry.page.document.now })
-        (F.held files.old) texts.page.document.items) }
-    ensures sheet { IfOk result (λ texts. IsContent (record { input = inputs.Sheet; name = session.entry.page.sheet.now })
-        (F.held files.old) texts.page.sheet.items) }
-    ensures metrics { IfOk result (λ texts. IsContent (record { input = inputs.Metrics; name = session.entry.page.metrics.now })
-        (F.held files.old) texts.page.metrics.items) }
+    ensures document { IfOk result (λ texts. IsContent
+        (record { input = inputs.Document; name = session.entry.page.document.now }) (F.held files.old) texts.page.document.items) }
+    ensures sheet { IfOk result (λ texts. IsContent
+        (record { input = inputs.Sheet; name = session.entry.page.sheet.now }) (F.held files.old) texts.page.sheet.items) }
+    ensures metrics { IfOk result (λ texts. IsContent
+        (record { input = inputs.Metrics; name = session.entry.page.metrics.now }) (F.held files.old) texts.page.metrics.items) }
     ensures script { IfOk result (λ texts. IsContent (record { input = inputs.Script; name = session.entry.script.now })
         (F.held files.old) texts.script.items) }
     ensures err { IfErr result (IsCause (Some (session_asked session.entry)) (F.held files.old)

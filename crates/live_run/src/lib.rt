@@ -37,10 +37,10 @@ use told::tell_session;
 /// Runs the session that the words after the program's name ask for: the names of a document, a style sheet and a table of
 /// metrics, a width, an available height, and the name of a script of edits. It answers the exit status.
 ///
-/// `files` are read by name; all that the script prints is put to `out` in one call after its last line has run, and the line of a
-/// refusal to `err`, whose faults change nothing. The status is 0 where every line of the script has run and all was put, 1 where
-/// the words aren't taken, 2 after a read fault, 3 after a write fault, 4 where an input is off its grammar or an edit isn't done,
-/// 5 where there is a construct that isn't laid out, 6 where a limit is passed and 7 when out of memory.
+/// `files` are read by name; all that the script prints is put to `out` in one call after its last line has run, and the line of
+/// a refusal to `err`, whose faults change nothing. The status is 0 where every line of the script has run and all was put, 1
+/// where the words aren't taken, 2 after a read fault, 3 after a write fault, 4 where an input is off its grammar or an edit
+/// isn't done, 5 where there is a construct that isn't laid out, 6 where a limit is passed and 7 when out of memory.
 pub fn live<F: Files, K: Sink, E: Sink>(
     alloc: Global,
     words: &[String],
@@ -87,7 +87,8 @@ pub fn live<F: Files, K: Sink, E: Sink>(
     ensures refused { (refusal : AnyRefusal) → RefusesTold (session_of (map string_bytes words.now)) (F.held files.old) refusal →
         AreRead (F.faults files.old) (F.faults files.new) (inputs_of (session_of (map string_bytes words.now))) → result ≢ 7 →
         (result ≡ refusal_status refusal) ×
-        Tells (E.written err.old) (E.written err.new) (E.faults err.old) (E.faults err.new) (session_line (stops.Refused refusal)) }
+        Tells (E.written err.old) (E.written err.new) (E.faults err.old) (E.faults err.new)
+        (session_line (stops.Refused refusal)) }
 
     // Where the session stopped before all was put, the sink is as before.
     ensures untouched { result ≢ 0 → result ≢ 3 → out.new ≡ out.old }

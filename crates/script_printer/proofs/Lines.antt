@@ -1,5 +1,6 @@
 -- What one line of a script does to a session, by what the session answers.
-use Rattle.std.proofs.Common.{◌≡◌, ◌⊎◌, inl, inr, ℕ, ◌+◌, ◌-◌, ◌<◌, ◌≤◌, List, ◌++◌, length, Result, Ok, Err, IfErr, OnOk, refl, sym, ap, ◌∙◌}
+use Rattle.std.proofs.Common.{◌≡◌, ◌⊎◌, inl, inr, ℕ, ◌+◌, ◌-◌, ◌<◌, ◌≤◌, List, ◌++◌, length, Result, Ok, Err, IfErr, OnOk}
+use Rattle.std.proofs.Common.{refl, sym, ap, ◌∙◌}
 use Rattle.std.proofs.Common.{subst, arith, None, length-append}
 use Rattle.std.specs.Prelude.{IsUtf8}
 use Rattle.mc_base.specs.declared.refusal.Refusal.{Refusal}
@@ -35,7 +36,8 @@ stays leave enough edit dom room utf8 =
 abbrev dom_as : List DomNode → Dom
 dom_as nodes = record { nodes = nodes; construct = None }
 
-pub same_document : (dom : Dom) (tree : Forest) → dom.nodes ≡ nodes_from None 0 tree → dom.construct ≡ None → dom ≡ document_of tree
+pub same_document : (dom : Dom) (tree : Forest) → dom.nodes ≡ nodes_from None 0 tree → dom.construct ≡ None
+    → dom ≡ document_of tree
 same_document dom tree nodes none =
     ap (λ (o : _). record { nodes = dom.nodes; construct = o }) none ∙ ap dom_as nodes
 

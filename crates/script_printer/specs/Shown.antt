@@ -26,7 +26,8 @@ Shows setting tree text =
     (d : FlowsData) × TreeSays (document_of tree) setting.sheets setting.faces setting.width setting.height d
     × (text ≡ result_text d)
 
--- a tree has no result for this reason: the first construct at an element that makes a box, or the first limit that its flows pass
+-- a tree has no result for this reason: the first construct at an element that makes a box, or the first limit that its flows
+-- pass
 abbrev pub Denies : Setting → Forest → Refusal → Type 0
 Denies setting tree refusal =
     RefusesTree (document_of tree) setting.sheets setting.faces setting.width setting.height refusal
