@@ -29,7 +29,8 @@ pub fn read_session<F: Files>(
     ensures content { (other : List ℕ) → F.held files.new other ≡ F.held files.old other }
     ensures others { OnlyThese (F.faults files.old) (F.faults files.new) (reads (session_asked session.entry)) }
     ensures document { IfOk result (λ texts. IsContent
-        (record { input = inputs.Document; name = session.entry.page.document.now }) (F.held files.old) texts.page.document.items) }
+        (record { input = inputs.Document; name = session.entry.page.document.now }) (F.held files.old)
+        texts.page.document.items) }
     ensures sheet { IfOk result (λ texts. IsContent
         (record { input = inputs.Sheet; name = session.entry.page.sheet.now }) (F.held files.old) texts.page.sheet.items) }
     ensures metrics { IfOk result (λ texts. IsContent

@@ -101,8 +101,8 @@ fn print_reading(
 /// The document and the script have at most 2^26 bytes each, the sheet and the metrics at most 2^28, and the width is below 2^60.
 /// The first of these steps that refuses decides: those of `doc_flows::read`, by `Grammar`, `Limit` or `Construct`; the script,
 /// by `Grammar`, l1 before l2 and l3; then its lines in order. An edit is refused by `Grammar`, l4 where no element has its id
-/// and l5 where it isn't allowed there; a print by `Construct` or `Limit` for the document as it is then, and by `Limit` where all that
-/// is printed has more than 2^28 bytes. Out of memory may be answered for every script.
+/// and l5 where it isn't allowed there; a print by `Construct` or `Limit` for the document as it is then, and by `Limit` where
+/// all that is printed has more than 2^28 bytes. Out of memory may be answered for every script.
 pub fn print_script(
     alloc: Global,
     document: &[u8],
