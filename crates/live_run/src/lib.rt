@@ -26,6 +26,8 @@ ghost use Rattle.live_run.specs.Told.{session_line};
 
 mod answer;
 mod inputs;
+#[cfg(test)]
+mod tests;
 mod told;
 
 use mc_base::{Files, Sink};
