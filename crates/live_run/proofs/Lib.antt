@@ -1,0 +1,4 @@
+mod Agree
+mod Causes
+mod OneReason
+mod Stopping

@@ -1,0 +1,4 @@
+mod OneScript
+mod Lines
+mod Loop
+mod Readings
