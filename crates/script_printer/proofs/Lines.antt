@@ -18,7 +18,9 @@ use Rattle.dom_edits.specs.Done.{IsDone}
 use Rattle.dom_edits.specs.Sizes.{added_bytes, rest_of}
 use Rattle.doc_flows.specs.Trees.{TreeSays, RefusesTree}
 use Rattle.result_writer.specs.Printed.{result_text}
-use Rattle.mc_session.specs.Session.{Asked, HasSame, HasSameDocument, IsPrinted, IsDenied, StaysFormed}
+use Rattle.mc_session.specs.Edits.{StaysFormed}
+use Rattle.mc_session.specs.Printed.{IsPrinted, IsDenied}
+use Rattle.mc_session.specs.Session.{Asked, HasSame, HasSameDocument}
 use Rattle.mc_session.specs.Laws.{RoomIsEnough}
 use Rattle.script_runs.specs.Room.{HasRoomFor, EditsLeaveRoom}
 use Rattle.script_runs.specs.Runs.{State, Does, IsStopped, printed_limit, edit_refusal, too_much}
@@ -149,3 +151,21 @@ on_ok (Err e) go h = h
 pub if_err : {A E : Type 0} (P Q : E → Type 0) (r : Result A E) → ((e : E) → P e → Q e) → IfErr r P → IfErr r Q
 if_err P Q (Ok x) go h = h
 if_err P Q (Err e) go h = go e h
+
+-- ---- answers of a line
+
+pub edit_stops : {A : Type 0} (S : Forest → List ℕ → Type 0) (D : Forest → Refusal → Type 0) (edit : Edit) (step : Step) (at : ℕ)
+    (state : State) (r : Result A Refusal) → step ≡ steps.Change edit
+    → IfErr r (λ e. (e ≡ refusals.NoMemory)
+    ⊎ ((f : EditFault) × (edited edit state.tree ≡ Err f) × (e ≡ edit_refusal at f)))
+    → IfErr r (λ e. (e ≡ refusals.NoMemory) ⊎ IsStopped S D at step state e)
+edit_stops S D edit step at state (Ok x) is why = tt
+edit_stops S D edit step at state (Err e) is why = stopped_edit S D edit step at state e is why
+
+pub print_stops : {A : Type 0} (S : Forest → List ℕ → Type 0) (D : Forest → Refusal → Type 0) (step : Step) (at : ℕ)
+    (state : State) (before : List ℕ) (r : Result A Refusal) → step ≡ steps.Print → before ≡ state.printed
+    → IfErr r (λ e. (e ≡ refusals.NoMemory) ⊎ (D state.tree e
+    ⊎ ((text : List ℕ) × S state.tree text × (printed_limit < length (before ++ text)) × (e ≡ too_much))))
+    → IfErr r (λ e. (e ≡ refusals.NoMemory) ⊎ IsStopped S D at step state e)
+print_stops S D step at state before (Ok x) is same why = tt
+print_stops S D step at state before (Err e) is same why = stopped_print S D step at state before e is same why

@@ -2,7 +2,7 @@
 use Rattle.std.proofs.Common.{◌≡◌, ℕ, ◌+◌, ◌<◌, ◌≤◌, List, ◌++◌, length, take, drop, get_or, sym, ap, ◌∙◌, subst, arith}
 use Rattle.std.proofs.Common.{◌⊎◌, inl, inr}
 use Rattle.std.specs.Prelude.{sum_by}
-use Rattle.std.proofs.lemmas.List.{drop_more, take-append-drop, take_more}
+use Rattle.std.proofs.lemmas.List.{drop_more, take-append-drop, take_all, take_more}
 use Rattle.std.proofs.lemmas.List.Sums.{sum_by-cons}
 use Rattle.mc_base.specs.declared.refusal.Refusal.{Refusal}
 use Rattle.mc_base.specs.declared.refusal.Refusal.TheVariants.{NoMemory}
@@ -11,7 +11,7 @@ use Rattle.html_grammar.specs.Tree.{Forest}
 use Rattle.edit_script.specs.declared.script.ScriptLine.{ScriptLine}
 use Rattle.script_runs.specs.Room.{HasRoomFor, line_bytes}
 use Rattle.mc_session.specs.Session.{Asked}
-use Rattle.script_runs.specs.Runs.{State, Does, IsStopped, Runs, Stops, begun}
+use Rattle.script_runs.specs.Runs.{State, Does, IsStopped, Runs, Stops, Prints, begun}
 use Rattle.script_runs.proofs.Turns.{runs_more, stops_at}
 use Rattle.script_printer.specs.Shown.{Setting, Shows, Denies}
 use Rattle.script_printer.specs.Parts.{Stands}
@@ -94,3 +94,13 @@ pub room_left : (lines : List ScriptLine) (i : ℕ) (d line : ScriptLine) (dom :
 room_left lines i d line dom within is room =
     subst (λ n. HasRoomFor n dom)
     (left_sum lines i d within ∙ ap (λ (l : ScriptLine). line_bytes l + sum_by line_bytes (drop (i + 1) lines)) (sym is)) room
+
+-- all lines ran
+pub all_ran : (with : Setting) (lines : List ScriptLine) (i : ℕ) (tree : Forest) (asked : Asked) (printed : List ℕ)
+    → length lines ≤ i → LeftOff with (take i lines) tree asked printed → Prints (Shows with) lines tree printed
+all_ran with lines i tree asked printed past left =
+    (
+      left.0,
+      subst (λ ls. Runs (Shows with) ls (begun tree) left.0) (take_all i lines past) left.1,
+      left.2.printed_is,
+    )

@@ -2,7 +2,7 @@
 use Rattle.std.proofs.Common.{◌∙◌}
 use Rattle.std.proofs.lemmas.Result.{err_from_is_err_and}
 use Rattle.script_printer.specs.Parts.{setting_in}
-use Rattle.script_printer.proofs.Loop.{goes_on, stops, room_left}
+use Rattle.script_printer.proofs.Loop.{all_ran, goes_on, stops, room_left}
 use Rattle.script_printer.proofs.script.run_lines.Goals as goal
 
 pub returns-in_err-run_line-clause-refused : goal.returns-in_err-run_line-clause-refused
@@ -24,3 +24,8 @@ loop-line-preserved c = record {
       c.line-item.is c.loop-line.invariant.room);
   short = c.in_ok-run_line.ensures.short;
 }
+
+pub returns-clause-text : goal.returns-clause-text
+returns-clause-text c = λ tree is.
+    all_ran (setting_in c.args.session) c.args.lines.now c.loop-line.line-index tree c.loop-line.session c.loop-line.printed
+    c.loop-line-test.false (c.loop-line.invariant.ran tree is)
