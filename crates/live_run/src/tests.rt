@@ -22,7 +22,8 @@ const NEVER: u64 = 0;
 const WORDS: &str = "document sheet metrics 176 auto script";
 
 /// Two columns of a paragraph `x`, a float `y` that isn't laid out, and a paragraph `x` after them.
-const DOCUMENT: &[u8] = b"<body style=\"margin:0;line-height:20px\"><div style=\"column-count:2;column-gap:16px\">\
+const DOCUMENT: &[u8] =
+    b"<body style=\"margin:0;line-height:20px\"><div style=\"column-count:2;column-gap:16px\">\
 <p id=\"x\" style=\"margin:0\">aaaa bbbb cccc dddd eeee ffff gggg hhhh</div><p id=\"y\" style=\"float:left\">a<p id=\"x\">b";
 
 const METRICS: &[u8] = b"metrics 1\nface serif 400 normal 800 200 500\n";
@@ -90,9 +91,27 @@ fn nothing_is_put_where_a_script_is_refused(rt: HostRuntime) -> Result<(), Fail>
         &[
             (b"print\n", NEVER, 5, 0, b"construct: document 156 float\n"),
             (b"remove y\nprint", NEVER, 4, 0, b"grammar: script 9 l2\n"),
-            (b"remove y\nprint \n", NEVER, 4, 0, b"grammar: script 9 l3\n"),
-            (b"remove y\nprint\nremove z\n", NEVER, 4, 0, b"grammar: script 15 l4\n"),
-            (b"remove y\nprint\nremove y\n", NEVER, 4, 0, b"grammar: script 15 l4\n"),
+            (
+                b"remove y\nprint \n",
+                NEVER,
+                4,
+                0,
+                b"grammar: script 9 l3\n",
+            ),
+            (
+                b"remove y\nprint\nremove z\n",
+                NEVER,
+                4,
+                0,
+                b"grammar: script 15 l4\n",
+            ),
+            (
+                b"remove y\nprint\nremove y\n",
+                NEVER,
+                4,
+                0,
+                b"grammar: script 15 l4\n",
+            ),
             (b"print \xFF\n", NEVER, 4, 0, b"grammar: script 6 l1\n"),
             (b"remove y\nprint\n", 4, 2, 0, b"read: script\n"),
         ],
@@ -106,16 +125,31 @@ fn a_script_without_prints_puts_nothing(rt: HostRuntime) -> Result<(), Fail> {
         rt.alloc(),
         &[
             (b"", NEVER, 0, 0, b""),
-            (b"text x \nclass x a b\nremove x\nremove x\n", NEVER, 0, 0, b""),
+            (
+                b"text x \nclass x a b\nremove x\nremove x\n",
+                NEVER,
+                0,
+                0,
+                b"",
+            ),
         ],
     )
 }
 
 #[test]
 fn what_is_taken_out_refuses_no_print(rt: HostRuntime) -> Result<(), Fail> {
-    let seen = run_words(rt.alloc(), WORDS, b"remove y\nprint\nremove x\nprint\n", NEVER)?;
+    let seen = run_words(
+        rt.alloc(),
+        WORDS,
+        b"remove y\nprint\nremove x\nprint\n",
+        NEVER,
+    )?;
     assert_eq!(rt; seen.status, 0);
-    assert!(rt; seen.out.bytes().starts_with(b"mcol 2\n0 stack 0 0 0 11264 "));
+    assert!(rt;
+        seen.out
+            .bytes()
+            .starts_with(b"mcol 2\n0 stack 0 0 0 11264 ")
+    );
     assert!(rt; seen.err.bytes().is_empty());
     Ok(())
 }
@@ -124,6 +158,9 @@ fn what_is_taken_out_refuses_no_print(rt: HostRuntime) -> Result<(), Fail> {
 fn words_are_six(rt: HostRuntime) -> Result<(), Fail> {
     let seen = run_words(rt.alloc(), "document sheet metrics 176 auto", b"", NEVER)?;
     assert_eq!(rt; seen.status, 1);
-    assert_eq!(rt; seen.err.bytes(), b"usage: mcol_live DOC SHEET METRICS WIDTH HEIGHT SCRIPT\n".as_slice());
+    assert_eq!(rt;
+        seen.err.bytes(),
+        b"usage: mcol_live DOC SHEET METRICS WIDTH HEIGHT SCRIPT\n".as_slice()
+    );
     Ok(())
 }

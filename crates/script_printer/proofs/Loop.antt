@@ -98,9 +98,8 @@ room_left lines i d line dom within is room =
 -- all lines ran
 pub all_ran : (with : Setting) (lines : List ScriptLine) (i : ℕ) (tree : Forest) (asked : Asked) (printed : List ℕ)
     → length lines ≤ i → LeftOff with (take i lines) tree asked printed → Prints (Shows with) lines tree printed
-all_ran with lines i tree asked printed past left =
-    (
-      left.0,
-      subst (λ ls. Runs (Shows with) ls (begun tree) left.0) (take_all i lines past) left.1,
-      left.2.printed_is,
-    )
+all_ran with lines i tree asked printed past left = (
+  left.0,
+  subst (λ ls. Runs (Shows with) ls (begun tree) left.0) (take_all i lines past) left.1,
+  left.2.printed_is,
+)
