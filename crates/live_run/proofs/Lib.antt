@@ -1,4 +1,0 @@
-mod Agree
-mod Causes
-mod OneReason
-mod Stopping

@@ -1,4 +1,0 @@
-mod OneScript
-mod Lines
-mod Loop
-mod Readings
